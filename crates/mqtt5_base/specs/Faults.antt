@@ -1,0 +1,115 @@
+-- The first fault of bytes that don't stand for values: that of the first field or judgement that can't hold.
+use Rattle.std.specs.Prelude.{◌≡◌, ℕ, ◌<◌, ◌≤◌, Bool, true, false, List, [], ◌∷◌, ◌++◌, length, Option, Some, None, ◌⊎◌}
+use Rattle.std.specs.Int.{Width, w8, w16, w32, byte_len}
+use Rattle.std.specs.Str.{is_utf8}
+use Rattle.mqtt5_base.specs.declared.error.Error.{Error}
+use Rattle.mqtt5_base.specs.declared.error.Error.TheVariants.{MalformedPacket, MalformedRemainingLength, BoundaryCrossed, TopicNotUtf8, InvalidPropertyType}
+use Rattle.mqtt5_base.specs.VarInt.{VarInt}
+use Rattle.mqtt5_base.specs.Grammar.{Kind, u8, u16, u32, varint, bytes, text, pair, Atom, Entry, Found, allows, kinds, kind_among, number_of, passes, fault_of, Value, plain, Field, one, checked, block, remainder, Step, field, raw, note, judge, more, Part, choice, filled, each, Row, Group, Known, under, with_value, with_raw, cut_in, holds}
+use Rattle.mqtt5_base.specs.Fields.{Takes, IsNumber, IsContent, IsText, IsKind, IsProperty, TakesField, Fields, Kept, number_at_place, repeated, IsPart}
+
+-- ---- one value
+
+-- a number cut short
+abbrev pub NumberFault : Width → List ℕ → Error → Type 0
+NumberFault w bs e = (length bs < byte_len w) × (e ≡ MalformedPacket)
+
+-- each byte says that another follows
+abbrev pub GoOn : List ℕ → Type 0
+GoOn [] = Unit {0}
+GoOn (b ∷ bs) = (128 ≤ b) × GoOn bs
+
+-- a variable byte integer cut short, or of more than four bytes
+abbrev pub VarIntFault : List ℕ → Error → Type 0
+VarIntFault bs e =
+    ((length bs < 4) × GoOn bs × (e ≡ MalformedPacket))
+    ⊎ ((front : List ℕ) × (after : List ℕ) × (bs ≡ front ++ after) × (length front ≡ 4) × GoOn front × (e ≡ MalformedRemainingLength))
+
+-- a length cut short, or fewer bytes than it says
+abbrev pub ContentFault : List ℕ → Error → Type 0
+ContentFault bs e = NumberFault w16 bs e ⊎ ((n : ℕ) × (after : List ℕ) × Takes (λ front. IsNumber w16 front n) bs after × ((length after < n) × (e ≡ BoundaryCrossed n)))
+
+-- the same, or no UTF-8
+abbrev pub TextFault : List ℕ → Error → Type 0
+TextFault bs e = ContentFault bs e ⊎ ((c : List ℕ) × (after : List ℕ) × Takes (λ front. IsContent front c) bs after × ((is_utf8 c ≡ false) × (e ≡ TopicNotUtf8)))
+
+abbrev pub KindFault : Kind → List ℕ → Error → Type 0
+KindFault u8 bs e = NumberFault w8 bs e
+KindFault u16 bs e = NumberFault w16 bs e
+KindFault u32 bs e = NumberFault w32 bs e
+KindFault varint bs e = VarIntFault bs e
+KindFault bytes bs e = ContentFault bs e
+KindFault text bs e = TextFault bs e
+KindFault pair bs e = TextFault bs e ⊎ ((k : List ℕ) × (after : List ℕ) × Takes (λ front. IsText front k) bs after × TextFault after e)
+
+-- ---- property blocks
+
+-- an identifier that is unknown or not allowed, before its value, or the fault of its value
+abbrev pub ItemFault : List Entry → ℕ → List ℕ → Error → Type 0
+ItemFault table id bs e =
+    ((allows table id ≡ false) × (e ≡ InvalidPropertyType id))
+    ⊎ ((allows table id ≡ true) × (((kind_among kinds id ≡ None) × (e ≡ InvalidPropertyType id)) ⊎ ((k : Kind) × (kind_among kinds id ≡ Some k) × KindFault k bs e)))
+
+-- the fault of the first item after these
+abbrev pub FaultAfter : List Entry → List ℕ → List (ℕ × Atom) → Error → Type 0
+FaultAfter table bs [] e = (id : ℕ) × (body : List ℕ) × (bs ≡ id ∷ body) × ItemFault table id body e
+FaultAfter table bs (i ∷ items) e = (body : List ℕ) × (after : List ℕ) × (bs ≡ i.0 ∷ body) × (allows table i.0 ≡ true) × Takes (λ front. IsProperty i.0 front i.1) body after × FaultAfter table after items e
+
+-- of the length, of a block that passes the end, or of the first item that can't be read
+abbrev pub BlockFault : List Entry → List ℕ → Error → Type 0
+BlockFault table bs e =
+    VarIntFault bs e
+    ⊎ ((n : ℕ) × (after : List ℕ) × Takes (λ front. VarInt front n) bs after
+        × (((length after < n) × (e ≡ BoundaryCrossed n))
+            ⊎ ((items : List (ℕ × Atom)) × (here rest : List ℕ) × (after ≡ here ++ rest) × (length here ≡ n) × FaultAfter table here items e)))
+
+-- ---- steps
+
+abbrev pub FieldFault : Field → List ℕ → Error → Type 0
+FieldFault (one k) bs e = KindFault k bs e
+FieldFault (checked k t w) bs e =
+    KindFault k bs e ⊎ ((a : Atom) × (after : List ℕ) × Takes (λ front. IsKind k front a) bs after × ((passes t a ≡ false) × (e ≡ fault_of w (number_of a))))
+FieldFault (block table) bs e = BlockFault table bs e
+FieldFault remainder bs e = ⊥
+
+abbrev pub FaultIf : Bool → Field → List ℕ → Error → Type 0
+FaultIf true f bs e = FieldFault f bs e
+FaultIf false f bs e = ⊥
+
+-- the fault of the first step that can't hold
+abbrev pub Faulty : List Step → Known → List ℕ → Error → Type 0
+Faulty [] known body e = ⊥
+Faulty (field c f d ∷ steps) known body e = FaultIf (holds known c) f body e ⊎ ((v : Value) × (after : List ℕ) × TakesField (holds known c) f d body v after × Faulty steps (with_value known v) after e)
+Faulty (raw k ∷ steps) known body e = KindFault k body e ⊎ ((a : Atom) × (after : List ℕ) × Takes (λ front. IsKind k front a) body after × Faulty steps (with_raw known (plain a)) after e)
+Faulty (note c ∷ steps) known body e = Faulty steps (with_value known (plain (cut_in known c))) body e
+Faulty (judge c s t w ∷ steps) known body e =
+    ((holds known c ≡ true) × (passes t (cut_in known s) ≡ false) × (e ≡ fault_of w (number_of (cut_in known s))))
+    ⊎ ((holds known c ≡ true → passes t (cut_in known s) ≡ true) × Faulty steps known body e)
+Faulty (more w ∷ steps) known body e = ((length body ≡ 0) × (e ≡ fault_of w 0)) ⊎ ((0 < length body) × Faulty steps known body e)
+
+-- ---- parts
+
+-- the fault of the repeat after these
+abbrev pub RepeatFault : List Step → List ℕ → List (List Value) → Error → Type 0
+RepeatFault steps body [] e = (0 < length body) × Faulty steps (under 0 0) body e
+RepeatFault steps body (vs ∷ all) e = (after : List ℕ) × (0 < length body) × Kept steps 0 body vs after × RepeatFault steps after all e
+
+abbrev pub ChoiceFault : Bool → List Step → List Step → ℕ → List ℕ → Error → Type 0
+ChoiceFault true off on n body e = Faulty on (under n 0) body e
+ChoiceFault false off on n body e = Faulty off (under n 0) body e
+
+abbrev pub PartFault : Part → List Value → List ℕ → Error → Type 0
+PartFault (choice k c off on) values body e = let n = number_at_place values k in ChoiceFault (holds (under n 0) c) off on n body e
+PartFault (filled k steps) values body e = Faulty steps (under (number_at_place values k) 0) body e
+PartFault (each f steps) values body e = (all : List (List Value)) × RepeatFault (repeated f steps) body all e
+
+abbrev pub PartsFault : List Part → List Value → List ℕ → Error → Type 0
+PartsFault [] values body e = ⊥
+PartsFault (p ∷ ps) values body e = PartFault p values body e ⊎ ((g : Group) × (after : List ℕ) × IsPart p values body g after × PartsFault ps values after e)
+
+-- ---- rows
+
+abbrev pub RowFault : Row → ℕ → ℕ → List ℕ → Error → Type 0
+RowFault row first len body e =
+    Faulty row.steps (under first len) body e
+    ⊎ ((out : Known) × (after : List ℕ) × Fields row.steps (under first len) body out after × PartsFault row.parts out.values after e)

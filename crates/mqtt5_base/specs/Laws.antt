@@ -1,0 +1,32 @@
+-- What the grammar promises, for every row, first byte, length and body.
+use Rattle.std.specs.Prelude.{◌≡◌, ◌↔◌, ℕ, List, length, ◌++◌, Result, Ok, Err, ◌⊎◌, ◌≤◌, ◌<◌, take, drop}
+use Rattle.mqtt5_base.specs.declared.error.Error.{Error}
+use Rattle.mqtt5_base.specs.VarInt.{VarInt, var_int, Overlong, Unfinished, Finished, length_at}
+use Rattle.mqtt5_base.specs.Grammar.{Kind, Atom, Entry, Found, Row, Content}
+use Rattle.mqtt5_base.specs.Fields.{Takes, IsKind, IsBlock, IsRow}
+use Rattle.mqtt5_base.specs.Faults.{KindFault, BlockFault, RowFault}
+use Rattle.mqtt5_base.specs.Frames.{Rows, IsFrame, FrameFault}
+use Rattle.mqtt5_base.specs.Reading.{atom_at, block_at, read_row, frame_values}
+
+-- reading answers a value exactly where it holds of it, and a fault exactly where that is the first
+pub record Reads {X : Type 0} (answer : Result X Error) (Holds : X → Type 0) (First : Error → Type 0) : Type 0 where
+  pub value : (x : X) → (answer ≡ Ok x) ↔ Holds x
+  pub fault : (e : Error) → (answer ≡ Err e) ↔ First e
+
+-- Either the value alone and no fault, or the fault alone and no value.
+abbrev pub ExactlyOne : {X : Type 0} → (X → Type 0) → (Error → Type 0) → Type 0
+ExactlyOne {X} Holds First =
+    ((x : X) × Holds x × ((y : X) → Holds y → y ≡ x) × ((e : Error) → First e → ⊥))
+    ⊎ ((e : Error) × First e × ((d : Error) → First d → d ≡ e) × ((x : X) → Holds x → ⊥))
+
+pub record IsGrammar : Type 0 where
+  pub kinds : (k : Kind) (bs : List ℕ) → Reads (atom_at k bs) (λ x. Takes (λ front. IsKind k front x.0) bs x.1) (KindFault k bs)
+  pub blocks : (table : List Entry) (bs : List ℕ) → Reads (block_at table bs) (λ x. Takes (λ front. IsBlock table front x.0) bs x.1) (BlockFault table bs)
+  pub rows : (row : Row) (first len : ℕ) (body : List ℕ) → Reads (read_row row first len body) (λ x. IsRow row first len body x.0 x.1) (RowFault row first len body)
+  pub frames : (rows : Rows) (first : ℕ) (body : List ℕ) → Reads (frame_values rows first body) (IsFrame rows first body) (FrameFault rows first body)
+  pub one : (rows : Rows) (first : ℕ) (body : List ℕ) → ExactlyOne (IsFrame rows first body) (FrameFault rows first body)
+
+-- the shortest bytes of a number stand for it, and are the shortest that do
+pub record IsShortest : Type 0 where
+  pub stands : (n : ℕ) → n < 268435456 → VarInt (var_int n) n
+  pub shortest : (n : ℕ) (bs : List ℕ) → VarInt bs n → length (var_int n) ≤ length bs

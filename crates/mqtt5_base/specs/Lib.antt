@@ -1,0 +1,16 @@
+pub mod Faults
+pub mod Fields
+pub mod Frames
+pub mod Front
+pub mod Grammar
+pub mod Headers
+pub mod Laws
+pub mod Lengths
+pub mod Layout
+pub mod Puts
+pub mod Reading
+pub mod Sets
+pub mod Texts
+pub mod VarInt
+pub mod Views
+pub mod Sound

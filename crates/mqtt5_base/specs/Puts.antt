@@ -1,0 +1,16 @@
+-- What a function wrote to a buffer.
+use Rattle.std.specs.Prelude.{◌≡◌, ℕ, ◌+◌, List, ◌++◌, length, Result, Ok, Err, MatchResult}
+use Rattle.bytes.specs.Filled.{Filled}
+use Rattle.mqtt5_base.specs.declared.error.Error.{Error}
+use Rattle.mqtt5_base.specs.declared.error.Error.TheVariants.{OutOfMemory}
+
+-- the bytes are at the buffer's end, in room that was there
+pub record Puts (old new : Filled) (bs : List ℕ) : Type 0 where
+  pub items : new.items ≡ old.items ++ bs
+  pub spare : new.spare + length bs ≡ old.spare
+
+-- These bytes were appended and their number answered, unless memory ran out, or else this is why not; a refusal left
+-- the buffer unchanged.
+abbrev pub Writes : Result (List ℕ) Error → Result ℕ Error → List ℕ → List ℕ → Type 0
+Writes (Ok bs) result old new = MatchResult result (λ n. (n ≡ length bs) × (new ≡ old ++ bs)) (λ e. (e ≡ OutOfMemory) × (new ≡ old))
+Writes (Err e) result old new = (result ≡ Err e) × (new ≡ old)

@@ -1,0 +1,130 @@
+//! Fields at the front of bytes. A reader answers the field's value and leaves the bytes after it.
+//! After a refusal the bytes are unchanged.
+
+ghost use Rattle.std.specs.Prelude.{◌≡◌, ◌+◌, ◌*◌, ◌^◌, ◌<◌, ◌≤◌, ℕ, drop, length, OnErr, IfOk};
+ghost use Rattle.std.specs.Int.{w8, w16, w32};
+ghost use Rattle.mqtt5_base.specs.Reading.{Gives, number_at, bytes_at, text_at, var_int_at};
+ghost use Rattle.mqtt5_base.specs.VarInt.{length_at};
+ghost use Rattle.mqtt5_base.specs.Lengths.{Lengths};
+
+use crate::error::Error;
+use crate::text::Text;
+use bytes::{Buf, Bytes};
+use std::alloc::Global;
+
+/// A one byte integer. E16 where there is no byte.
+pub fn read_u8(stream: &mut Bytes) -> Result<u8, Error>
+    ensures read { Gives (λ n. (n, stream.new)) result (number_at w8 stream.old) }
+    ensures kept { OnErr result (stream.new ≡ stream.old) }
+{
+    if stream.len() < 1 {
+        return Err(Error::MalformedPacket);
+    }
+    Ok(stream.get_u8())
+}
+
+/// A two byte integer, the high byte first. E16 where it is cut short.
+pub fn read_u16(stream: &mut Bytes) -> Result<u16, Error>
+    ensures read { Gives (λ n. (n, stream.new)) result (number_at w16 stream.old) }
+    ensures kept { OnErr result (stream.new ≡ stream.old) }
+{
+    if stream.len() < 2 {
+        return Err(Error::MalformedPacket);
+    }
+    Ok(stream.get_u16())
+}
+
+/// A four byte integer, the high byte first. E16 where it is cut short.
+pub fn read_u32(stream: &mut Bytes) -> Result<u32, Error>
+    ensures read { Gives (λ n. (n, stream.new)) result (number_at w32 stream.old) }
+    ensures kept { OnErr result (stream.new ≡ stream.old) }
+{
+    if stream.len() < 4 {
+        return Err(Error::MalformedPacket);
+    }
+    Ok(stream.get_u32())
+}
+
+/// The bytes behind the two byte length at the front.
+#[tactic(auto, unfolding(crate::specs::Reading::bytes_at))]
+fn front_bytes(stream: &Bytes) -> Result<Bytes, Error>
+    ensures read { Gives (λ b. (b, drop (2 + length b) stream.now)) result (bytes_at stream.now) }
+    ensures within { IfOk result (λ b. 2 + length b ≤ length stream.now) }
+{
+    let mut rest = stream.clone()?;
+    let len = usize::from(read_u16(&mut rest)?);
+    if rest.len() < len {
+        return Err(Error::BoundaryCrossed(len));
+    }
+    rest.truncate(len);
+    Ok(rest)
+}
+
+/// A two byte length and that many bytes, cut from the stream. E16 where the length is cut short,
+/// E15 with the length where fewer bytes are there, E21.
+pub fn read_bytes(stream: &mut Bytes) -> Result<Bytes, Error>
+    ensures read { Gives (λ b. (b, stream.new)) result (bytes_at stream.old) }
+    ensures kept { OnErr result (stream.new ≡ stream.old) }
+{
+    let content = front_bytes(stream)?;
+    stream.advance(2 + content.len());
+    Ok(content)
+}
+
+/// A text, as `read_bytes`. E14 where the bytes aren't UTF-8.
+#[tactic(auto, using(crate::proofs::Utf8Lemmas::utf8), unfolding(crate::specs::Reading::text_at))]
+pub fn read_text(alloc: Global, stream: &mut Bytes) -> Result<Text, Error>
+    ensures read { Gives (λ t. (t.bytes, stream.new)) result (text_at stream.old) }
+    ensures kept { OnErr result (stream.new ≡ stream.old) }
+{
+    let content = front_bytes(stream)?;
+    let Ok(text) = std::str::from_utf8(content.as_slice()) else {
+        return Err(Error::TopicNotUtf8);
+    };
+    let text = Text::from(String::from_str(alloc, text)?);
+    stream.advance(2 + content.len());
+    Ok(text)
+}
+
+/// The variable byte integer at the front, in at most so many bytes: the count of its bytes, and its
+/// value. E19 where it isn't finished, E17 where each of so many bytes says that another follows.
+#[tactic(auto, using(crate::proofs::Powers::power), unfolding(crate::specs::VarInt::length_at))]
+pub(crate) fn varint_in(bytes: &[u8], most: u8) -> Result<(usize, usize), Error>
+    requires { most ≤ 4 }
+    ensures value { Lengths result (length_at most bytes.now) }
+    ensures count { IfOk result (λ r. r.0 ≤ most) }
+    ensures within { IfOk result (λ r. r.0 ≤ length bytes.now) }
+    ensures bound { IfOk result (λ r. r.1 < 128 ^ most) }
+{
+    if most == 0 {
+        return Err(Error::MalformedRemainingLength);
+    }
+    match bytes {
+        [] => Err(Error::InsufficientBytes(1)),
+        [b, rest @ ..] => {
+            if *b < 128 {
+                Ok((1, *b as usize))
+            } else {
+                let (count, n) = varint_in(rest, most - 1)?;
+                Ok((count + 1, (*b % 128) as usize + 128 * n))
+            }
+        }
+    }
+}
+
+/// A variable byte integer. E16 where it is cut short, E17 where its fourth byte says that another
+/// follows.
+#[tactic(auto, unfolding(crate::specs::Reading::var_int_at))]
+pub fn read_varint(stream: &mut Bytes) -> Result<usize, Error>
+    ensures read { Gives (λ n. (n, stream.new)) result (var_int_at stream.old) }
+    ensures kept { OnErr result (stream.new ≡ stream.old) }
+{
+    match varint_in(stream.as_slice(), 4) {
+        Ok((count, n)) => {
+            stream.advance(count);
+            Ok(n)
+        }
+        Err(Error::InsufficientBytes(_)) => Err(Error::MalformedPacket),
+        Err(_unfinished) => Err(Error::MalformedRemainingLength),
+    }
+}
