@@ -1,2 +1,4 @@
 pub mod Powers
 pub mod Utf8Lemmas
+pub mod Parts
+pub mod Saturated

@@ -203,24 +203,14 @@ abbrev pub all_fit : Kind → List Atom → Bool
 all_fit k [] = true
 all_fit k (a ∷ here) = if atom_fits k a then all_fit k here else false
 
--- a number of fixed width always fits
-abbrev pub atoms_fit : Kind → List Atom → Bool
-atoms_fit u8 here = true
-atoms_fit u16 here = true
-atoms_fit u32 here = true
-atoms_fit varint here = all_fit varint here
-atoms_fit bytes here = all_fit bytes here
-atoms_fit text here = all_fit text here
-atoms_fit pair here = all_fit pair here
-
-abbrev pub atoms_fit_by : Option Kind → List Atom → Bool
-atoms_fit_by None here = true
-atoms_fit_by (Some k) here = atoms_fit k here
+abbrev pub all_fit_by : Option Kind → List Atom → Bool
+all_fit_by None here = true
+all_fit_by (Some k) here = all_fit k here
 
 abbrev pub items_fit : List Entry → Found → Bool
 items_fit [] found = true
 items_fit (e ∷ es) [] = true
-items_fit (e ∷ es) (here ∷ found) = if atoms_fit_by (kind_among kinds e.id) here then items_fit es found else false
+items_fit (e ∷ es) (here ∷ found) = if all_fit_by (kind_among kinds e.id) here then items_fit es found else false
 
 abbrev pub block_fits : List Entry → Option Found → Bool
 block_fits table None = true

@@ -14,3 +14,4 @@ pub mod Texts
 pub mod VarInt
 pub mod Views
 pub mod Sound
+pub mod Items

@@ -1,8 +1,9 @@
 -- What a function wrote to a buffer.
-use Rattle.std.specs.Prelude.{◌≡◌, ℕ, ◌+◌, List, ◌++◌, length, Result, Ok, Err, MatchResult}
+use Rattle.std.specs.Prelude.{◌≡◌, ℕ, ◌+◌, ◌≤◌, List, ◌∷◌, ◌++◌, length, Result, Ok, Err, MatchResult}
 use Rattle.bytes.specs.Filled.{Filled}
 use Rattle.mqtt5_base.specs.declared.error.Error.{Error}
 use Rattle.mqtt5_base.specs.declared.error.Error.TheVariants.{OutOfMemory}
+use Rattle.mqtt5_base.specs.VarInt.{var_int}
 
 -- the bytes are at the buffer's end, in room that was there
 pub record Puts (old new : Filled) (bs : List ℕ) : Type 0 where
@@ -14,3 +15,9 @@ pub record Puts (old new : Filled) (bs : List ℕ) : Type 0 where
 abbrev pub Writes : Result (List ℕ) Error → Result ℕ Error → List ℕ → List ℕ → Type 0
 Writes (Ok bs) result old new = MatchResult result (λ n. (n ≡ length bs) × (new ≡ old ++ bs)) (λ e. (e ≡ OutOfMemory) × (new ≡ old))
 Writes (Err e) result old new = (result ≡ Err e) × (new ≡ old)
+
+-- A frame's first byte and remaining length were appended, with room for its body, and the whole frame's length answered,
+-- unless memory ran out; then the bytes are unchanged.
+abbrev pub Starts : ℕ → ℕ → Result ℕ Error → Filled → Filled → Type 0
+Starts first len (Ok n) old new = (n ≡ 1 + length (var_int len) + len) × (new.items ≡ old.items ++ first ∷ var_int len) × (len ≤ new.spare)
+Starts first len (Err e) old new = (e ≡ OutOfMemory) × (new.items ≡ old.items)

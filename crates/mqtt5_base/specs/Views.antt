@@ -15,20 +15,29 @@ abbrev pub bit : Bool → ℕ
 bit true = 1
 bit false = 0
 
+-- the value of an option, or none
+abbrev pub atoms_of : {A : Type 0} → (A → Atom) → Option A → List Atom
+atoms_of f None = []
+atoms_of f (Some x) = f x ∷ []
+
+abbrev pub text_atom : Utf8 → Atom
+text_atom t = content t.bytes
+
+abbrev pub pair_atom : Utf8 × Utf8 → Atom
+pair_atom p = couple p.0.bytes p.1.bytes
+
+-- values of a set's fields
 abbrev pub numbers : Option ℕ → List Atom
-numbers None = []
-numbers (Some n) = number n ∷ []
+numbers o = atoms_of number o
 
 abbrev pub contents : Option (List ℕ) → List Atom
-contents None = []
-contents (Some c) = content c ∷ []
+contents o = atoms_of content o
 
 abbrev pub texts : Option Utf8 → List Atom
-texts None = []
-texts (Some t) = content t.bytes ∷ []
+texts o = atoms_of text_atom o
 
 abbrev pub pairs : List (Utf8 × Utf8) → List Atom
-pairs ps = map (λ p. couple p.0.bytes p.1.bytes) ps
+pairs ps = map pair_atom ps
 
 abbrev pub identifiers : List ℕ → List Atom
-identifiers ns = map (λ n. number n) ns
+identifiers ns = map number ns

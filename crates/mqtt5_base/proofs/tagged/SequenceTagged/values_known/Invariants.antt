@@ -1,0 +1,7 @@
+use Rattle.std.proofs.Common.{drop, map}
+use Rattle.mqtt5_base.specs.Sets.{AtomsAre}
+use Rattle.mqtt5_base.proofs.tagged.SequenceTagged.values_known.Given as goal
+
+-- the values that are left decide
+abbrev pub invariant-loop-value : goal.invariant-loop-value
+invariant-loop-value g l = AtomsAre g.T.FieldValue.kind (map g.T.FieldValue.atom (drop l.value-index l.value-items)) → AtomsAre g.T.FieldValue.kind (map g.T.FieldValue.atom l.self)

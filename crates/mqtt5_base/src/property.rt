@@ -1,0 +1,221 @@
+//! Properties, the sets of them that packets have, and the blocks that they stand in.
+
+ghost use Rattle.std.specs.Prelude.{◌≡◌, ◌≤◌, List, drop, length, OnOk, OnErr, IfOk, option_map, true, min};
+ghost use Rattle.mqtt5_base.specs.Grammar.{Entry, Found, allows};
+ghost use Rattle.mqtt5_base.specs.Reading.{Gives, none_of, with_item, property_at, item_at, items_within, block_at};
+ghost use Rattle.mqtt5_base.specs.Items.{id_of, value_of};
+ghost use Rattle.mqtt5_base.specs.Sets.{IsSetOf, IsBlockOf};
+ghost use Rattle.mqtt5_base.specs.Puts.{Puts};
+ghost use Rattle.mqtt5_base.specs.Layout.{items_bytes, items_fit, block_bytes, block_fits};
+
+use crate::error::Error;
+use crate::fields::{read_bytes, read_text, read_u8, read_u16, read_u32, read_varint};
+use crate::text::Text;
+use crate::value::{FieldValue, varint_len};
+use bytes::{Bytes, BytesMut};
+use std::alloc::{AllocError, Global};
+
+/// A property of a block, with its value (MQTT 5.0 section 2.2.2.2).
+#[derive(Debug, Drop)]
+pub enum Property {
+    PayloadFormatIndicator(u8),
+    MessageExpiryInterval(u32),
+    ContentType(Text),
+    ResponseTopic(Text),
+    CorrelationData(Bytes),
+    SubscriptionIdentifier(usize),
+    SessionExpiryInterval(u32),
+    AssignedClientIdentifier(Text),
+    ServerKeepAlive(u16),
+    AuthenticationMethod(Text),
+    AuthenticationData(Bytes),
+    RequestProblemInformation(u8),
+    WillDelayInterval(u32),
+    RequestResponseInformation(u8),
+    ResponseInformation(Text),
+    ServerReference(Text),
+    ReasonString(Text),
+    ReceiveMaximum(u16),
+    TopicAliasMaximum(u16),
+    TopicAlias(u16),
+    MaximumQos(u8),
+    RetainAvailable(u8),
+    UserProperty(Text, Text),
+    MaximumPacketSize(u32),
+    WildcardSubscriptionAvailable(u8),
+    SubscriptionIdentifierAvailable(u8),
+    SharedSubscriptionAvailable(u8),
+}
+
+#[tactic(auto, unfolding(crate::specs::Reading::property_at))]
+fn read_property(alloc: Global, id: u8, block: &mut Bytes) -> Result<Property, Error>
+    ensures read { Gives (λ p. (value_of p, block.new)) result (property_at id block.old) }
+    ensures id { IfOk result (λ p. id_of p ≡ id) }
+{
+    Ok(match id {
+        1 => Property::PayloadFormatIndicator(read_u8(block)?),
+        2 => Property::MessageExpiryInterval(read_u32(block)?),
+        3 => Property::ContentType(read_text(alloc, block)?),
+        8 => Property::ResponseTopic(read_text(alloc, block)?),
+        9 => Property::CorrelationData(read_bytes(block)?),
+        11 => Property::SubscriptionIdentifier(read_varint(block)?),
+        17 => Property::SessionExpiryInterval(read_u32(block)?),
+        18 => Property::AssignedClientIdentifier(read_text(alloc, block)?),
+        19 => Property::ServerKeepAlive(read_u16(block)?),
+        21 => Property::AuthenticationMethod(read_text(alloc, block)?),
+        22 => Property::AuthenticationData(read_bytes(block)?),
+        23 => Property::RequestProblemInformation(read_u8(block)?),
+        24 => Property::WillDelayInterval(read_u32(block)?),
+        25 => Property::RequestResponseInformation(read_u8(block)?),
+        26 => Property::ResponseInformation(read_text(alloc, block)?),
+        28 => Property::ServerReference(read_text(alloc, block)?),
+        31 => Property::ReasonString(read_text(alloc, block)?),
+        33 => Property::ReceiveMaximum(read_u16(block)?),
+        34 => Property::TopicAliasMaximum(read_u16(block)?),
+        35 => Property::TopicAlias(read_u16(block)?),
+        36 => Property::MaximumQos(read_u8(block)?),
+        37 => Property::RetainAvailable(read_u8(block)?),
+        38 => {
+            let key = read_text(alloc, block)?;
+            Property::UserProperty(key, read_text(alloc, block)?)
+        }
+        39 => Property::MaximumPacketSize(read_u32(block)?),
+        40 => Property::WildcardSubscriptionAvailable(read_u8(block)?),
+        41 => Property::SubscriptionIdentifierAvailable(read_u8(block)?),
+        42 => Property::SharedSubscriptionAvailable(read_u8(block)?),
+        _ => return Err(Error::InvalidPropertyType(id)),
+    })
+}
+
+/// The properties that one kind of packet may have.
+pub trait PropertySet: Drop {
+    /// Which they are, in the order of writing.
+    ghost table: { List Entry };
+
+    /// Their values, in that order.
+    ghost found: { Self → Found };
+
+    /// The set without values. Takes no memory.
+    fn empty(alloc: Global) -> Self
+        ensures { found result ≡ none_of table };
+
+    /// Whether an identifier is of the set.
+    fn may_have(id: u8) -> bool
+        ensures { result ≡ allows table id };
+
+    /// Adds an item that was read; one that isn't of the set changes nothing.
+    fn add(&mut self, property: Property) -> Result<(), AllocError>
+        ensures { OnOk result (found self.new ≡ with_item table (id_of property) (value_of property) (found self.old)) };
+
+    /// Whether each of its values can be written.
+    fn set_fits(&self) -> bool
+        ensures { result ≡ items_fit table (found self.now) };
+
+    /// How many bytes its items take, or the greatest `usize` where they are more.
+    fn set_len(&self) -> usize
+        ensures { result ≡ min (length (items_bytes table (found self.now))) usize.MAX };
+
+    /// Appends its items.
+    fn put_set(&self, out: &mut BytesMut)
+        requires fits { items_fit table (found self.now) ≡ true }
+        requires room { length (items_bytes table (found self.now)) ≤ out.old.spare }
+        ensures { Puts out.old out.new (items_bytes table (found self.now)) };
+
+    /// Says of its values what the types of its fields do.
+    fn set_known(&self)
+        ensures { IsSetOf table (found self.now) };
+}
+
+#[tactic(auto, unfolding(crate::specs::Reading::item_at))]
+fn read_item<P: PropertySet>(alloc: Global, set: &mut P, block: &mut Bytes) -> Result<(), Error>
+    ensures { Gives (λ _. (P.found set.new, block.new)) result (item_at P.table (P.found set.old) block.old) }
+{
+    let id = read_u8(block)?;
+    if !P::may_have(id) {
+        return Err(Error::InvalidPropertyType(id));
+    }
+    let property = read_property(alloc, id, block)?;
+    set.add(property)?;
+    Ok(())
+}
+
+fn read_items<P: PropertySet>(alloc: Global, set: &mut P, mut block: Bytes) -> Result<(), Error>
+    ensures { Gives (λ _. P.found set.new) result (items_within (length block) P.table (P.found set.old) block) }
+{
+    while !block.is_empty() {
+        read_item(alloc, set, &mut block)?;
+    }
+    Ok(())
+}
+
+/// A block: the length of its items, and the items. E16 or E17 of the length, E15 with the length
+/// where fewer bytes are there, else the fault of the first item that can't be read; E21. After a
+/// refusal the bytes are unchanged.
+#[tactic(auto, unfolding(crate::specs::Reading::block_at))]
+pub fn read_block<P: PropertySet>(alloc: Global, stream: &mut Bytes) -> Result<Option<P>, Error>
+    ensures read { Gives (λ p. (option_map P.found p, stream.new)) result (block_at P.table stream.old) }
+    ensures kept { OnErr result (stream.new ≡ stream.old) }
+{
+    let mut rest = stream.clone()?;
+    let len = read_varint(&mut rest)?;
+    if len == 0 {
+        *stream = rest;
+        return Ok(None);
+    }
+    if rest.len() < len {
+        return Err(Error::BoundaryCrossed(len));
+    }
+    let block = rest.split_to(len)?;
+    let mut set = P::empty(alloc);
+    read_items(alloc, &mut set, block)?;
+    *stream = rest;
+    Ok(Some(set))
+}
+
+/// Whether a block can be written.
+pub fn block_fits<P: PropertySet>(properties: &Option<P>) -> bool
+    ensures { result ≡ block_fits P.table (option_map P.found properties.now) }
+{
+    match properties {
+        Some(set) => set.set_fits() && set.set_len().fits(),
+        None => true,
+    }
+}
+
+/// How many bytes a block takes with its length, or the greatest `usize` where they are more.
+#[tactic(auto, using(crate::proofs::Saturated::lengths))]
+pub fn block_len<P: PropertySet>(properties: &Option<P>) -> usize
+    ensures { result ≡ min (length (block_bytes P.table (option_map P.found properties.now))) usize.MAX }
+{
+    match properties {
+        Some(set) => {
+            let len = set.set_len();
+            len.saturating_add(varint_len(len))
+        }
+        None => 1,
+    }
+}
+
+/// Appends a block; one that is absent is a length of 0.
+pub fn put_block<P: PropertySet>(properties: &Option<P>, out: &mut BytesMut)
+    requires fits { block_fits P.table (option_map P.found properties.now) ≡ true }
+    requires room { length (block_bytes P.table (option_map P.found properties.now)) ≤ out.old.spare }
+    ensures { Puts out.old out.new (block_bytes P.table (option_map P.found properties.now)) }
+{
+    match properties {
+        Some(set) => {
+            set.set_len().put_field(out);
+            set.put_set(out);
+        }
+        None => 0u8.put_field(out),
+    }
+}
+
+/// Says of a block's values what the types of its fields do.
+pub fn block_known<P: PropertySet>(properties: &Option<P>)
+    ensures { IsBlockOf P.table (option_map P.found properties.now) }
+{
+    if let Some(set) = properties {
+        set.set_known();
+    }
+}
