@@ -1,8 +1,8 @@
 -- Reading items one after the other, as a loop does.
-use Rattle.std.proofs.Common.{◌≡◌, ℕ, zero, suc, ◌<◌, ◌≤◌, Bool, true, false, cond, eqb, List, [], ◌∷◌, length, Result, Ok, Err, refl, sym, ap, ◌∙◌, arith, rules}
+use Rattle.std.proofs.Common.{◌≡◌, ℕ, zero, suc, ◌<◌, ◌≤◌, true, false, eqb, List, length, Result, Ok, Err, refl, sym, ◌∙◌, arith, rules}
 use Rattle.mqtt5_base.specs.declared.error.Error.{Error}
 use Rattle.mqtt5_base.specs.Grammar.{Entry, Found}
-use Rattle.mqtt5_base.specs.Reading.{◌>>=◌, item_at, items_within}
+use Rattle.mqtt5_base.specs.Reading.{item_at, items_within}
 use Rattle.mqtt5_base.proofs.Shorter.{item_shorter}
 
 positive : (bs : List ℕ) → eqb (length bs) 0 ≡ false → 0 < length bs

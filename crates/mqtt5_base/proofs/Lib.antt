@@ -4,3 +4,14 @@ pub mod Parts
 pub mod Saturated
 pub mod Shorter
 pub mod ItemsLemmas
+pub mod LengthLemmas
+pub mod FrontLemmas
+pub mod Worked
+pub mod VarIntLemmas
+pub mod ReadsLemmas
+pub mod KindLaws
+pub mod SetLemmas
+pub mod BlockLaws
+pub mod StepLaws
+pub mod PartLaws
+pub mod FrameLaws

@@ -1,11 +1,11 @@
 -- The first fault of bytes that don't stand for values: that of the first field or judgement that can't hold.
-use Rattle.std.specs.Prelude.{◌≡◌, ℕ, ◌<◌, ◌≤◌, Bool, true, false, List, [], ◌∷◌, ◌++◌, length, Option, Some, None, ◌⊎◌}
+use Rattle.std.specs.Prelude.{◌≡◌, ℕ, ◌<◌, ◌≤◌, Bool, true, false, List, [], ◌∷◌, ◌++◌, length, Some, None, ◌⊎◌}
 use Rattle.std.specs.Int.{Width, w8, w16, w32, byte_len}
 use Rattle.std.specs.Str.{is_utf8}
 use Rattle.mqtt5_base.specs.declared.error.Error.{Error}
 use Rattle.mqtt5_base.specs.declared.error.Error.TheVariants.{MalformedPacket, MalformedRemainingLength, BoundaryCrossed, TopicNotUtf8, InvalidPropertyType}
 use Rattle.mqtt5_base.specs.VarInt.{VarInt}
-use Rattle.mqtt5_base.specs.Grammar.{Kind, u8, u16, u32, varint, bytes, text, pair, Atom, Entry, Found, allows, kinds, kind_among, number_of, passes, fault_of, Value, plain, Field, one, checked, block, remainder, Step, field, raw, note, judge, more, Part, choice, filled, each, Row, Group, Known, under, with_value, with_raw, cut_in, holds}
+use Rattle.mqtt5_base.specs.Grammar.{Kind, u8, u16, u32, varint, bytes, text, pair, Atom, Entry, allows, kinds, kind_among, number_of, passes, fault_of, Value, plain, Field, one, checked, block, remainder, Step, field, raw, note, judge, more, Part, choice, filled, each, Row, Group, Known, under, with_value, with_raw, cut_in, holds}
 use Rattle.mqtt5_base.specs.Fields.{Takes, IsNumber, IsContent, IsText, IsKind, IsProperty, TakesField, Fields, Kept, number_at_place, repeated, IsPart}
 
 -- ---- one value

@@ -1,5 +1,5 @@
 -- What packets are made of, as data (MQTT 5.0 sections 1.5, 2 and 3).
-use Rattle.std.specs.Prelude.{◌≡◌, ℕ, zero, suc, ◌+◌, ◌/◌, ◌%◌, Bool, true, false, List, [], ◌∷◌, ◌++◌, length, Option, Some, None, nat_lt, ◌==◌, ◌||◌, if◌then◌else◌}
+use Rattle.std.specs.Prelude.{ℕ, zero, suc, ◌/◌, ◌%◌, Bool, true, false, List, [], ◌∷◌, ◌++◌, length, Option, Some, None, nat_lt, ◌==◌, ◌||◌, if◌then◌else◌}
 use Rattle.std.specs.Str.{bytes_eq}
 use Rattle.mqtt5_base.specs.declared.error.Error.{Error}
 use Rattle.mqtt5_base.specs.declared.error.Error.TheVariants.{InvalidConnectReturnCode, InvalidProtocol, InvalidProtocolLevel, IncorrectPacketFormat, InvalidPacketType, InvalidRetainForwardRule, InvalidQoS, InvalidSubscribeReasonCode, PacketIdZero, EmptySubscription, MalformedPacket}
@@ -231,3 +231,24 @@ all_empty (v ∷ vs) = if is_empty v then all_empty vs else false
 -- values that stand for nothing where each is empty
 abbrev pub unless_empty : List Value → Option (List Value)
 unless_empty vs = if all_empty vs then None else Some vs
+
+-- ---- words for rows
+
+-- a field that is always there
+abbrev pub there : Field → Step
+there f = field always f (plain (number 0))
+
+-- a bit of a number, by its worth
+abbrev pub bit_of : Source → ℕ → Cut
+bit_of s worth = bits s worth 2
+
+abbrev pub is : ℕ → Test
+is n = any_of (n ∷ [])
+
+-- a QoS (4.3)
+abbrev pub is_qos : Test
+is_qos = any_of (0 ∷ 1 ∷ 2 ∷ [])
+
+-- a row of steps alone, which needs a body
+abbrev pub steps_row : List Step → Row
+steps_row steps = record { steps = steps; parts = []; bare = false; brief = false }

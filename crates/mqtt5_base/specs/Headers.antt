@@ -1,5 +1,5 @@
 -- The fixed header (MQTT 5.0 section 2.1.1).
-use Rattle.std.specs.Prelude.{◌≡◌, ℕ, ◌+◌, ◌/◌, List, [], ◌∷◌, length, take, drop, Result, Ok, Err}
+use Rattle.std.specs.Prelude.{◌≡◌, ℕ, ◌+◌, List, length, take, drop, Result, Ok, Err}
 use Rattle.mqtt5_base.specs.declared.error.Error.{Error}
 use Rattle.mqtt5_base.specs.declared.error.Error.TheVariants.{InvalidPacketType}
 use Rattle.mqtt5_base.specs.declared.header.FixedHeader.{FixedHeader}

@@ -1,6 +1,5 @@
 -- A property as its identifier and its value (MQTT 5.0 section 2.2.2.2).
 use Rattle.std.specs.Prelude.{ℕ}
-use Rattle.mqtt5_base.specs.Texts.{Utf8}
 use Rattle.mqtt5_base.specs.Grammar.{Atom, number, content, couple}
 use Rattle.mqtt5_base.specs.declared.property.Property.{Property}
 use Rattle.mqtt5_base.specs.declared.property.Property.TheVariants.{PayloadFormatIndicator, MessageExpiryInterval, ContentType, ResponseTopic, CorrelationData, SubscriptionIdentifier, SessionExpiryInterval, AssignedClientIdentifier, ServerKeepAlive, AuthenticationMethod, AuthenticationData, RequestProblemInformation, WillDelayInterval, RequestResponseInformation, ResponseInformation, ServerReference, ReasonString, ReceiveMaximum, TopicAliasMaximum, TopicAlias, MaximumQos, RetainAvailable, UserProperty, MaximumPacketSize, WildcardSubscriptionAvailable, SubscriptionIdentifierAvailable, SharedSubscriptionAvailable}

@@ -1,8 +1,8 @@
 -- What the grammar promises, for every row, first byte, length and body.
-use Rattle.std.specs.Prelude.{◌≡◌, ◌↔◌, ℕ, List, length, ◌++◌, Result, Ok, Err, ◌⊎◌, ◌≤◌, ◌<◌, take, drop}
+use Rattle.std.specs.Prelude.{◌≡◌, ◌↔◌, ℕ, List, length, Result, Ok, Err, ◌⊎◌, ◌≤◌, ◌<◌}
 use Rattle.mqtt5_base.specs.declared.error.Error.{Error}
-use Rattle.mqtt5_base.specs.VarInt.{VarInt, var_int, Overlong, Unfinished, Finished, length_at}
-use Rattle.mqtt5_base.specs.Grammar.{Kind, Atom, Entry, Found, Row, Content}
+use Rattle.mqtt5_base.specs.VarInt.{VarInt, var_int}
+use Rattle.mqtt5_base.specs.Grammar.{Kind, Entry, Row}
 use Rattle.mqtt5_base.specs.Fields.{Takes, IsKind, IsBlock, IsRow}
 use Rattle.mqtt5_base.specs.Faults.{KindFault, BlockFault, RowFault}
 use Rattle.mqtt5_base.specs.Frames.{Rows, IsFrame, FrameFault}

@@ -1,10 +1,10 @@
 -- What is written for a packet, by the same rows, and why nothing is (MQTT 5.0 sections 1.5, 2.2.2 and 3).
-use Rattle.std.specs.Prelude.{◌≡◌, ℕ, ◌+◌, ◌==◌, Bool, true, false, not, List, [], ◌∷◌, ◌++◌, length, Option, Some, None, is_none, Result, Ok, Err, nat_lt, if◌then◌else◌}
+use Rattle.std.specs.Prelude.{ℕ, ◌==◌, Bool, true, false, not, List, [], ◌∷◌, ◌++◌, length, Option, Some, None, is_none, Result, Ok, Err, nat_lt, if◌then◌else◌}
 use Rattle.std.specs.Int.{w16, w32, to_be_bytes}
 use Rattle.mqtt5_base.specs.declared.error.Error.{Error}
 use Rattle.mqtt5_base.specs.declared.error.Error.TheVariants.{PayloadTooLong}
 use Rattle.mqtt5_base.specs.VarInt.{var_int}
-use Rattle.mqtt5_base.specs.Grammar.{Kind, u8, u16, u32, varint, bytes, text, pair, Atom, number, content, couple, number_of, content_of, Entry, Found, kinds, kind_among, passes, fault_of, Value, plain, properties, atom_of, Field, one, checked, block, remainder, Condition, always, longer, set, Step, field, raw, note, judge, more, Part, choice, filled, each, Row, Group, optional, several, Content, Known, under, with_value, with_raw, cut_in, holds}
+use Rattle.mqtt5_base.specs.Grammar.{Kind, u8, u16, u32, varint, bytes, text, pair, Atom, number, content, couple, number_of, content_of, Entry, Found, kinds, kind_among, passes, fault_of, Value, plain, properties, atom_of, Field, one, checked, block, remainder, Condition, always, longer, set, Step, field, raw, note, judge, more, Part, choice, filled, each, Row, Group, optional, several, Content, Known, under, with_value, with_raw, cut_in}
 use Rattle.mqtt5_base.specs.Fields.{number_at_place, repeated}
 
 -- ---- a packet as it is written

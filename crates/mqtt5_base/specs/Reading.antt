@@ -1,11 +1,11 @@
 -- This file serves the logic alone: reading from left to right, which is proved to be what Fields and Faults say.
-use Rattle.std.specs.Prelude.{◌≡◌, ℕ, zero, suc, ◌+◌, ◌/◌, Bool, true, false, List, [], ◌∷◌, ◌++◌, length, take, drop, Option, Some, None, Result, Ok, Err, nat_lt, ◌==◌, if◌then◌else◌}
+use Rattle.std.specs.Prelude.{◌≡◌, ℕ, zero, suc, ◌/◌, Bool, true, false, List, [], ◌∷◌, ◌++◌, length, take, drop, Option, Some, None, Result, Ok, Err, nat_lt, ◌==◌, if◌then◌else◌}
 use Rattle.std.specs.Int.{Width, w8, w16, w32, byte_len, from_be_bytes}
 use Rattle.std.specs.Str.{is_utf8}
 use Rattle.mqtt5_base.specs.declared.error.Error.{Error}
 use Rattle.mqtt5_base.specs.declared.error.Error.TheVariants.{OutOfMemory, MalformedPacket, MalformedRemainingLength, BoundaryCrossed, TopicNotUtf8, InvalidPropertyType, InvalidPacketType, PayloadRequired}
 use Rattle.mqtt5_base.specs.VarInt.{Length, Overlong, Unfinished, Finished, length_at}
-use Rattle.mqtt5_base.specs.Grammar.{Kind, u8, u16, u32, varint, bytes, text, pair, Atom, number, content, couple, Entry, Found, allows, kinds, kind_among, Test, Wrong, fault_of, number_of, passes, Value, plain, properties, Field, one, checked, block, remainder, always, Step, field, raw, note, judge, more, Part, choice, filled, each, Row, Group, optional, several, Content, Known, under, with_value, with_raw, cut_in, holds, unless_empty}
+use Rattle.mqtt5_base.specs.Grammar.{Kind, u8, u16, u32, varint, bytes, text, pair, Atom, number, content, couple, Entry, Found, allows, kinds, kind_among, Test, Wrong, fault_of, number_of, passes, Value, plain, properties, Field, one, checked, block, remainder, Step, field, raw, note, judge, more, Part, choice, filled, each, Row, Group, optional, several, Content, Known, under, with_value, with_raw, cut_in, holds, unless_empty}
 use Rattle.mqtt5_base.specs.Fields.{number_at_place, repeated}
 use Rattle.mqtt5_base.specs.Frames.{Rows, row_among, lacks_body}
 

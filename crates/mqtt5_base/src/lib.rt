@@ -7,10 +7,12 @@ mod exact;
 mod fields;
 mod frame;
 mod header;
+mod laws;
 mod mqttbytes;
 mod property;
 mod quality;
 mod sequence;
+mod stream;
 mod tagged;
 mod text;
 mod value;
@@ -20,12 +22,14 @@ pub use exact::{Exact, copied, same};
 pub use fields::{read_bytes, read_text, read_u8, read_u16, read_u32, read_varint};
 pub use frame::{frame_size, start_frame};
 pub use header::{FixedHeader, PacketType};
+pub use laws::{grammar_laws, shortest_form};
 pub use mqttbytes::qos;
 pub use property::{
     Property, PropertySet, block_fits, block_known, block_len, put_block, read_block,
 };
 pub use quality::QoS;
 pub use sequence::Sequence;
+pub use stream::{check, front_laws};
 pub use tagged::Tagged;
 pub use text::Text;
 pub use value::{FieldValue, varint_len};

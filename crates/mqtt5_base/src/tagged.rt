@@ -26,10 +26,10 @@ pub trait Tagged {
     fn values_fit(&self) -> bool
         ensures { result ≡ all_fit kind (atoms self.now) };
 
-    /// How many bytes they take, each behind an identifier, or the greatest `usize` where they are
+    /// How many bytes they take, each behind the identifier, or the greatest `usize` where they are
     /// more.
-    fn values_len(&self) -> usize
-        ensures { (id : ℕ) → result ≡ min (length (tagged id kind (atoms self.now))) usize.MAX };
+    fn values_len(&self, id: u8) -> usize
+        ensures { result ≡ min (length (tagged id kind (atoms self.now))) usize.MAX };
 
     /// Appends each behind the identifier.
     fn put_values(&self, id: u8, out: &mut BytesMut)
@@ -66,7 +66,7 @@ impl<T: FieldValue> Tagged for Option<T> {
         }
     }
 
-    fn values_len(&self) -> usize {
+    fn values_len(&self, id: u8) -> usize {
         match self {
             Some(value) => value.field_len().saturating_add(1),
             None => 0,
@@ -102,7 +102,7 @@ impl<T: FieldValue> Tagged for Sequence<T> {
         true
     }
 
-    fn values_len(&self) -> usize {
+    fn values_len(&self, id: u8) -> usize {
         let mut len: usize = 0;
         for value in self.as_slice() {
             len = len.saturating_add(value.field_len()).saturating_add(1);

@@ -1,4 +1,4 @@
-use Rattle.std.proofs.Common.{◌^◌, ◌≤◌, arith}
+use Rattle.std.proofs.Common.{arith}
 use Rattle.mqtt5_base.proofs.Powers.{power}
 use Rattle.mqtt5_base.proofs.fields.+varint_in.Goals as goal
 

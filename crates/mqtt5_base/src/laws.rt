@@ -1,0 +1,16 @@
+//! What the definitions promise, as contracts of functions with empty bodies.
+
+ghost use Rattle.mqtt5_base.specs.Laws.{IsGrammar, IsShortest};
+
+/// Reading answers values exactly where the grammar's relation holds of them, and a fault exactly where it is the
+/// first; of every frame exactly one of the two.
+pub fn grammar_laws()
+    ensures { IsGrammar }
+{
+}
+
+/// The shortest form of a variable byte integer stands for its number, and no shorter bytes do.
+pub fn shortest_form()
+    ensures { IsShortest }
+{
+}

@@ -1,0 +1,82 @@
+//! The front of a stream of frames.
+
+ghost use Rattle.std.specs.Prelude.{ℕ, Option};
+ghost use Rattle.mqtt5_base.specs.Front.{front, IsFront};
+ghost use Rattle.mqtt5_base.specs.Headers.{Checks};
+
+use crate::error::Error;
+use crate::fields::varint_in;
+use crate::header::FixedHeader;
+
+/// The header of the frame at the front of the stream, once the frame is whole. E19 with the bytes
+/// that are missing, at least. E17 where the remaining length's fourth byte says that another
+/// follows. E12 where the remaining length is over the limit, also before the frame is whole.
+/// Takes no memory.
+#[tactic(auto, unfolding(crate::specs::Front::front))]
+pub fn check(stream: &[u8], max_packet_size: Option<u32>) -> Result<FixedHeader, Error>
+    ensures { Checks result stream.now (front max_packet_size stream.now) }
+{
+    match stream {
+        [] => Err(Error::InsufficientBytes(2)),
+        [byte1, rest @ ..] => {
+            let (count, n) = varint_in(rest, 4)?;
+            if let Some(max) = max_packet_size {
+                if n > max as usize {
+                    return Err(Error::PayloadSizeLimitExceeded { pkt_size: n, max });
+                }
+            }
+            if rest.len() < count + n {
+                return Err(Error::InsufficientBytes(count + n - rest.len()));
+            }
+            Ok(FixedHeader::new(*byte1, count, n))
+        }
+    }
+}
+
+/// What is decided of a stream stays so when bytes come, and a frame is whole with its last byte.
+pub fn front_laws()
+    ensures { (limit : Option ℕ) → IsFront (front limit) }
+{}
+
+#[cfg(test)]
+mod tests {
+    use super::*;
+    use crate::header::PacketType;
+    use std::test::Fail;
+
+    #[test]
+    fn checks_fronts(rt: HostRuntime) -> Result<(), Fail> {
+        let refused: [(&[u8], Option<u32>, Error); 7] = [
+            (&[], None, Error::InsufficientBytes(2)),
+            (&[0x30], None, Error::InsufficientBytes(1)),
+            (&[0x30, 0x80], None, Error::InsufficientBytes(1)),
+            (&[0x30, 0x0A], None, Error::InsufficientBytes(10)),
+            (
+                &[0x30, 0x80, 0x80, 0x80, 0x80],
+                None,
+                Error::MalformedRemainingLength,
+            ),
+            (
+                &[0x32, 0x0A],
+                Some(9),
+                Error::PayloadSizeLimitExceeded {
+                    pkt_size: 10,
+                    max: 9,
+                },
+            ),
+            (&[0x32, 0x0A], Some(10), Error::InsufficientBytes(10)),
+        ];
+        for (stream, limit, why) in refused {
+            assert_eq!(rt;
+                check(stream, limit),
+                Err(why),
+                "of {stream:?} under {limit:?}"
+            );
+        }
+        let header = check(&[0x40, 0x02, 0x00, 0x01, 0x40], None)?;
+        assert_eq!(rt; header.frame_length(), 4);
+        assert_eq!(rt; header.byte1, 0x40);
+        assert_eq!(rt; header.packet_type()?, PacketType::PubAck);
+        Ok(())
+    }
+}

@@ -1,0 +1,2 @@
+pub mod AckLemmas
+pub mod Bits

@@ -1,0 +1,10 @@
+-- This file serves the logic alone: each reason's code is one of its packet's.
+use Rattle.std.specs.Prelude.{◌≡◌, true}
+use Rattle.std.proofs.Common.{rules}
+use Rattle.mqtt5_base.specs.Grammar.{number, passes}
+use Rattle.mqtt5_flow.specs.declared.puback.PubAckReason.{PubAckReason}
+use Rattle.mqtt5_flow.specs.PubAcks.{puback_code}
+use Rattle.mqtt5_flow.specs.Rows.{puback_codes}
+
+pub puback_known : (r : PubAckReason) → passes puback_codes (number (puback_code r)) ≡ true
+puback_known = search rules

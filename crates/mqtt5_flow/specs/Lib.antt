@@ -1,0 +1,5 @@
+pub mod Rows
+pub mod Acks
+pub mod PubAcks
+pub mod Publishes
+pub mod Known

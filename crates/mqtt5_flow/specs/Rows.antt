@@ -1,0 +1,55 @@
+-- The rows of Publish and of the acks (MQTT 5.0 sections 3.3 to 3.7).
+use Rattle.std.specs.Prelude.{ℕ, true, false, List, [], ◌∷◌, None}
+use Rattle.mqtt5_base.specs.Grammar.{u8, u16, bytes, number, Entry, single, several_of, Test, any_of, not_zero, bad_reason, bad_qos, zero_id, plain, properties, Field, one, checked, block, remainder, given, read, whole, bits, always, longer, set, Step, field, note, judge, Row, there, bit_of, is_qos, steps_row}
+
+-- ---- Publish (3.3)
+
+-- the properties of a Publish, in the order of writing (3.3.2.3)
+abbrev pub publish_table : List Entry
+publish_table = single 1 ∷ single 2 ∷ single 35 ∷ single 8 ∷ single 9 ∷ several_of 38 ∷ several_of 11 ∷ single 3 ∷ []
+
+-- a packet identifier, which isn't 0 (2.2.1)
+abbrev pub publish_id : Field
+publish_id = checked u16 not_zero zero_id
+
+-- dup, QoS and retain of the first byte, the topic, the identifier where the QoS is 1 or 2, the properties and the payload
+abbrev pub publish_row : Row
+publish_row =
+    steps_row
+      (note (bit_of given 8)
+      ∷ note (bits given 2 4)
+      ∷ note (bit_of given 1)
+      ∷ judge always (whole (read 1)) is_qos bad_qos
+      ∷ there (one bytes)
+      ∷ field (set (whole (read 1))) publish_id (plain (number 0))
+      ∷ there (block publish_table)
+      ∷ there remainder
+      ∷ [])
+
+-- ---- PubAck, PubRec, PubRel and PubComp (3.4 to 3.7)
+
+-- the properties of an ack (3.4.2.2)
+abbrev pub ack_table : List Entry
+ack_table = single 31 ∷ several_of 38 ∷ []
+
+-- the identifier; a body of two bytes ends there, with success; the reason code; a body of three bytes ends there; the
+-- properties; the reason code is judged last
+abbrev pub ack_row : Test → List Entry → Row
+ack_row codes table = record {
+    steps =
+      there (one u16)
+      ∷ field (longer 2) (one u8) (plain (number 0))
+      ∷ field (longer 3) (block table) (properties None)
+      ∷ judge always (whole (read 1)) codes bad_reason
+      ∷ [];
+    parts = [];
+    bare = false;
+    brief = true
+  }
+
+-- the reason codes of a PubAck and of a PubRec (3.4.2.1, 3.5.2.1)
+abbrev pub puback_codes : Test
+puback_codes = any_of (0 ∷ 16 ∷ 128 ∷ 131 ∷ 135 ∷ 144 ∷ 145 ∷ 151 ∷ 153 ∷ [])
+
+abbrev pub puback_row : Row
+puback_row = ack_row puback_codes ack_table

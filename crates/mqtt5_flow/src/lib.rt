@@ -1,0 +1,9 @@
+//! Publish and its acks.
+#![tactic(auto)]
+
+mod ack;
+mod puback;
+mod publish;
+
+pub use puback::{PubAck, PubAckProperties, PubAckReason};
+pub use publish::{Publish, PublishProperties};

@@ -1,0 +1,172 @@
+//! The answer to a publish of QoS 1.
+
+ghost use Rattle.std.specs.Prelude.{◌≡◌, ◌+◌, ◌≤◌, Some, None, drop, length, min, option_map};
+ghost use Rattle.mqtt5_base.specs.Reading.{Gives, values_in};
+ghost use Rattle.mqtt5_base.specs.Puts.{Writes};
+ghost use Rattle.mqtt5_base.specs.Layout.{layout, writing, content_of_packet};
+ghost use Rattle.mqtt5_flow.specs.Rows.{ack_table, puback_codes, puback_row};
+ghost use Rattle.mqtt5_flow.specs.PubAcks.{puback_code, puback_found, puback_packet};
+
+use crate::ack::{Reason, ack_size, read_ack, write_ack};
+use bytes::{Bytes, BytesMut};
+use mqtt5_base::{Error, FixedHeader, Property, PropertySet, Sequence, Tagged, Text};
+use std::alloc::{AllocError, Global};
+
+/// Why a publish is answered so (MQTT 5.0 section 3.4.2.1).
+#[derive(Debug, Clone, Copy, PartialEq, Eq)]
+pub enum PubAckReason {
+    Success,
+    NoMatchingSubscribers,
+    UnspecifiedError,
+    ImplementationSpecificError,
+    NotAuthorized,
+    TopicNameInvalid,
+    PacketIdentifierInUse,
+    QuotaExceeded,
+    PayloadFormatInvalid,
+}
+
+impl Reason for PubAckReason {
+    ghost use Rattle.mqtt5_flow.specs.Known.{puback_known};
+
+    ghost codes = { puback_codes };
+
+    ghost code = { puback_code };
+
+    ghost known = { puback_known };
+
+    fn of(num: u8) -> Result<PubAckReason, Error> {
+        Ok(match num {
+            0 => PubAckReason::Success,
+            16 => PubAckReason::NoMatchingSubscribers,
+            128 => PubAckReason::UnspecifiedError,
+            131 => PubAckReason::ImplementationSpecificError,
+            135 => PubAckReason::NotAuthorized,
+            144 => PubAckReason::TopicNameInvalid,
+            145 => PubAckReason::PacketIdentifierInUse,
+            151 => PubAckReason::QuotaExceeded,
+            153 => PubAckReason::PayloadFormatInvalid,
+            _ => return Err(Error::InvalidConnectReturnCode(num)),
+        })
+    }
+
+    fn code(self) -> u8 {
+        match self {
+            PubAckReason::Success => 0,
+            PubAckReason::NoMatchingSubscribers => 16,
+            PubAckReason::UnspecifiedError => 128,
+            PubAckReason::ImplementationSpecificError => 131,
+            PubAckReason::NotAuthorized => 135,
+            PubAckReason::TopicNameInvalid => 144,
+            PubAckReason::PacketIdentifierInUse => 145,
+            PubAckReason::QuotaExceeded => 151,
+            PubAckReason::PayloadFormatInvalid => 153,
+        }
+    }
+
+    fn success() -> PubAckReason {
+        PubAckReason::Success
+    }
+}
+
+/// The properties of a PubAck (MQTT 5.0 section 3.4.2.2).
+#[derive(Debug, Clone, PartialEq, Eq, Drop)]
+pub struct PubAckProperties {
+    pub reason_string: Option<Text>,
+    pub user_properties: Sequence<(Text, Text)>,
+}
+
+impl PropertySet for PubAckProperties {
+    ghost table = { ack_table };
+
+    ghost found = { puback_found };
+
+    fn empty(alloc: Global) -> PubAckProperties {
+        PubAckProperties {
+            reason_string: None,
+            user_properties: Sequence::new(alloc),
+        }
+    }
+
+    fn may_have(id: u8) -> bool {
+        matches!(id, 31 | 38)
+    }
+
+    fn add(&mut self, property: Property) -> Result<(), AllocError> {
+        match property {
+            Property::ReasonString(text) => self.reason_string = Some(text),
+            Property::UserProperty(key, value) => self.user_properties.push((key, value))?,
+            _other => {}
+        }
+        Ok(())
+    }
+
+    fn set_fits(&self) -> bool {
+        self.reason_string.values_fit() && self.user_properties.values_fit()
+    }
+
+    fn set_len(&self) -> usize {
+        self.reason_string
+            .values_len(31)
+            .saturating_add(self.user_properties.values_len(38))
+    }
+
+    fn put_set(&self, out: &mut BytesMut) {
+        self.reason_string.put_values(31, out);
+        self.user_properties.put_values(38, out);
+    }
+
+    fn set_known(&self) {
+        self.reason_string.values_known();
+        self.user_properties.values_known();
+    }
+}
+
+/// A PubAck (MQTT 5.0 section 3.4).
+#[derive(Debug, Clone, PartialEq, Eq, Drop)]
+pub struct PubAck {
+    pub pkid: u16,
+    pub reason: PubAckReason,
+    pub properties: Option<PubAckProperties>,
+}
+
+impl PubAck {
+    /// A PubAck with Success. Takes no memory.
+    pub fn new(pkid: u16, properties: Option<PubAckProperties>) -> PubAck
+        ensures { result ≡ record { pkid = pkid; reason = PubAckReason.Success; properties = properties } }
+    {
+        PubAck {
+            pkid,
+            reason: PubAckReason::Success,
+            properties,
+        }
+    }
+
+    /// The PubAck of a frame's bytes. E16 to E18, E14 and E15 of a field that can't be read, E1 of a
+    /// reason code that a PubAck doesn't have; E21.
+    pub fn read(alloc: Global, header: FixedHeader, bytes: Bytes) -> Result<PubAck, Error>
+        requires { length bytes ≡ header.fixed_header_len + header.remaining_len }
+        ensures { Gives (λ p. content_of_packet (puback_packet p)) result (values_in puback_row header.byte1 header.remaining_len (drop header.fixed_header_len bytes)) }
+    {
+        let (pkid, reason, properties) = read_ack(alloc, header, bytes)?;
+        Ok(PubAck {
+            pkid,
+            reason,
+            properties,
+        })
+    }
+
+    /// Appends the PubAck and answers its length. E11, E21; then the buffer is unchanged.
+    pub fn write(&self, buffer: &mut BytesMut) -> Result<usize, Error>
+        ensures { Writes (writing puback_row (puback_packet self.now)) result buffer.old.items buffer.new.items }
+    {
+        write_ack(0x40, self.pkid, self.reason, &self.properties, buffer)
+    }
+
+    /// How many bytes it takes, or the greatest `usize` where they are more. Takes no memory.
+    pub fn size(&self) -> usize
+        ensures { result ≡ min (length (layout puback_row (puback_packet self.now))) usize.MAX }
+    {
+        ack_size(self.reason, &self.properties)
+    }
+}

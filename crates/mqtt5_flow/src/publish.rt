@@ -1,0 +1,190 @@
+//! A message.
+
+ghost use Rattle.std.specs.Prelude.{◌≡◌, ◌+◌, ◌≤◌, ◌/◌, ◌%◌, ◌<◌, nat_lt, true, drop, length, min, option_map};
+ghost use Rattle.mqtt5_base.specs.Grammar.{plain, number, bad_qos, is_qos};
+ghost use Rattle.mqtt5_base.specs.Reading.{Gives, optional_at, judged, values_in};
+ghost use Rattle.mqtt5_base.specs.Views.{bit, qos_number};
+ghost use Rattle.mqtt5_base.specs.Puts.{Puts, Writes};
+ghost use Rattle.mqtt5_base.specs.Layout.{block_fits, body_bytes, layout, writing, content_of_packet};
+ghost use Rattle.mqtt5_flow.specs.Rows.{publish_table, publish_id, publish_row};
+ghost use Rattle.mqtt5_flow.specs.Publishes.{publish_found, publish_first, publish_packet};
+
+use bytes::{Bytes, BytesMut};
+use mqtt5_base::{
+    Error, FieldValue, FixedHeader, Property, PropertySet, QoS, Sequence, Tagged, Text, block_fits, block_len,
+    frame_size, put_block, qos, read_block, read_bytes, read_u16, start_frame,
+};
+use std::alloc::{AllocError, Global};
+
+/// The properties of a Publish (MQTT 5.0 section 3.3.2.3).
+#[derive(Debug, PartialEq, Eq, Drop)]
+pub struct PublishProperties {
+    pub payload_format_indicator: Option<u8>,
+    pub message_expiry_interval: Option<u32>,
+    pub topic_alias: Option<u16>,
+    pub response_topic: Option<Text>,
+    pub correlation_data: Option<Bytes>,
+    pub user_properties: Sequence<(Text, Text)>,
+    pub subscription_identifiers: Sequence<usize>,
+    pub content_type: Option<Text>,
+}
+
+impl Clone for PublishProperties {
+    ghost is_clone = { λ s copy. copy ≡ s };
+
+    fn clone(&self) -> Result<PublishProperties, AllocError> {
+        Ok(PublishProperties {
+            payload_format_indicator: self.payload_format_indicator,
+            message_expiry_interval: self.message_expiry_interval,
+            topic_alias: self.topic_alias,
+            response_topic: self.response_topic.clone()?,
+            correlation_data: self.correlation_data.clone()?,
+            user_properties: self.user_properties.clone()?,
+            subscription_identifiers: self.subscription_identifiers.clone()?,
+            content_type: self.content_type.clone()?,
+        })
+    }
+}
+
+impl PropertySet for PublishProperties {
+    ghost table = { publish_table };
+
+    ghost found = { publish_found };
+
+    fn empty(alloc: Global) -> PublishProperties {
+        PublishProperties {
+            payload_format_indicator: None,
+            message_expiry_interval: None,
+            topic_alias: None,
+            response_topic: None,
+            correlation_data: None,
+            user_properties: Sequence::new(alloc),
+            subscription_identifiers: Sequence::new(alloc),
+            content_type: None,
+        }
+    }
+
+    fn may_have(id: u8) -> bool {
+        matches!(id, 1 | 2 | 35 | 8 | 9 | 38 | 11 | 3)
+    }
+
+    fn add(&mut self, property: Property) -> Result<(), AllocError> {
+        match property {
+            Property::PayloadFormatIndicator(n) => self.payload_format_indicator = Some(n),
+            Property::MessageExpiryInterval(n) => self.message_expiry_interval = Some(n),
+            Property::TopicAlias(n) => self.topic_alias = Some(n),
+            Property::ResponseTopic(text) => self.response_topic = Some(text),
+            Property::CorrelationData(content) => self.correlation_data = Some(content),
+            Property::UserProperty(key, value) => self.user_properties.push((key, value))?,
+            Property::SubscriptionIdentifier(n) => self.subscription_identifiers.push(n)?,
+            Property::ContentType(text) => self.content_type = Some(text),
+            _other => {}
+        }
+        Ok(())
+    }
+
+    fn set_fits(&self) -> bool {
+        self.payload_format_indicator.values_fit()
+            && self.message_expiry_interval.values_fit()
+            && self.topic_alias.values_fit()
+            && self.response_topic.values_fit()
+            && self.correlation_data.values_fit()
+            && self.user_properties.values_fit()
+            && self.subscription_identifiers.values_fit()
+            && self.content_type.values_fit()
+    }
+
+    fn set_len(&self) -> usize {
+        self.payload_format_indicator
+            .values_len(1)
+            .saturating_add(self.message_expiry_interval.values_len(2))
+            .saturating_add(self.topic_alias.values_len(35))
+            .saturating_add(self.response_topic.values_len(8))
+            .saturating_add(self.correlation_data.values_len(9))
+            .saturating_add(self.user_properties.values_len(38))
+            .saturating_add(self.subscription_identifiers.values_len(11))
+            .saturating_add(self.content_type.values_len(3))
+    }
+
+    fn put_set(&self, out: &mut BytesMut) {
+        self.payload_format_indicator.put_values(1, out);
+        self.message_expiry_interval.put_values(2, out);
+        self.topic_alias.put_values(35, out);
+        self.response_topic.put_values(8, out);
+        self.correlation_data.put_values(9, out);
+        self.user_properties.put_values(38, out);
+        self.subscription_identifiers.put_values(11, out);
+        self.content_type.put_values(3, out);
+    }
+
+    fn set_known(&self) {
+        self.payload_format_indicator.values_known();
+        self.message_expiry_interval.values_known();
+        self.topic_alias.values_known();
+        self.response_topic.values_known();
+        self.correlation_data.values_known();
+        self.user_properties.values_known();
+        self.subscription_identifiers.values_known();
+        self.content_type.values_known();
+    }
+}
+
+/// A Publish (MQTT 5.0 section 3.3).
+#[derive(Debug, Clone, PartialEq, Eq, Drop)]
+pub struct Publish {
+    pub dup: bool,
+    pub qos: QoS,
+    pub retain: bool,
+    pub topic: Bytes,
+    pub pkid: u16,
+    pub payload: Bytes,
+    pub properties: Option<PublishProperties>,
+}
+
+/// The packet identifier, where the QoS is 1 or 2; else 0.
+fn read_pkid(qos: QoS, stream: &mut Bytes) -> Result<u16, Error>
+    ensures { Gives (λ n. (plain (number n), stream.new)) result (optional_at (nat_lt 0 (qos_number qos)) publish_id (plain (number 0)) stream.old) }
+{
+    if qos == QoS::AtMostOnce {
+        return Ok(0);
+    }
+    let pkid = read_u16(stream)?;
+    if pkid == 0 {
+        return Err(Error::PacketIdZero);
+    }
+    Ok(pkid)
+}
+
+/// The QoS of the first byte.
+fn read_qos(byte1: u8) -> Result<QoS, Error>
+    ensures { Gives (λ q. number (qos_number q)) result (judged is_qos bad_qos (number (byte1 / 2 % 4))) }
+{
+    let num = byte1 / 2 % 4;
+    qos(num).ok_or(Error::InvalidQoS(num))
+}
+
+impl Publish {
+    /// The Publish of a frame's bytes. E7 of a QoS of 3, E9 of a packet identifier 0 where the QoS is
+    /// 1 or 2, E14 to E18 of a field that can't be read; E21.
+    #[tactic(auto, using(crate::proofs::Bits::bit_of_mod))]
+    pub fn read(alloc: Global, header: FixedHeader, bytes: Bytes) -> Result<Publish, Error>
+        requires { length bytes ≡ header.fixed_header_len + header.remaining_len }
+        ensures { Gives (λ p. content_of_packet (publish_packet p)) result (values_in publish_row header.byte1 header.remaining_len (drop header.fixed_header_len bytes)) }
+    {
+        let mut stream = bytes;
+        stream.advance(header.fixed_header_len);
+        let qos = read_qos(header.byte1)?;
+        let topic = read_bytes(&mut stream)?;
+        let pkid = read_pkid(qos, &mut stream)?;
+        let properties = read_block(alloc, &mut stream)?;
+        Ok(Publish {
+            dup: header.byte1 / 8 % 2 == 1,
+            qos,
+            retain: header.byte1 % 2 == 1,
+            topic,
+            pkid,
+            payload: stream,
+            properties,
+        })
+    }
+}
