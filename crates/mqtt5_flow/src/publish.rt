@@ -1,11 +1,11 @@
 //! A message.
 
 ghost use Rattle.std.specs.Prelude.{◌≡◌, ◌+◌, ◌≤◌, ◌/◌, ◌%◌, ◌<◌, nat_lt, true, drop, length, min, option_map};
-ghost use Rattle.mqtt5_base.specs.Grammar.{plain, number, bad_qos, is_qos};
+ghost use Rattle.mqtt5_base.specs.Grammar.{plain, number, content, bytes, bad_qos, is_qos};
 ghost use Rattle.mqtt5_base.specs.Reading.{Gives, optional_at, judged, values_in};
 ghost use Rattle.mqtt5_base.specs.Views.{bit, qos_number};
 ghost use Rattle.mqtt5_base.specs.Puts.{Puts, Writes};
-ghost use Rattle.mqtt5_base.specs.Layout.{block_fits, body_bytes, layout, writing, content_of_packet};
+ghost use Rattle.mqtt5_base.specs.Layout.{atom_fits, block_fits, body_bytes, layout, writing, content_of_packet};
 ghost use Rattle.mqtt5_flow.specs.Rows.{publish_table, publish_id, publish_row};
 ghost use Rattle.mqtt5_flow.specs.Publishes.{publish_found, publish_first, publish_packet};
 
@@ -186,5 +186,64 @@ impl Publish {
             payload: stream,
             properties,
         })
+    }
+
+    fn body_len(&self) -> usize
+        ensures { result ≡ min (length (body_bytes publish_row (publish_packet self.now))) usize.MAX }
+    {
+        let id_len: usize = if self.qos == QoS::AtMostOnce || self.pkid == 0 { 0 } else { 2 };
+        self.topic
+            .field_len()
+            .saturating_add(id_len)
+            .saturating_add(block_len(&self.properties))
+            .saturating_add(self.payload.len())
+    }
+
+    fn first_byte(&self) -> u8
+        ensures { result ≡ publish_first self.now }
+    {
+        let dup: u8 = if self.dup { 8 } else { 0 };
+        let retain: u8 = if self.retain { 1 } else { 0 };
+        0x30 + dup + 2 * (self.qos as u8) + retain
+    }
+
+    fn put_body(&self, out: &mut BytesMut)
+        requires short { atom_fits bytes (content self.now.topic) ≡ true }
+        requires fits { block_fits publish_table (option_map publish_found self.now.properties) ≡ true }
+        requires room { length (body_bytes publish_row (publish_packet self.now)) ≤ out.old.spare }
+        ensures { Puts out.old out.new (body_bytes publish_row (publish_packet self.now)) }
+    {
+        self.topic.put_field(out);
+        if self.qos != QoS::AtMostOnce && self.pkid != 0 {
+            self.pkid.put_field(out);
+        }
+        put_block(&self.properties, out);
+        out.extend_reserved(self.payload.as_slice());
+    }
+
+    /// Appends the Publish and answers its length. E11, E9, E21; then the buffer is unchanged.
+    pub fn write(&self, buffer: &mut BytesMut) -> Result<usize, Error>
+        ensures { Writes (writing publish_row (publish_packet self.now)) result buffer.old.items buffer.new.items }
+    {
+        if !self.topic.fits() || !block_fits(&self.properties) {
+            return Err(Error::PayloadTooLong);
+        }
+        let len = self.body_len();
+        if !len.fits() {
+            return Err(Error::PayloadTooLong);
+        }
+        if self.qos != QoS::AtMostOnce && self.pkid == 0 {
+            return Err(Error::PacketIdZero);
+        }
+        let size = start_frame(self.first_byte(), len, buffer)?;
+        self.put_body(buffer);
+        Ok(size)
+    }
+
+    /// How many bytes it takes, or the greatest `usize` where they are more. Takes no memory.
+    pub fn size(&self) -> usize
+        ensures { result ≡ min (length (layout publish_row (publish_packet self.now))) usize.MAX }
+    {
+        frame_size(self.body_len())
     }
 }
