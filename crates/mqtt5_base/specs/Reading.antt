@@ -166,3 +166,14 @@ row_values (Some row) first body = if lacks_body row body then Err PayloadRequir
 
 unfoldable pub frame_values : Rows → ℕ → List ℕ → Result Content Error
 frame_values rows first body = row_values (row_among rows (first / 16)) first body
+
+-- the body behind the remaining length
+abbrev pub body_in : Length → List ℕ → List ℕ
+body_in Overlong bs = []
+body_in Unfinished bs = []
+body_in (Finished count n) bs = drop count bs
+
+-- the values of a whole frame
+unfoldable pub frame_at : Rows → List ℕ → Result Content Error
+frame_at rows [] = Err MalformedPacket
+frame_at rows (first ∷ bs) = frame_values rows first (body_in (length_at 4 bs) bs)

@@ -3,3 +3,4 @@ pub mod Acks
 pub mod PubAcks
 pub mod Publishes
 pub mod Known
+pub mod Sound

@@ -2,6 +2,7 @@
 #![tactic(auto)]
 
 mod ack;
+mod exact;
 mod puback;
 mod publish;
 

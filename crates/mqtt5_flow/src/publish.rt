@@ -1,6 +1,6 @@
 //! A message.
 
-ghost use Rattle.std.specs.Prelude.{◌≡◌, ◌+◌, ◌≤◌, ◌/◌, ◌%◌, ◌<◌, nat_lt, true, drop, length, min, option_map};
+ghost use Rattle.std.specs.Prelude.{◌≡◌, ◌+◌, ◌≤◌, ◌/◌, ◌%◌, ◌<◌, nat_lt, true, false, IfOk, IfErr, drop, length, min, option_map};
 ghost use Rattle.mqtt5_base.specs.Grammar.{plain, number, content, bytes, bad_qos, is_qos};
 ghost use Rattle.mqtt5_base.specs.Reading.{Gives, optional_at, judged, values_in};
 ghost use Rattle.mqtt5_base.specs.Views.{bit, qos_number};
@@ -164,6 +164,29 @@ fn read_qos(byte1: u8) -> Result<QoS, Error>
 }
 
 impl Publish {
+    /// A Publish of this topic, QoS, payload and properties, without dup and retain and with packet
+    /// identifier 0. E21.
+    pub fn new(
+        alloc: Global,
+        topic: &str,
+        qos: QoS,
+        payload: Bytes,
+        properties: Option<PublishProperties>,
+    ) -> Result<Publish, Error>
+        ensures ok { IfOk result (λ p. p ≡ record { dup = false; qos = qos; retain = false; topic = topic.now; pkid = 0; payload = payload; properties = properties }) }
+        ensures err { IfErr result (λ e. e ≡ Error.OutOfMemory) }
+    {
+        Ok(Publish {
+            dup: false,
+            qos,
+            retain: false,
+            topic: Bytes::copy_from_slice(alloc, topic.as_bytes())?,
+            pkid: 0,
+            payload,
+            properties,
+        })
+    }
+
     /// The Publish of a frame's bytes. E7 of a QoS of 3, E9 of a packet identifier 0 where the QoS is
     /// 1 or 2, E14 to E18 of a field that can't be read; E21.
     #[tactic(auto, using(crate::proofs::Bits::bit_of_mod))]
