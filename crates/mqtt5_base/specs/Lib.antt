@@ -15,3 +15,4 @@ pub mod VarInt
 pub mod Views
 pub mod Sound
 pub mod Items
+pub mod Tidy

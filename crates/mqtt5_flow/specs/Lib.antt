@@ -4,3 +4,4 @@ pub mod PubAcks
 pub mod Publishes
 pub mod Known
 pub mod Sound
+pub mod Norms

@@ -1,0 +1,4 @@
+pub mod Packets
+pub mod Codecs
+pub mod Sound
+pub mod Norms

@@ -1,0 +1,23 @@
+-- What a packet is read as after it was written.
+use Rattle.std.specs.Prelude.{◌≡◌, ℕ, ◌≤◌, List, ◌++◌, length, Option, Some, None, Result, Ok}
+use Rattle.mqtt5_base.specs.Front.{Whole, front}
+use Rattle.mqtt5_base.specs.Layout.{body_bytes}
+use Rattle.mqtt5_flow.specs.Norms.{publish_norm, puback_norm}
+use Rattle.mqtt5_codec.specs.declared.packet.Packet.{Packet}
+use Rattle.mqtt5_codec.specs.declared.packet.Packet.TheVariants as packets
+use Rattle.mqtt5_codec.specs.Packets.{packet_row, written_packet, packet_writing, packet_in}
+
+-- empty property sets are none, and a Publish of QoS 0 has identifier 0
+abbrev pub norm : Packet → Packet
+norm (packets.Publish p) = packets.Publish (publish_norm p)
+norm (packets.PubAck p) = packets.PubAck (puback_norm p)
+
+-- a limit that admits a remaining length
+abbrev pub Admits : Option ℕ → ℕ → Type 0
+Admits None n = Unit {0}
+Admits (Some max) n = n ≤ max
+
+-- What is written for a packet is a whole frame of its norm, whatever follows, under a limit that admits it.
+pub record IsReadBack (p : Packet) : Type 0 where
+  pub again : (limit : Option ℕ) (bytes rest : List ℕ) → packet_writing p ≡ Ok bytes → Admits limit (length (body_bytes (packet_row p) (written_packet p))) → (front limit (bytes ++ rest) ≡ Whole bytes rest) × (packet_in bytes ≡ Ok (norm p))
+  pub once : norm (norm p) ≡ norm p

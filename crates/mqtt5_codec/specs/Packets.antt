@@ -1,0 +1,73 @@
+-- Packets of every type that is read and written, and their frames (MQTT 5.0 section 2).
+use Rattle.std.specs.Prelude.{◌≡◌, ℕ, ◌/◌, ◌==◌, List, [], ◌∷◌, length, Option, Some, None, Result, Ok, Err, nat_lt, min, if◌then◌else◌}
+use Rattle.mqtt5_base.specs.declared.error.Error.{Error}
+use Rattle.mqtt5_base.specs.declared.error.Error.TheVariants.{OutgoingPacketTooLarge}
+use Rattle.mqtt5_base.specs.Grammar.{Row, Content}
+use Rattle.mqtt5_base.specs.Frames.{Rows, IsWhole, IsFrame, FrameFault}
+use Rattle.mqtt5_base.specs.Reading.{◌>>=◌, frame_at}
+use Rattle.mqtt5_base.specs.Layout.{WrittenPacket, content_of_packet, layout, writing}
+use Rattle.mqtt5_flow.specs.Rows.{publish_row, puback_row}
+use Rattle.mqtt5_flow.specs.Publishes.{publish_packet, publish_of}
+use Rattle.mqtt5_flow.specs.PubAcks.{puback_packet, puback_of}
+use Rattle.mqtt5_codec.specs.declared.packet.Packet.{Packet}
+use Rattle.mqtt5_codec.specs.declared.packet.Packet.TheVariants as packets
+
+-- the row of each packet type that is built (2.1.2); a type without one isn't read
+abbrev pub packet_rows : Rows
+packet_rows = (3, publish_row) ∷ (4, puback_row) ∷ []
+
+-- ---- a packet and its frame
+
+abbrev pub packet_type : Packet → ℕ
+packet_type (packets.Publish p) = 3
+packet_type (packets.PubAck p) = 4
+
+abbrev pub packet_row : Packet → Row
+packet_row (packets.Publish p) = publish_row
+packet_row (packets.PubAck p) = puback_row
+
+-- the packet as it is written
+abbrev pub written_packet : Packet → WrittenPacket
+written_packet (packets.Publish p) = publish_packet p
+written_packet (packets.PubAck p) = puback_packet p
+
+-- the packet as the values of its row
+abbrev pub packet_content : Packet → Content
+packet_content p = content_of_packet (written_packet p)
+
+-- The whole frame is of that packet: its first byte has the packet's type, and its body is the packet's by its row.
+abbrev pub IsFrameOf : List ℕ → Packet → Type 0
+IsFrameOf frame p = (first : ℕ) × (body : List ℕ) × IsWhole frame first body × (first / 16 ≡ packet_type p) × IsFrame packet_rows first body (packet_content p)
+
+-- the first fault of a whole frame
+abbrev pub IsFaultOf : List ℕ → Error → Type 0
+IsFaultOf frame e = (first : ℕ) × (body : List ℕ) × IsWhole frame first body × FrameFault packet_rows first body e
+
+-- ---- writing
+
+-- how many bytes a packet takes
+abbrev pub packet_len : Packet → ℕ
+packet_len p = length (layout (packet_row p) (written_packet p))
+
+-- a packet's bytes, or why it isn't writable
+abbrev pub packet_writing : Packet → Result (List ℕ) Error
+packet_writing p = writing (packet_row p) (written_packet p)
+
+-- the same under a limit on the whole frame, which is judged first
+abbrev pub writing_under : Option ℕ → Packet → Result (List ℕ) Error
+writing_under None p = packet_writing p
+writing_under (Some max) p = if nat_lt max (packet_len p) then Err (OutgoingPacketTooLarge (min (packet_len p) 4294967295) max) else packet_writing p
+
+-- ---- reading, as a function of the frame
+
+-- a packet from its type and its values
+abbrev pub packet_of : ℕ → Content → Packet
+packet_of kind c = if kind == 4 then packets.PubAck (puback_of c) else packets.Publish (publish_of c)
+
+abbrev pub first_of : List ℕ → ℕ
+first_of [] = 0
+first_of (b ∷ bs) = b
+
+-- the packet of a whole frame, or its fault
+unfoldable pub packet_in : List ℕ → Result Packet Error
+packet_in frame = frame_at packet_rows frame >>= λ c. Ok (packet_of (first_of frame / 16) c)

@@ -1,0 +1,13 @@
+-- This file serves the logic alone: the derived `==` of packets finds equal values alone.
+use Rattle.std.specs.Prelude.{◌≡◌, true}
+use Rattle.std.proofs.Common.{ap}
+use Rattle.mqtt5_base.specs.Sound.{Sound}
+use Rattle.mqtt5_flow.specs.Sound.{publish_sound, puback_sound}
+use Rattle.mqtt5_codec.specs.declared.packet.Packet.{Packet}
+use Rattle.mqtt5_codec.specs.declared.packet.Packet.TheVariants as packets
+use Rattle.mqtt5_codec.specs.contracts.packet.PacketPartialEq.TheImpl as packet
+
+pub packet_sound : Sound packet.eq-value.it
+packet_sound (packets.Publish x) (packets.Publish y) h = ap (λ z. packets.Publish z) (publish_sound x y h)
+packet_sound (packets.PubAck x) (packets.PubAck y) h = ap (λ z. packets.PubAck z) (puback_sound x y h)
+packet_sound x y h = absurd cc

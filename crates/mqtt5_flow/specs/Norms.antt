@@ -1,0 +1,21 @@
+-- What Publish and PubAck are read as after they were written.
+use Rattle.std.specs.Prelude.{ℕ}
+use Rattle.mqtt5_base.specs.declared.quality.QoS.{QoS}
+use Rattle.mqtt5_base.specs.declared.quality.QoS.TheVariants.{AtMostOnce, AtLeastOnce, ExactlyOnce}
+use Rattle.mqtt5_base.specs.Tidy.{tidy}
+use Rattle.mqtt5_flow.specs.declared.puback.PubAck.{PubAck}
+use Rattle.mqtt5_flow.specs.declared.publish.Publish.{Publish}
+use Rattle.mqtt5_flow.specs.PubAcks.{puback_found}
+use Rattle.mqtt5_flow.specs.Publishes.{publish_found}
+
+abbrev pub puback_norm : PubAck → PubAck
+puback_norm p = record { pkid = p.pkid; reason = p.reason; properties = tidy puback_found p.properties }
+
+-- a Publish of QoS 0 has no packet identifier
+abbrev pub norm_id : QoS → ℕ → ℕ
+norm_id AtMostOnce id = 0
+norm_id AtLeastOnce id = id
+norm_id ExactlyOnce id = id
+
+abbrev pub publish_norm : Publish → Publish
+publish_norm p = record { dup = p.dup; qos = p.qos; retain = p.retain; topic = p.topic; pkid = norm_id p.qos p.pkid; payload = p.payload; properties = tidy publish_found p.properties }
