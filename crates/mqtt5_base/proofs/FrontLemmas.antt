@@ -4,7 +4,7 @@ use Rattle.std.proofs.Math.Seq.{take-add}
 use Rattle.std.proofs.lemmas.Bool.{cases_lt, le-ltb, lt-ltb}
 use Rattle.std.proofs.lemmas.List.{drop-append-le, drop-take, drop_all, length-append, length-drop, length-take-le, take-append-drop, take-append-le, take_rest}
 use Rattle.mqtt5_base.specs.declared.error.Error.{Error}
-use Rattle.mqtt5_base.specs.declared.error.Error.TheVariants.{PayloadSizeLimitExceeded}
+use Rattle.mqtt5_base.specs.declared.error.Error.TheVariants.{PayloadSizeLimitExceeded, OutOfMemory}
 use Rattle.mqtt5_base.specs.declared.header.FixedHeader.{FixedHeader}
 use Rattle.mqtt5_base.specs.Frames.{IsWhole}
 use Rattle.mqtt5_base.specs.Front.{Front, Bad, More, Whole, cut, within, by_remaining, front, IsFront}
@@ -250,3 +250,28 @@ front_is limit = record {
   tight = front_tight limit;
   wants = front_wants limit;
 }
+
+-- ---- no want of memory
+
+abbrev NoMemory : Front → Type 0
+NoMemory f = f ≡ Bad OutOfMemory → ⊥
+
+cut_no_memory : (t : Bool) (n : ℕ) (frame rest : List ℕ) → NoMemory (cond t (More n) (Whole frame rest))
+cut_no_memory true n frame rest h = cc
+cut_no_memory false n frame rest h = cc
+
+limit_no_memory : (t : Bool) (n max : ℕ) (f : Front) → NoMemory f → NoMemory (cond t (Bad (PayloadSizeLimitExceeded n max)) f)
+limit_no_memory true n max f none h = cc
+limit_no_memory false n max f none h = none h
+
+remaining_no_memory : (limit : Option ℕ) (l : Length) (s : List ℕ) → NoMemory (by_remaining limit l s)
+remaining_no_memory limit Overlong s h = cc
+remaining_no_memory limit Unfinished s h = cc
+remaining_no_memory None (Finished count n) s h = cut_no_memory (ltb (length s) (1 + count + n)) _ _ _ h
+remaining_no_memory (Some max) (Finished count n) s h = limit_no_memory (ltb max n) n max (cut (1 + count + n) s) (cut_no_memory (ltb (length s) (1 + count + n)) _ _ _) h
+
+-- a front is never want of memory
+pub front_no_memory : (limit : Option ℕ) (s : List ℕ) → front limit s ≡ Bad OutOfMemory → ⊥
+unfolding front
+front_no_memory limit [] h = cc
+front_no_memory limit (b ∷ bs) h = remaining_no_memory limit (length_at 4 bs) (b ∷ bs) h

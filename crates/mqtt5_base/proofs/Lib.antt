@@ -15,3 +15,5 @@ pub mod BlockLaws
 pub mod StepLaws
 pub mod PartLaws
 pub mod FrameLaws
+pub mod HeaderLemmas
+pub mod ViewsBack

@@ -1,0 +1,3 @@
+pub mod CodecLemmas
+pub mod PacketBack
+pub mod ReadingLemmas

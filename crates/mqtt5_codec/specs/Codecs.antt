@@ -1,5 +1,5 @@
 -- What reading a packet from a stream and writing one to a buffer answer.
-use Rattle.std.specs.Prelude.{◌≡◌, ℕ, List, ◌++◌, length, Option, Some, None, Result, Ok, Err, ◌⊎◌}
+use Rattle.std.specs.Prelude.{◌≡◌, ℕ, List, ◌++◌, length, take, drop, Option, Some, None, Result, Ok, Err, ◌⊎◌}
 use Rattle.mqtt5_base.specs.declared.error.Error.{Error}
 use Rattle.mqtt5_base.specs.declared.error.Error.TheVariants as errors
 use Rattle.mqtt5_base.specs.Front.{Front, Bad, More, Whole, front, front_of_error}
@@ -30,3 +30,9 @@ Decodes (Err e) limit old new =
 abbrev pub Encodes : Result Unit Error → Result (List ℕ) Error → List ℕ → List ℕ → Type 0
 Encodes (Ok done) value old new = (bytes : List ℕ) × (value ≡ Ok bytes) × (new ≡ old ++ bytes)
 Encodes (Err e) value old new = (new ≡ old) × (((e ≡ errors.OutOfMemory) × ((bytes : List ℕ) × (value ≡ Ok bytes))) ⊎ (value ≡ Err e))
+
+-- A frame of so many bytes was taken out and read, or, for want of memory, perhaps neither.
+abbrev pub TakesFrame : ℕ → Result Packet Error → List ℕ → List ℕ → Type 0
+TakesFrame n (Ok p) old new = (packet_in (take n old) ≡ Ok p) × (new ≡ drop n old)
+TakesFrame n (Err e) old new =
+    ((e ≡ errors.OutOfMemory) × ((new ≡ old) ⊎ (new ≡ drop n old))) ⊎ ((packet_in (take n old) ≡ Err e) × (new ≡ drop n old))

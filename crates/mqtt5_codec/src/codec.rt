@@ -1,9 +1,40 @@
 //! The codec of a stream of packets.
 
+ghost use Rattle.mqtt5_codec.specs.Packets.{writing_under};
+ghost use Rattle.mqtt5_codec.specs.Codecs.{Decodes, Encodes};
+
+use crate::packet::Packet;
+use crate::reading::take_frame;
+use bytes::BytesMut;
+use mqtt5_base::{Error, check};
+use std::alloc::Global;
+
 /// Limits on the frames of a stream, in bytes: on the remaining length of what comes in, and on whole
 /// frames that go out.
 #[derive(Debug, Clone, PartialEq, Eq, Drop)]
 pub struct Codec {
     pub max_incoming_size: Option<u32>,
     pub max_outgoing_size: Option<u32>,
+}
+
+impl Codec {
+    /// Takes the frame at the front of the stream out and answers its packet, or None, with the stream
+    /// unchanged, where more bytes are needed. Errors as of `Packet::read`, but E19.
+    pub fn decode(&self, alloc: Global, stream: &mut BytesMut) -> Result<Option<Packet>, Error>
+        ensures { Decodes result self.now.max_incoming_size stream.old.items stream.new.items }
+    {
+        match check(stream.as_slice(), self.max_incoming_size) {
+            Ok(header) => Ok(Some(take_frame(alloc, header, stream)?)),
+            Err(Error::InsufficientBytes(_)) => Ok(None),
+            Err(error) => Err(error),
+        }
+    }
+
+    /// Appends the packet's frame. Errors as of `Packet::write`; the buffer is then unchanged.
+    pub fn encode(&self, packet: &Packet, buffer: &mut BytesMut) -> Result<(), Error>
+        ensures { Encodes result (writing_under self.now.max_outgoing_size packet.now) buffer.old.items buffer.new.items }
+    {
+        packet.write(buffer, self.max_outgoing_size)?;
+        Ok(())
+    }
 }

@@ -1,10 +1,68 @@
 //! Packets of every type.
 
+use crate::reading::take_frame;
+use bytes::BytesMut;
+use mqtt5_base::{Error, check};
 use mqtt5_flow::{PubAck, Publish};
+use std::alloc::Global;
 
 /// A packet.
 #[derive(Debug, Clone, PartialEq, Eq, Drop)]
 pub enum Packet {
     Publish(Publish),
     PubAck(PubAck),
+}
+
+impl Packet {
+    ghost use Rattle.std.specs.Prelude.{◌≡◌, length, min};
+    ghost use Rattle.mqtt5_base.specs.Puts.{Writes};
+    ghost use Rattle.mqtt5_codec.specs.Packets.{packet_len, packet_writing, writing_under};
+    ghost use Rattle.mqtt5_codec.specs.Codecs.{ReadsPacket};
+
+    /// Takes the frame at the front of the stream out and answers its packet. E12, E17 or E19 of
+    /// `check`, with the stream unchanged; E5 of a type that isn't read, E13 of one without the body
+    /// that it needs, or the first fault of its fields, with just the frame taken out; E21 does one of
+    /// the two.
+    pub fn read(alloc: Global, stream: &mut BytesMut, max_size: Option<u32>) -> Result<Packet, Error>
+        ensures { ReadsPacket result max_size stream.old.items stream.new.items }
+    {
+        let header = check(stream.as_slice(), max_size)?;
+        take_frame(alloc, header, stream)
+    }
+
+    /// How many bytes the packet takes, or the greatest `usize` where they are more. Takes no memory.
+    pub fn size(&self) -> usize
+        ensures { result ≡ min (packet_len self.now) usize.MAX }
+    {
+        match self {
+            Packet::Publish(publish) => publish.size(),
+            Packet::PubAck(ack) => ack.size(),
+        }
+    }
+
+    fn write_frame(&self, buffer: &mut BytesMut) -> Result<usize, Error>
+        ensures { Writes (packet_writing self.now) result buffer.old.items buffer.new.items }
+    {
+        match self {
+            Packet::Publish(publish) => publish.write(buffer),
+            Packet::PubAck(ack) => ack.write(buffer),
+        }
+    }
+
+    /// Appends the packet and answers its length. E20 where it is over the limit, with its size or the
+    /// greatest `u32`; E11, E9; E21. The buffer is then unchanged.
+    pub fn write(&self, buffer: &mut BytesMut, max_size: Option<u32>) -> Result<usize, Error>
+        ensures { Writes (writing_under max_size self.now) result buffer.old.items buffer.new.items }
+    {
+        if let Some(max) = max_size {
+            let size = self.size();
+            if size > max as usize {
+                return Err(Error::OutgoingPacketTooLarge {
+                    pkt_size: u32::try_from(size).unwrap_or(u32::MAX),
+                    max,
+                });
+            }
+        }
+        self.write_frame(buffer)
+    }
 }

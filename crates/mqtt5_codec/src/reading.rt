@@ -1,10 +1,10 @@
 //! A packet from the front of a stream.
 
-ghost use Rattle.std.specs.Prelude.{◌≡◌, ◌/◌, ◌<◌, drop, IfOk, MatchResult};
-ghost use Rattle.mqtt5_base.specs.Headers.{IsHeader};
+ghost use Rattle.std.specs.Prelude.{◌≡◌, ◌/◌, ◌<◌, ◌≤◌, length, take, drop, IfOk, MatchResult};
+ghost use Rattle.mqtt5_base.specs.Headers.{IsHeader, frame_len};
 ghost use Rattle.mqtt5_base.specs.Reading.{Gives, frame_values};
 ghost use Rattle.mqtt5_codec.specs.Packets.{packet_rows, packet_type, packet_content, packet_in};
-ghost use Rattle.mqtt5_codec.specs.Codecs.{ReadsPacket};
+ghost use Rattle.mqtt5_codec.specs.Codecs.{TakesFrame};
 
 use crate::packet::Packet;
 use bytes::{Bytes, BytesMut};
@@ -53,4 +53,22 @@ fn read_body(alloc: Global, header: FixedHeader, frame: Bytes) -> Result<Packet,
         }
         _other => Err(Error::InvalidPacketType(header.byte1 / 16)),
     }
+}
+
+/// The packet of a whole frame.
+fn read_frame(alloc: Global, header: FixedHeader, frame: Bytes) -> Result<Packet, Error>
+    requires { IsHeader header frame }
+    ensures { Gives (λ p. p) result (packet_in frame) }
+{
+    read_body(alloc, header, frame)
+}
+
+/// Takes the frame of this header out of the stream and reads it.
+pub(crate) fn take_frame(alloc: Global, header: FixedHeader, stream: &mut BytesMut) -> Result<Packet, Error>
+    requires whole { frame_len header ≤ length stream.old.items }
+    requires header { IsHeader header (take (frame_len header) stream.old.items) }
+    ensures { TakesFrame (frame_len header) result stream.old.items stream.new.items }
+{
+    let frame = stream.freeze_to(header.frame_length())?;
+    read_frame(alloc, header, frame)
 }

@@ -1,2 +1,3 @@
 pub mod AckLemmas
 pub mod Bits
+pub mod PacketsBack
