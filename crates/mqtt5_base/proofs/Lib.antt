@@ -17,3 +17,5 @@ pub mod PartLaws
 pub mod FrameLaws
 pub mod HeaderLemmas
 pub mod ViewsBack
+pub mod SetShapes
+pub mod FieldShapes

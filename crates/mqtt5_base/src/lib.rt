@@ -14,6 +14,8 @@ mod quality;
 mod sequence;
 mod stream;
 mod tagged;
+#[cfg(test)]
+mod tests;
 mod text;
 mod value;
 

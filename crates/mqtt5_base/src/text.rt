@@ -46,7 +46,8 @@ impl Text {
     pub fn into_string(self) -> String
         ensures { string_bytes result ≡ self.bytes }
     {
-        self.text
+        let Text { text } = self;
+        text
     }
 }
 
@@ -74,7 +75,7 @@ impl PartialEq for Text {
     ghost laws = { partial_equiv_from_equiv (on_texts_equal (λ t. t.bytes)) };
 
     fn eq(&self, other: &Self) -> bool {
-        self.text.as_bytes() == other.text.as_bytes()
+        self.as_bytes() == other.as_bytes()
     }
 }
 

@@ -115,14 +115,11 @@ pub fn varint_len(n: usize) -> usize
     ensures value { result ≡ length (var_int n) }
     ensures small { result ≤ 4 }
 {
-    if n < 128 {
-        1
-    } else if n < 16_384 {
-        2
-    } else if n < 2_097_152 {
-        3
-    } else {
-        4
+    match n {
+        0..=127 => 1,
+        128..=16_383 => 2,
+        16_384..=2_097_151 => 3,
+        _ => 4,
     }
 }
 

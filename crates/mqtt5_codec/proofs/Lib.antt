@@ -1,3 +1,4 @@
 pub mod CodecLemmas
-pub mod PacketBack
+pub mod FrameLemmas
+pub mod FrameLaws
 pub mod ReadingLemmas

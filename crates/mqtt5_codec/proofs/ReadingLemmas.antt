@@ -9,11 +9,8 @@ use Rattle.mqtt5_base.specs.Reading.{◌>>=◌, Gives, frame_at, frame_values}
 use Rattle.mqtt5_base.proofs.HeaderLemmas.{frame_at_header}
 use Rattle.mqtt5_codec.specs.declared.packet.Packet.{Packet}
 use Rattle.mqtt5_codec.specs.Packets.{packet_rows, packet_type, packet_content, packet_of, first_of, packet_in}
-use Rattle.mqtt5_codec.proofs.PacketBack.{packet_back}
-
--- a frame begins with its header's first byte
-pub first_of_header : (h : FixedHeader) (frame : List ℕ) → IsHeader h frame → first_of frame ≡ h.byte1
-first_of_header h frame is = ap first_of is.whole.1
+use Rattle.mqtt5_codec.proofs.FrameLemmas.{first_of_header}
+use Rattle.mqtt5_codec.proofs.FrameLaws.{packet_back}
 
 -- the packet of a frame is that of its body's values
 packet_in_header : (h : FixedHeader) (frame : List ℕ) → IsHeader h frame → packet_in frame ≡ (frame_values packet_rows h.byte1 (drop h.fixed_header_len frame) >>= λ c. Ok (packet_of (h.byte1 / 16) c))

@@ -2,3 +2,4 @@ pub mod Packets
 pub mod Codecs
 pub mod Sound
 pub mod Norms
+pub mod Laws

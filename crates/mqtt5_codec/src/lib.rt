@@ -3,8 +3,12 @@
 
 mod codec;
 mod exact;
+mod frames;
 mod packet;
 mod reading;
+#[cfg(test)]
+mod tests;
 
 pub use codec::Codec;
+pub use frames::frame_laws;
 pub use packet::Packet;
