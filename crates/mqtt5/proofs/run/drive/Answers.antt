@@ -1,0 +1,12 @@
+use Rattle.std.proofs.Common.{◌≡◌, ap, drop, [], arith, length, subst, List}
+use Rattle.std.proofs.lemmas.List.{drop_all}
+use Rattle.mqtt5.specs.declared.run.Step.{Step}
+use Rattle.mqtt5.specs.Course.{LeadsTo}
+use Rattle.mqtt5.specs.Run.{run, atoms}
+use Rattle.mqtt5.proofs.Taking.{ended}
+use Rattle.mqtt5.proofs.run.drive.Goals as goal
+
+pub returns-clause-ok : goal.returns-clause-ok
+returns-clause-ok c =
+    let none : drop c.loop-step.step-index c.args.steps.now ≡ [] = drop_all c.loop-step.step-index c.args.steps.now (omega arith) in
+    ended _ _ _ _ _ _ _ (rw none at c.loop-step.invariant.leads)

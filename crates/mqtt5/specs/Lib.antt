@@ -1,0 +1,9 @@
+pub mod Errors
+pub mod Rising
+pub mod Held
+pub mod Table
+pub mod Codes
+pub mod Session
+pub mod Course
+pub mod Run
+pub mod Sound

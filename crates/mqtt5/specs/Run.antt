@@ -1,0 +1,94 @@
+-- The run of a client over pieces of bytes and requests, a byte at a time.
+use Rattle.std.specs.Prelude.{◌≡◌, ℕ, ◌⊎◌, List, [], ◌∷◌, ◌++◌, Option, Some, None, Result, Ok, Err}
+use Rattle.mqtt5_base.specs.declared.error.Error.{Error}
+use Rattle.mqtt5_base.specs.Front.{Front, Bad, More, Whole, front}
+use Rattle.mqtt5_codec.specs.declared.packet.Packet.{Packet}
+use Rattle.mqtt5_codec.specs.declared.codec.Codec.{Codec}
+use Rattle.mqtt5_codec.specs.Packets.{packet_in, writing_under}
+use Rattle.mqtt5.specs.Session.{Session, Answer, out, inc}
+use Rattle.mqtt5.specs.Errors.{state_error}
+use Rattle.mqtt5.specs.declared.event.Request.{Request}
+use Rattle.mqtt5.specs.declared.error.StateError.{StateError}
+use Rattle.mqtt5.specs.declared.error.StateError.TheVariants as faults
+use Rattle.mqtt5.specs.declared.run.Step.{Step}
+use Rattle.mqtt5.specs.declared.run.Input.{Input}
+use Rattle.mqtt5.specs.declared.run.Input.TheVariants as inputs
+use Rattle.mqtt5.specs.Course.{Course, Rests, Faults, Moves, LeadsTo, Stops}
+
+-- what the run takes, one after another: a byte or a request, with its moment
+pub data Atom : Type 0 where
+  Byte : (at b : ℕ) → Atom
+  Ask : (at : ℕ) (request : Request) → Atom
+
+abbrev pub bytes_of : ℕ → List ℕ → List Atom
+bytes_of at [] = []
+bytes_of at (b ∷ bytes) = Byte at b ∷ bytes_of at bytes
+
+abbrev pub of_input : ℕ → Input → List Atom
+of_input at (inputs.Bytes piece) = bytes_of at piece
+of_input at (inputs.Request request) = Ask at request ∷ []
+
+abbrev pub atoms : List Step → List Atom
+atoms [] = []
+atoms (step ∷ steps) = of_input step.at step.input ++ atoms steps
+
+-- the bytes of a reply, or why it isn't written
+abbrev pub reply_bytes : Codec → Option Packet → Result (List ℕ) Error
+reply_bytes codec None = Ok []
+reply_bytes codec (Some p) = writing_under codec.max_outgoing_size p
+
+-- the reply is written, or its refusal ends the run
+abbrev pub answered : Session → Result (List ℕ) Error → (Session → Course) → Course
+answered s (Ok bytes) goes_on = Moves s bytes (goes_on s)
+answered s (Err e) goes_on = Moves s [] (Faults (state_error e))
+
+-- a fault of the session ends the run
+abbrev pub moved : Codec → Session → Result (Option Packet) StateError → (Session → Course) → Course
+moved codec s (Ok reply) goes_on = answered s (reply_bytes codec reply) goes_on
+moved codec s (Err e) goes_on = Moves s [] (Faults e)
+
+abbrev pub stepped : Codec → Answer → (Session → Course) → Course
+stepped codec a goes_on = moved codec a.1 a.0 goes_on
+
+-- the packet of a whole frame goes to the session, or its fault ends the run
+abbrev pub received : Codec → ℕ → Session → Result Packet Error → (Session → Course) → Course
+received codec at s (Ok p) goes_on = stepped codec (inc s p at) goes_on
+received codec at s (Err e) goes_on = Faults (state_error e)
+
+-- the front of the bytes held is looked at: more are awaited, a whole frame is taken out, or a bad one ends the run
+abbrev pub looked : Codec → ℕ → Session → List ℕ → Front → (Session → List ℕ → Course) → Course
+looked codec at s held (Bad e) goes_on = Faults (state_error e)
+looked codec at s held (More n) goes_on = goes_on s held
+looked codec at s held (Whole frame rest) goes_on = received codec at s (packet_in frame) (λ t. goes_on t rest)
+
+-- from a session and the bytes held
+unfoldable pub run : Codec → List Atom → Session → List ℕ → Course
+run codec [] s held = Rests held
+run codec (Byte at b ∷ rest) s held =
+    looked codec at s (held ++ b ∷ []) (front codec.max_incoming_size (held ++ b ∷ [])) (λ t left. run codec rest t left)
+run codec (Ask at request ∷ rest) s held = stepped codec (out s request at) (λ t. run codec rest t held)
+
+-- a front that needs more bytes
+abbrev pub IsMore : Front → Type 0
+IsMore f = (n : ℕ) × (f ≡ More n)
+
+abbrev pub piece : ℕ → List ℕ → Step
+piece at bytes = record { at = at; input = inputs.Bytes bytes }
+
+-- ---- The words from here on serve the logic alone.
+
+-- one move, whatever comes after
+abbrev pub Goes : Result Unit StateError → Codec → Answer → Session → List ℕ → Session → List ℕ → Type 0
+Goes (Ok done) codec a s o t u = (goes_on : Session → Course) → LeadsTo s o (stepped codec a goes_on) t u (goes_on t)
+Goes (Err e) codec a s o t u = (goes_on : Session → Course) → Stops e s o (stepped codec a goes_on) t u
+
+-- a reply is put at the end, or nothing is
+abbrev pub Replies : Result Unit StateError → Result (List ℕ) Error → List ℕ → List ℕ → Type 0
+Replies (Ok done) value old new = (bytes : List ℕ) × (value ≡ Ok bytes) × (new ≡ old ++ bytes)
+Replies (Err e) value old new =
+    (new ≡ old) × (((e ≡ faults.OutOfMemory) × ((bytes : List ℕ) × (value ≡ Ok bytes))) ⊎ ((f : Error) × (value ≡ Err f) × (e ≡ state_error f)))
+
+-- a step over bytes, whatever comes after
+abbrev pub Drained : Codec → ℕ → Session → List ℕ → List ℕ → Session → List ℕ → List ℕ → Type 0
+Drained codec at s o held t u left =
+    (rest : List Atom) → LeadsTo s o (run codec (bytes_of at held ++ rest) s []) t u (run codec (bytes_of at left ++ rest) t [])

@@ -1,0 +1,89 @@
+//! Why a session refuses.
+
+ghost use Rattle.std.specs.Prelude.{◌≡◌};
+ghost use Rattle.mqtt5.specs.declared.error.StateError.TheVariants.{OutOfMemory};
+ghost use Rattle.mqtt5.specs.Errors.{state_error};
+
+use mqtt5_base::Error;
+use std::alloc::{AllocError, AllocFailed};
+
+/// Why a session refused. Numbers are those of the documents; a variant without one is never answered.
+#[derive(Debug, PartialEq, Eq, Drop, thiserror::Error)]
+pub enum StateError {
+    /// Never answered.
+    #[error("Io error")]
+    Io,
+    /// Never answered.
+    #[error("Conversion error")]
+    Coversion,
+    /// S1: the session is in no state for the request.
+    #[error("Invalid state for a given operation")]
+    InvalidState,
+    /// S2: an ack of an id that awaits none, or an id above the limit.
+    #[error("Received unsolicited ack pkid: {0}")]
+    Unsolicited(u16),
+    /// S3: the last ping isn't answered.
+    #[error("Last pingreq isn't acked")]
+    AwaitPingResp,
+    /// S4: a packet that a client doesn't take.
+    #[error("Received a wrong packet while waiting for another packet")]
+    WrongPacket,
+    /// S5: a second ping while a publish waits for its id.
+    #[error("Timeout while waiting to resolve collision")]
+    CollisionTimeout,
+    /// S6: a subscribe without filters.
+    #[error("A Subscribe packet must contain atleast one filter")]
+    EmptySubscription,
+    /// S7: a frame that can't be read, or a packet that can't be written.
+    #[error("Mqtt serialization/deserialization error: {0}")]
+    Deserialization(Error),
+    /// S8: a topic alias above the broker's maximum.
+    #[error("Cannot use topic alias '{alias:?}'. It's greater than the broker's maximum of '{max:?}'.")]
+    InvalidAlias { alias: u16, max: u16 },
+    /// S9: a packet over the outgoing limit.
+    #[error("Cannot send packet of size '{pkt_size:?}'. It's greater than the broker's maximum packet size of: '{max:?}'")]
+    OutgoingPacketTooLarge { pkt_size: u32, max: u32 },
+    /// Never answered.
+    #[error("Cannot receive a packet that is greater than the client's maximum packet size")]
+    IncomingPacketTooLarge,
+    /// S10: the broker ended the connection.
+    #[error("Server sent disconnect")]
+    ServerDisconnect,
+    /// S11: the broker refused the connection.
+    #[error("Connection failed")]
+    ConnFail,
+    /// Never answered.
+    #[error("Connection closed by peer abruptly")]
+    ConnectionAborted,
+    /// S12: memory that was asked for was refused.
+    #[error("Out of memory")]
+    OutOfMemory,
+}
+
+impl From<Error> for StateError {
+    ghost from_gives = { λ e s. s ≡ state_error e };
+
+    fn from(error: Error) -> StateError {
+        match error {
+            Error::OutgoingPacketTooLarge { pkt_size, max } => StateError::OutgoingPacketTooLarge { pkt_size, max },
+            Error::OutOfMemory => StateError::OutOfMemory,
+            other => StateError::Deserialization(other),
+        }
+    }
+}
+
+impl From<AllocError> for StateError {
+    ghost from_gives = { λ _ e. e ≡ OutOfMemory };
+
+    fn from(_refused: AllocError) -> StateError {
+        StateError::OutOfMemory
+    }
+}
+
+impl<T: Drop> From<AllocFailed<T>> for StateError {
+    ghost from_gives = { λ _ e. e ≡ OutOfMemory };
+
+    fn from(_refused: AllocFailed<T>) -> StateError {
+        StateError::OutOfMemory
+    }
+}

@@ -1,0 +1,17 @@
+//! The session of an MQTT 5 client and the loop over it, without sockets and clocks.
+#![tactic(auto)]
+
+mod aliases;
+mod error;
+mod event;
+mod exact;
+mod ids;
+mod run;
+mod slot;
+mod slots;
+mod state;
+
+pub use error::StateError;
+pub use event::{Event, Incoming, Outgoing, Request};
+pub use run::{Input, Step, cutting, drive, twice};
+pub use state::MqttState;

@@ -1,0 +1,10 @@
+//! What is known of an id in use.
+
+use mqtt5_flow::Publish;
+
+/// What is known of a packet identifier in use: the publish that awaits its ack, or that it was released.
+#[derive(Clone, Debug, PartialEq, Eq, Drop)]
+pub enum Slot {
+    Sent(Publish),
+    Released,
+}
