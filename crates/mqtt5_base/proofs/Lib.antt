@@ -19,3 +19,9 @@ pub mod HeaderLemmas
 pub mod ViewsBack
 pub mod SetShapes
 pub mod FieldShapes
+pub mod KindsAgain
+pub mod ItemsAgain
+pub mod BlocksAgain
+pub mod StepsAgain
+pub mod PartsAgain
+pub mod FramesAgain

@@ -1,5 +1,5 @@
--- Fields of packets are what is made again of their values.
-use Rattle.std.proofs.Common.{◌≡◌, ℕ, Bool, true, false, eqb, List, [], ◌∷◌, Option, Some, None, option_map, refl, ap}
+-- Fields of packets are what is made again of their values, and numbers of them are small.
+use Rattle.std.proofs.Common.{◌≡◌, ℕ, ◌≤◌, Bool, true, false, eqb, List, [], ◌∷◌, Option, Some, None, option_map, refl, ap, arith}
 use Rattle.mqtt5_base.specs.declared.quality.QoS.{QoS}
 use Rattle.mqtt5_base.specs.declared.quality.QoS.TheVariants.{AtMostOnce, AtLeastOnce, ExactlyOnce}
 use Rattle.mqtt5_base.specs.Texts.{Utf8, text_back}
@@ -16,6 +16,17 @@ qos_back ExactlyOnce = refl
 pub bit_back : (b : Bool) → eqb (bit b) 1 ≡ b
 bit_back true = refl
 bit_back false = refl
+
+-- a bit is 1 at most
+pub bit_small : (b : Bool) → bit b ≤ 1
+bit_small true = omega arith
+bit_small false = omega arith
+
+-- a QoS is 2 at most
+pub qos_small : (q : QoS) → qos_number q ≤ 2
+qos_small AtMostOnce = omega arith
+qos_small AtLeastOnce = omega arith
+qos_small ExactlyOnce = omega arith
 
 -- a number, or none, is that of its values
 pub numbers_back : (o : Option ℕ) → one_number (numbers o) ≡ o

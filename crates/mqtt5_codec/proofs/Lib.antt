@@ -2,3 +2,4 @@ pub mod CodecLemmas
 pub mod FrameLemmas
 pub mod FrameLaws
 pub mod ReadingLemmas
+pub mod PacketsAgain

@@ -4,6 +4,7 @@
 mod codec;
 mod exact;
 mod frames;
+mod laws;
 mod packet;
 mod reading;
 #[cfg(test)]

@@ -2,3 +2,5 @@ pub mod AckLemmas
 pub mod Bits
 pub mod PacketsBack
 pub mod RowsBack
+pub mod AcksAgain
+pub mod PublishesAgain

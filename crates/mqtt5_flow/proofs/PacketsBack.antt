@@ -1,5 +1,5 @@
 -- Packets are what is made again of their values.
-use Rattle.std.proofs.Common.{◌≡◌, refl, rules}
+use Rattle.std.proofs.Common.{◌≡◌, rules}
 use Rattle.mqtt5_base.specs.Layout.{content_of_packet}
 use Rattle.mqtt5_base.proofs.ViewsBack.{qos_back, bit_back, numbers_back, contents_back, texts_back, pairs_back, identifiers_back, set_back}
 use Rattle.mqtt5_flow.specs.declared.puback.PubAckReason.{PubAckReason}
@@ -29,24 +29,24 @@ puback_back p = λ i. record { pkid = p.pkid; reason = puback_reason_back p.reas
 -- the properties are those of their values
 publish_set_back : (s : PublishProperties) → publish_set (publish_found s) ≡ s
 publish_set_back s = λ i. record {
-    payload_format_indicator = numbers_back s.payload_format_indicator i;
-    message_expiry_interval = numbers_back s.message_expiry_interval i;
-    topic_alias = numbers_back s.topic_alias i;
-    response_topic = texts_back s.response_topic i;
-    correlation_data = contents_back s.correlation_data i;
-    user_properties = pairs_back s.user_properties i;
-    subscription_identifiers = identifiers_back s.subscription_identifiers i;
-    content_type = texts_back s.content_type i
-  }
+  payload_format_indicator = numbers_back s.payload_format_indicator i;
+  message_expiry_interval = numbers_back s.message_expiry_interval i;
+  topic_alias = numbers_back s.topic_alias i;
+  response_topic = texts_back s.response_topic i;
+  correlation_data = contents_back s.correlation_data i;
+  user_properties = pairs_back s.user_properties i;
+  subscription_identifiers = identifiers_back s.subscription_identifiers i;
+  content_type = texts_back s.content_type i;
+}
 
 -- A Publish is the one of its values.
 pub publish_back : (p : Publish) → publish_of (content_of_packet (publish_packet p)) ≡ p
 publish_back p = λ i. record {
-    dup = bit_back p.dup i;
-    qos = qos_back p.qos i;
-    retain = bit_back p.retain i;
-    topic = p.topic;
-    pkid = p.pkid;
-    payload = p.payload;
-    properties = set_back publish_found publish_set publish_set_back p.properties i
-  }
+  dup = bit_back p.dup i;
+  qos = qos_back p.qos i;
+  retain = bit_back p.retain i;
+  topic = p.topic;
+  pkid = p.pkid;
+  payload = p.payload;
+  properties = set_back publish_found publish_set publish_set_back p.properties i;
+}

@@ -1,0 +1,74 @@
+-- An ack that is written is read again, as its norm.
+use Rattle.std.proofs.Common.{◌≡◌, ℕ, ◌/◌, ◌<◌, Bool, true, false, cond, eqb, List, [], ◌++◌, length, Option, Some, None, option_map, is_none, Ok, refl, sym, ap, ◌∙◌, arith, length-append}
+use Rattle.std.proofs.lemmas.Bool.{lt-ltb, eqb-true, false≢true}
+use Rattle.mqtt5_base.specs.Grammar.{number, Entry, Found, Test, Content}
+use Rattle.mqtt5_base.specs.Frames.{Rows, row_among}
+use Rattle.mqtt5_base.specs.Reading.{frame_at}
+use Rattle.mqtt5_base.specs.Layout.{block_bytes, is_short, writing, content_of_packet}
+use Rattle.mqtt5_base.specs.Sets.{IsBlockOf, apart}
+use Rattle.mqtt5_base.proofs.KindsAgain.{both_hold}
+use Rattle.mqtt5_base.proofs.BlocksAgain.{some_block, tidy_found, tidy_values, tidy_twice}
+use Rattle.mqtt5_base.proofs.FramesAgain.{has_body, body_of, IsReadable, content_read, written_again}
+use Rattle.mqtt5_flow.specs.Rows.{ack_row, ack_table, puback_row, puback_codes}
+use Rattle.mqtt5_flow.specs.Acks.{ack_values, ack_packet}
+use Rattle.mqtt5_flow.specs.declared.puback.PubAck.{PubAck}
+use Rattle.mqtt5_flow.specs.PubAcks.{puback_code, puback_found, puback_packet}
+use Rattle.mqtt5_flow.specs.Norms.{puback_norm}
+
+-- ---- each ack
+
+-- what is none
+is_nothing : {A : Type 0} (o : Option A) → cond (is_none o) true false ≡ true → o ≡ None
+is_nothing None h = refl
+is_nothing (Some a) h = absurd cc
+
+-- the values of an ack as they are read again
+abbrev ack_content : ℕ → ℕ → Option Found → Content
+ack_content id code p = (ack_values id code p, [])
+
+-- the row of an ack reads it, short or not
+ack_readable : (rows : Rows) (codes : Test) (table : List Entry) (first : ℕ) (short : Bool) (id code : ℕ) (p : Option Found) → is_short (ack_row codes table) (ack_packet first id code p) ≡ short → row_among rows (first / 16) ≡ Some (ack_row codes table)
+    → apart [] table ≡ true → id < 65536 → IsBlockOf table p → IsReadable rows (ack_row codes table) (ack_packet first id code p) short (ack_content id code (tidy_found p))
+ack_readable rows codes table first true id code p is among once small set =
+    let s = both_hold (eqb code 0) (cond (is_none p) true false) is in
+    let zero : code ≡ 0 = eqb-true code 0 s.0 in
+    let none : p ≡ None = is_nothing p s.1 in
+    record {
+      brief = is;
+      among = among;
+      whole = has_body (ack_row codes table) (body_of true (ack_row codes table) (ack_packet first id code p)) (omega arith);
+      suits = (refl, λ _. small, (refl, λ h. absurd (false≢true h), (refl, λ h. absurd (false≢true h), (λ _. (refl, ap (λ n. number n) zero), tt))));
+      parts = tt;
+      kept = rw (zero, none) refl;
+    }
+ack_readable rows codes table first false id code p is among once small set =
+    let block = block_bytes table p in
+    let some : 0 < length ((block ++ []) ++ []) = omega (arith, some_block table p, length-append block [], length-append (block ++ []) []) in
+    record {
+      brief = is;
+      among = among;
+      whole = has_body (ack_row codes table) (body_of false (ack_row codes table) (ack_packet first id code p)) (omega arith);
+      suits = (refl, λ _. small, (sym (lt-ltb _ _ (omega (arith, some))), λ _. tt, (sym (lt-ltb _ _ (omega (arith, some))), λ _. (once, set), (λ _. (refl, refl), tt))));
+      parts = tt;
+      kept = refl;
+    }
+
+-- An ack that was written is read again as its values, of a tidy set.
+pub ack_again : (rows : Rows) (codes : Test) (table : List Entry) (first id code : ℕ) (p : Option Found) (bs : List ℕ) → row_among rows (first / 16) ≡ Some (ack_row codes table) → apart [] table ≡ true → id < 65536 → IsBlockOf table p
+    → writing (ack_row codes table) (ack_packet first id code p) ≡ Ok bs → frame_at rows bs ≡ content_read (ack_content id code (tidy_found p))
+ack_again rows codes table first id code p bs among once small set h =
+    let short = is_short (ack_row codes table) (ack_packet first id code p) in
+    written_again rows (ack_row codes table) (ack_packet first id code p) short (ack_content id code (tidy_found p)) bs h (ack_readable rows codes table first short id code p refl among once small set)
+
+-- ---- PubAck
+
+-- A PubAck that was written is read again as its norm's values.
+pub puback_again : (rows : Rows) (p : PubAck) (bs : List ℕ) → row_among rows 4 ≡ Some puback_row → p.pkid < 65536 → IsBlockOf ack_table (option_map puback_found p.properties)
+    → writing puback_row (puback_packet p) ≡ Ok bs → frame_at rows bs ≡ content_read (content_of_packet (puback_packet (puback_norm p)))
+puback_again rows p bs among small set h =
+    ack_again rows puback_codes ack_table 64 p.pkid (puback_code p.reason) (option_map puback_found p.properties) bs among refl small set h
+    ∙ ap (λ (b : Option Found). content_read (ack_content p.pkid (puback_code p.reason) b)) (tidy_values puback_found p.properties)
+
+-- The norm's norm is itself.
+pub puback_norm_twice : (p : PubAck) → puback_norm (puback_norm p) ≡ puback_norm p
+puback_norm_twice p = λ i. record { pkid = p.pkid; reason = p.reason; properties = tidy_twice puback_found p.properties i }
