@@ -10,6 +10,8 @@ mod run;
 mod slot;
 mod slots;
 mod state;
+#[cfg(test)]
+mod tests;
 
 pub use error::StateError;
 pub use event::{Event, Incoming, Outgoing, Request};
