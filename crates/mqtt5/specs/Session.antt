@@ -54,7 +54,7 @@ fresh limit manual = record {
   collision_pings = 0;
   events = [];
   last_incoming = 0;
-  last_outgoing = 0
+  last_outgoing = 0;
 }
 
 -- the reply or the fault of a call, and the session after it
@@ -114,12 +114,15 @@ hears s packet = record s { events = s.events ++ events.Incoming packet ∷ [] }
 abbrev pub freed_for : Option Publish → Session → ℕ → ℕ → Answer
 freed_for None s id at = (Ok None, record s { core = record s.core { held = map.remove s.core.held id }; last_incoming = at })
 freed_for (Some p) s id at =
-    if p.pkid == id then (Ok (Some (packets.Publish p)), record s {
-      core = record s.core { held = map.insert s.core.held id (Sent p); waiting = None };
-      events = s.events ++ events.Outgoing (outgoing.Publish id) ∷ [];
-      collision_pings = 0;
-      last_incoming = at
-    })
+    if p.pkid == id then (
+      Ok (Some (packets.Publish p)),
+      record s {
+        core = record s.core { held = map.insert s.core.held id (Sent p); waiting = None };
+        events = s.events ++ events.Outgoing (outgoing.Publish id) ∷ [];
+        collision_pings = 0;
+        last_incoming = at;
+      },
+    )
     else (Ok None, record s { core = record s.core { held = map.remove s.core.held id }; last_incoming = at })
 
 -- a PubAck ends the publish that awaits it, whatever its reason (section 4.3.2)
@@ -131,9 +134,10 @@ on_puback None s id at = (Err (errors.Unsolicited id), s)
 -- a publish of QoS 1 is answered, unless the user does it (section 4.3.2)
 abbrev pub on_acked : Bool → Session → ℕ → ℕ → Answer
 on_acked true s id at = (Ok None, record s { last_incoming = at })
-on_acked false s id at =
-    (Ok (Some (packets.PubAck (record { pkid = id; reason = Success; properties = None }))),
-     record s { events = s.events ++ events.Outgoing (outgoing.PubAck id) ∷ []; last_incoming = at })
+on_acked false s id at = (
+  Ok (Some (packets.PubAck (record { pkid = id; reason = Success; properties = None }))),
+  record s { events = s.events ++ events.Outgoing (outgoing.PubAck id) ∷ []; last_incoming = at },
+)
 
 -- a publish by its QoS
 abbrev pub on_publish : QoS → Session → ℕ → ℕ → Answer

@@ -65,7 +65,10 @@ impl From<Error> for StateError {
 
     fn from(error: Error) -> StateError {
         match error {
-            Error::OutgoingPacketTooLarge { pkt_size, max } => StateError::OutgoingPacketTooLarge { pkt_size, max },
+            Error::OutgoingPacketTooLarge { pkt_size, max } => StateError::OutgoingPacketTooLarge {
+                pkt_size,
+                max,
+            },
             Error::OutOfMemory => StateError::OutOfMemory,
             other => StateError::Deserialization(other),
         }

@@ -151,13 +151,11 @@ pub fn cutting()
     ensures { (codec : Codec) (s : Session) (held : List ℕ) (before after : List Step) (at : ℕ) (left right : List ℕ)
         → run codec (atoms (before ++ piece at (left ++ right) ∷ after)) s held
         ≡ run codec (atoms (before ++ piece at left ∷ piece at right ∷ after)) s held }
-{
-}
+{}
 
 /// A second run from where a first one without fault ended is the run over the steps of both.
 pub fn twice()
     ensures { (codec : Codec) (s t : Session) (o u held left : List ℕ) (first second : List Step)
         → finish s o (run codec (atoms first) s held) ≡ record { session = t; output = u; ending = Holds left }
         → finish s o (run codec (atoms (first ++ second)) s held) ≡ finish t u (run codec (atoms second) t left) }
-{
-}
+{}

@@ -106,7 +106,13 @@ impl Slots {
     {
         self.count = count_with(self.count, self.contains(id));
         let (publish, is_released) = parts(slot);
-        put(&mut self.sent, &mut self.released, id as usize, publish, is_released);
+        put(
+            &mut self.sent,
+            &mut self.released,
+            id as usize,
+            publish,
+            is_released,
+        );
         Ok(())
     }
 

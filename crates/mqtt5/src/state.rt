@@ -55,22 +55,22 @@ impl Model for MqttState {
     ghost coded = { Prim.hlevel (codes, coded_held, coded_aliases, coded_incoming, event.the_row.coded, publish.the_row.coded) };
 
     ghost view = { λ a. record {
-        core = record {
-            limit = a.slots.limit;
-            current = a.current;
-            last = a.last_pkid;
-            held = a.slots.held;
-            waiting = a.waiting;
-            aliases = a.aliases;
-            alias_max = a.alias_max;
-            manual_acks = a.manual_acks;
-        };
-        incoming = a.incoming;
-        awaits_ping = a.awaits_ping;
-        collision_pings = a.collision_pings;
-        events = a.events.items;
-        last_incoming = a.last_incoming;
-        last_outgoing = a.last_outgoing;
+      core = record {
+        limit = a.slots.limit;
+        current = a.current;
+        last = a.last_pkid;
+        held = a.slots.held;
+        waiting = a.waiting;
+        aliases = a.aliases;
+        alias_max = a.alias_max;
+        manual_acks = a.manual_acks;
+      };
+      incoming = a.incoming;
+      awaits_ping = a.awaits_ping;
+      collision_pings = a.collision_pings;
+      events = a.events.items;
+      last_incoming = a.last_incoming;
+      last_outgoing = a.last_outgoing;
     } };
 
     ghost invariant = { λ a. (a.last_pkid < a.slots.limit) × (a.current ≤ a.slots.limit) × IsCounted a.waiting };
@@ -226,7 +226,11 @@ impl MqttState {
     /// one of QoS 2. S2: a publish of QoS 1 whose id is above the limit. S12. After a refusal the session
     /// is unchanged.
     #[tactic(auto, unfolding(crate::specs::Session::out))]
-    pub fn handle_outgoing_packet(&mut self, request: Request, at: u64) -> Result<Option<Packet>, StateError>
+    pub fn handle_outgoing_packet(
+        &mut self,
+        request: Request,
+        at: u64,
+    ) -> Result<Option<Packet>, StateError>
         ensures { Takes result self.old self.new (out self.old request at) }
     {
         match request {
@@ -238,7 +242,11 @@ impl MqttState {
     /// id under which no publish awaits one. S4: a publish of QoS 2. S12, which leaves the session
     /// unchanged; after another refusal the packet's event stands, and nothing else is changed.
     #[tactic(auto, unfolding(crate::specs::Session::inc))]
-    pub fn handle_incoming_packet(&mut self, packet: Incoming, at: u64) -> Result<Option<Packet>, StateError>
+    pub fn handle_incoming_packet(
+        &mut self,
+        packet: Incoming,
+        at: u64,
+    ) -> Result<Option<Packet>, StateError>
         ensures { Hears result self.old self.new (inc self.old packet at) }
     {
         match packet {
@@ -274,19 +282,29 @@ impl MqttState {
             return (id, self.last_pkid);
         }
         let next = self.last_pkid + 1;
-        if next >= self.current { (next, 0) } else { (next, next) }
+        if next >= self.current {
+            (next, 0)
+        } else {
+            (next, next)
+        }
     }
 
     fn send_once(&mut self, publish: Publish, at: u64) -> Result<Option<Packet>, StateError>
         ensures { Takes result self.old self.new (out_once self.old publish at) }
     {
         self.events.reserve(1)?;
-        self.events.push_back_reserved(Event::Outgoing(Outgoing::Publish(publish.pkid)));
+        self.events
+            .push_back_reserved(Event::Outgoing(Outgoing::Publish(publish.pkid)));
         self.last_outgoing = at;
         Ok(Some(as_publish(publish)))
     }
 
-    fn send_acked(&mut self, publish: Publish, last: u16, at: u64) -> Result<Option<Packet>, StateError>
+    fn send_acked(
+        &mut self,
+        publish: Publish,
+        last: u16,
+        at: u64,
+    ) -> Result<Option<Packet>, StateError>
         requires id { 0 < publish.pkid }
         requires last { last < self.old.core.limit }
         requires counted { publish.qos ≢ AtMostOnce }
@@ -316,7 +334,8 @@ impl MqttState {
         self.events.reserve(1)?;
         let sent = copied(publish)?;
         self.slots.insert(id, Slot::Sent(sent))?;
-        self.events.push_back_reserved(Event::Outgoing(Outgoing::Publish(id)));
+        self.events
+            .push_back_reserved(Event::Outgoing(Outgoing::Publish(id)));
         self.last_pkid = last;
         self.last_outgoing = at;
         Ok(())
@@ -356,7 +375,8 @@ impl MqttState {
                 self.slots.insert(id, Slot::Sent(sent))?;
                 let reply = let_go(&mut self.waiting);
                 self.events.push_back_reserved(Event::Incoming(packet));
-                self.events.push_back_reserved(Event::Outgoing(Outgoing::Publish(id)));
+                self.events
+                    .push_back_reserved(Event::Outgoing(Outgoing::Publish(id)));
                 self.collision_pings = 0;
                 self.last_incoming = at;
                 Ok(reply)
@@ -383,7 +403,8 @@ impl MqttState {
             return Err(StateError::WrongPacket);
         }
         self.events.reserve(1)?;
-        self.events.push_back_reserved(Event::Incoming(as_publish(publish)));
+        self.events
+            .push_back_reserved(Event::Incoming(as_publish(publish)));
         self.last_incoming = at;
         Ok(None)
     }
@@ -394,7 +415,8 @@ impl MqttState {
     {
         self.events.reserve(2)?;
         self.events.push_back_reserved(Event::Incoming(packet));
-        self.events.push_back_reserved(Event::Outgoing(Outgoing::PubAck(id)));
+        self.events
+            .push_back_reserved(Event::Outgoing(Outgoing::PubAck(id)));
         self.last_incoming = at;
         Ok(Some(as_puback(PubAck::new(id, None))))
     }

@@ -123,7 +123,14 @@ fn driven(alloc: Global) -> Result<(BytesMut, u16), StateError> {
         },
     ];
     front_laws();
-    drive(alloc, &mut state, &mut codec, &mut input, &mut output, &steps)?;
+    drive(
+        alloc,
+        &mut state,
+        &mut codec,
+        &mut input,
+        &mut output,
+        &steps,
+    )?;
     let inflight = state.inflight();
     Ok((output, inflight))
 }
@@ -131,7 +138,9 @@ fn driven(alloc: Global) -> Result<(BytesMut, u16), StateError> {
 #[test]
 fn one_publish_out_its_ack_in(rt: HostRuntime) -> Result<(), Fail> {
     let (output, inflight) = driven(rt.alloc())?;
-    let frame = [0x32, 0x0A, 0x00, 0x03, 0x61, 0x2F, 0x62, 0x00, 0x01, 0x00, 0x68, 0x69];
+    let frame = [
+        0x32, 0x0A, 0x00, 0x03, 0x61, 0x2F, 0x62, 0x00, 0x01, 0x00, 0x68, 0x69,
+    ];
     assert_eq!(rt; output.as_slice(), frame.as_slice());
     assert_eq!(rt; inflight, 0);
     Ok(())

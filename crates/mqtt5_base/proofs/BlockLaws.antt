@@ -18,15 +18,17 @@ use Rattle.mqtt5_base.proofs.SetLemmas.{adds, adds_props}
 pub byte_reads : (bs : List ℕ) → Reads (number_at w8 bs) (λ x. bs ≡ x.0 ∷ x.1) (NumberFault w8 bs)
 byte_reads [] = record { value = λ y. (λ e. absurd cc, λ p. absurd cc); fault = (number_reads w8 []).fault }
 byte_reads (b ∷ bs) = record {
-    value = λ y. (λ e. ap (λ (x : ℕ × List ℕ). x.0 ∷ x.1) (same_ok (b, bs) y (sym again ∙ e)), λ p. again ∙ ap (λ x. Ok x) (parts y p));
-    fault = (number_reads w8 (b ∷ bs)).fault
-  }
+  value = λ y. (λ e. ap (λ (x : ℕ × List ℕ). x.0 ∷ x.1) (same_ok (b, bs) y (sym again ∙ e)), λ p. again ∙ ap (λ x. Ok x) (parts y p));
+  fault = (number_reads w8 (b ∷ bs)).fault;
+}
   where
     again : number_at w8 (b ∷ bs) ≡ Ok (b, bs)
     again = grind arith
+
     head_or : List ℕ → ℕ
     head_or [] = b
     head_or (x ∷ xs) = x
+
     parts : (y : ℕ × List ℕ) → b ∷ bs ≡ y.0 ∷ y.1 → (b, bs) ≡ y
     parts y p = λ i. (ap head_or p i, ap (drop 1) p i)
 
@@ -47,6 +49,7 @@ property_reads None id bs = reads_like (reads_err (InvalidPropertyType id)) (λ 
   where
     none : (k : Kind) → no_kind ≡ a_kind k → ⊥
     none k e = absurd cc
+
     from : (e : Error) → ((no_kind ≡ None) × (e ≡ InvalidPropertyType id)) ⊎ ((k : Kind) × (no_kind ≡ Some k) × KindFault k bs e) → e ≡ InvalidPropertyType id
     from e (inl f) = f.1
     from e (inr f) = absurd (none f.0 f.1)
@@ -54,8 +57,10 @@ property_reads (Some k) id bs = reads_like (kind_reads k bs) (λ y. (λ p. (p.0,
   where
     none : a_kind k ≡ no_kind → ⊥
     none e = absurd cc
+
     same : (k l : Kind) → a_kind k ≡ a_kind l → k ≡ l
     same k l e = cc
+
     from : (e : Error) → ((a_kind k ≡ None) × (e ≡ InvalidPropertyType id)) ⊎ ((l : Kind) × (a_kind k ≡ Some l) × KindFault l bs e) → KindFault k bs e
     from e (inl f) = absurd (none f.0)
     from e (inr f) = rw (same k f.0 f.1) f.2
@@ -98,6 +103,7 @@ no_items table found = reads_like (reads_ok found) (λ y. (λ e. ([], refl, e), 
     nothing : (y : Found) (items : List (ℕ × Atom)) → Items table [] items → y ≡ adds table found items → y ≡ found
     nothing y [] h e = e
     nothing y (i ∷ items) h e = absurd cc
+
     none : (e : Error) (items : List (ℕ × Atom)) → FaultAfter table [] items e → ⊥
     none e [] f = absurd cc
     none e (i ∷ items) f = absurd cc
@@ -110,17 +116,20 @@ items_read zero table found (b ∷ bs) le = absurd (omega arith)
 items_read (suc n) table found [] le = no_items table found
 items_read (suc n) table found (b ∷ bs) le =
     rw (some_bytes b bs) (reads_like (reads_then (λ i. items_within n table i.0 i.1) (IsItem table found (b ∷ bs)) (λ next after y. AddsItems table next after y) (λ next after. NoItems table after) (item_reads table found (b ∷ bs))
-        (λ next after h. let shorter : length after ≤ n = omega (arith, item_takes table found (b ∷ bs) next after h, le) in items_read n table next after shorter)) (λ y. (to y, λ q. from y q.0 q.1 q.2)) (λ e. (wrong e, λ f. first e f.0 f.1)))
+    (λ next after h. let shorter : length after ≤ n = omega (arith, item_takes table found (b ∷ bs) next after h, le) in items_read n table next after shorter)) (λ y. (to y, λ q. from y q.0 q.1 q.2)) (λ e. (wrong e, λ f. first e f.0 f.1)))
   where
     to : (y : Found) → (next : Found) × (after : List ℕ) × IsItem table found (b ∷ bs) next after × AddsItems table next after y → AddsItems table found (b ∷ bs) y
     to y p = let i = p.2 in let a = i.3.1 in ((i.0, a.0) ∷ p.3.0, (i.1, p.1, i.2, i.3.0, a.1, p.3.1), p.3.2 ∙ ap (λ (f : Found). adds table f p.3.0) a.2)
+
     from : (y : Found) (items : List (ℕ × Atom)) → Items table (b ∷ bs) items → y ≡ adds table found items → (next : Found) × (after : List ℕ) × IsItem table found (b ∷ bs) next after × AddsItems table next after y
     from y [] h e = absurd cc
     from y (i ∷ items) h e = (with_item table i.0 i.1 found, h.1, (i.0, h.0, h.2, (h.3, (i.1, h.4, refl))), (items, h.5, e))
+
     wrong : (e : Error) → NoItem table (b ∷ bs) e ⊎ ((next : Found) × (after : List ℕ) × IsItem table found (b ∷ bs) next after × NoItems table after e) → NoItems table (b ∷ bs) e
     wrong e (inl (inl f)) = absurd (omega (arith, f.0))
     wrong e (inl (inr f)) = ([], f)
     wrong e (inr f) = let i = f.2 in let a = i.3.1 in ((i.0, a.0) ∷ f.3.0, (i.1, f.1, i.2, i.3.0, a.1, f.3.1))
+
     first : (e : Error) (items : List (ℕ × Atom)) → FaultAfter table (b ∷ bs) items e → NoItem table (b ∷ bs) e ⊎ ((next : Found) × (after : List ℕ) × IsItem table found (b ∷ bs) next after × NoItems table after e)
     first e [] f = inl (inr f)
     first e (i ∷ items) f = inr (with_item table i.0 i.1 found, f.1, (i.0, f.0, f.2, (f.3, (i.1, f.4, refl))), (items, f.5))
@@ -151,9 +160,11 @@ body_reads table zero mid = reads_like (reads_ok (None, mid)) (λ y. (λ e. rw e
     from None after [] e len s = λ i. (None, sym e i)
     from (Some found) after [] e len s = absurd (omega (arith, s.0))
     from p after (b ∷ bs) e len s = absurd (omega arith)
+
     by_items : (e : Error) (items : List (ℕ × Atom)) (here : List ℕ) → length here ≡ 0 → FaultAfter table here items e → ⊥
     by_items e [] here len f = absurd (omega (arith, ap length f.2))
     by_items e (i ∷ items) here len f = absurd (omega (arith, ap length f.2))
+
     none : (e : Error) → NoBody table 0 mid e → ⊥
     none e (inl f) = absurd (omega (arith, f.0))
     none e (inr f) = by_items e f.0 f.1 f.4 f.5
@@ -162,20 +173,24 @@ body_reads table (suc m) mid = rw some (reads_like (reads_long (length mid) (suc
   where
     some : eqb (suc m) 0 ≡ false
     some = grind arith
+
     to : (y : Option Found × List ℕ) → (suc m ≤ length mid) × ((found : Found) × AddsItems table (none_of table) (take (suc m) mid) found × (y ≡ (Some found, drop (suc m) mid))) → IsBody table (suc m) mid y.0 y.1
     to y p =
         let long : length (take (suc m) mid) ≡ suc m = long_enough mid (suc m) p.0 in
         let set = p.1.1 in
         rw p.1.2 (take (suc m) mid, sym (take-append-drop (suc m) mid), long, (omega (arith, long), set.0, set.1, set.2 ∙ adds_props table set.0))
+
     from : (p : Option Found) (after here : List ℕ) → mid ≡ here ++ after → length here ≡ suc m → IsSet table here p → (suc m ≤ length mid) × ((found : Found) × AddsItems table (none_of table) (take (suc m) mid) found × (set_with p after ≡ (Some found, drop (suc m) mid)))
     from None after here e len s = absurd (omega (arith, s))
     from (Some found) after here e len s =
         let shown : take (suc m) mid ≡ here = ap (take (suc m)) e ∙ take_at here after (suc m) len in
         let left : drop (suc m) mid ≡ after = ap (drop (suc m)) e ∙ drop_at here after (suc m) len in
         (omega (arith, ap length e, length-append here after), (found, rw shown (s.1, s.2, s.3 ∙ sym (adds_props table s.1)), λ i. (Some found, sym left i)))
+
     wrong : (e : Error) → ((length mid < suc m) × (e ≡ BoundaryCrossed (suc m))) ⊎ ((suc m ≤ length mid) × NoItems table (take (suc m) mid) e) → NoBody table (suc m) mid e
     wrong e (inl f) = inl f
     wrong e (inr f) = inr (f.1.0, take (suc m) mid, drop (suc m) mid, sym (take-append-drop (suc m) mid), long_enough mid (suc m) f.0, f.1.1)
+
     first : (e : Error) → NoBody table (suc m) mid e → ((length mid < suc m) × (e ≡ BoundaryCrossed (suc m))) ⊎ ((suc m ≤ length mid) × NoItems table (take (suc m) mid) e)
     first e (inl f) = inl f
     first e (inr f) =
@@ -193,5 +208,6 @@ block_reads table bs = reads_values (reads_then (λ n. body_at table n.0 n.1) (�
         let t = p.2 in
         let b = p.3 in
         (t.0 ++ b.0, t.1 ∙ ap (λ r. t.0 ++ r) b.1 ∙ sym (append_assoc t.0 b.0 y.1), (t.0, b.0, refl, (t.2.0, t.2.1, b.2 ∙ t.2.2), b.3))
+
     from : (y : Option Found × List ℕ) → Takes (λ front. IsBlock table front y.0) bs y.1 → (n : ℕ) × (mid : List ℕ) × Takes (λ front. VarInt front n) bs mid × IsBody table n mid y.0 y.1
     from y q = let h = q.2 in (length h.1, h.1 ++ y.1, (h.0, q.1 ∙ ap (λ r. r ++ y.1) h.2 ∙ append_assoc h.0 h.1 y.1, h.3), (h.1, refl, refl, h.4))

@@ -37,6 +37,7 @@ row_of_reads None first body = reads_like (reads_err (InvalidPacketType (first /
   where
     none : (r : Row) → no_row ≡ a_row r → ⊥
     none r e = absurd cc
+
     from : (e : Error) → NotOf None first body e → e ≡ InvalidPacketType (first / 16)
     from e (inl f) = f.1
     from e (inr f) = absurd (none f.0 f.1)
@@ -45,8 +46,10 @@ row_of_reads (Some row) first body = reads_like (reads_unless (lacks_body row bo
   where
     none : a_row row ≡ no_row → ⊥
     none e = absurd cc
+
     same : (r s : Row) → a_row r ≡ a_row s → r ≡ s
     same r s e = cc
+
     from : (e : Error) → NotOf (Some row) first body e → ((lacks_body row body ≡ true) × (e ≡ PayloadRequired)) ⊎ ((lacks_body row body ≡ false) × RowFault row first (length body) body e)
     from e (inl f) = absurd (none f.0)
     from e (inr f) = rw (same row f.0 f.1) f.2

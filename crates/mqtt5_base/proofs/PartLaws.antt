@@ -70,6 +70,7 @@ no_rounds steps front = reads_like (reads_ok front) (λ y. (λ e. ([], refl, e �
     nothing : (y all : List (List Value)) → Repeats steps [] all → y ≡ front ++ all → y ≡ front
     nothing y [] h e = e ∙ append-nil front
     nothing y (vs ∷ all) h e = absurd (omega (arith, h.1))
+
     none : (e : Error) (all : List (List Value)) → RepeatFault steps [] all e → ⊥
     none e [] f = absurd (omega (arith, f.0))
     none e (vs ∷ all) f = absurd (omega (arith, f.1))
@@ -82,19 +83,23 @@ repeats_read zero f steps front (b ∷ bs) le = absurd (omega arith)
 repeats_read (suc n) f steps front [] le = no_rounds (repeated f steps) front
 repeats_read (suc n) f steps front (b ∷ bs) le =
     rw (some_bytes b bs) (reads_like (reads_then (λ r. repeated_within n (repeated f steps) (front ++ r.0 ∷ []) r.1) (λ vs after. Kept (repeated f steps) 0 (b ∷ bs) vs after) (λ vs after y. IsAll (repeated f steps) (front ++ vs ∷ []) after y) (λ vs after. NoRound (repeated f steps) after)
-        (kept_reads (repeated f steps) 0 (b ∷ bs)) (λ vs after h. let shorter : length after ≤ n = omega (arith, kept_takes f steps (b ∷ bs) vs after some h, le) in repeats_read n f steps (front ++ vs ∷ []) after shorter))
-      (λ y. (to y, λ q. from y q.0 q.1 q.2)) (λ e. (wrong e, λ z. first e z.0 z.1)))
+    (kept_reads (repeated f steps) 0 (b ∷ bs)) (λ vs after h. let shorter : length after ≤ n = omega (arith, kept_takes f steps (b ∷ bs) vs after some h, le) in repeats_read n f steps (front ++ vs ∷ []) after shorter))
+    (λ y. (to y, λ q. from y q.0 q.1 q.2)) (λ e. (wrong e, λ z. first e z.0 z.1)))
   where
     some : 0 < length (b ∷ bs)
     some = omega arith
+
     to : (y : List (List Value)) → (vs : List Value) × (after : List ℕ) × Kept (repeated f steps) 0 (b ∷ bs) vs after × IsAll (repeated f steps) (front ++ vs ∷ []) after y → IsAll (repeated f steps) front (b ∷ bs) y
     to y p = (p.0 ∷ p.3.0, (p.1, some, p.2, p.3.1), p.3.2 ∙ append_assoc front (p.0 ∷ []) p.3.0)
+
     from : (y all : List (List Value)) → Repeats (repeated f steps) (b ∷ bs) all → y ≡ front ++ all → (vs : List Value) × (after : List ℕ) × Kept (repeated f steps) 0 (b ∷ bs) vs after × IsAll (repeated f steps) (front ++ vs ∷ []) after y
     from y [] h e = absurd (omega (arith, h))
     from y (vs ∷ all) h e = (vs, h.0, h.2, (all, h.3, e ∙ sym (append_assoc front (vs ∷ []) all)))
+
     wrong : (e : Error) → Faulty (repeated f steps) (under 0 0) (b ∷ bs) e ⊎ ((vs : List Value) × (after : List ℕ) × Kept (repeated f steps) 0 (b ∷ bs) vs after × NoRound (repeated f steps) after e) → NoRound (repeated f steps) (b ∷ bs) e
     wrong e (inl z) = ([], (some, z))
     wrong e (inr z) = (z.0 ∷ z.3.0, (z.1, some, z.2, z.3.1))
+
     first : (e : Error) (all : List (List Value)) → RepeatFault (repeated f steps) (b ∷ bs) all e → Faulty (repeated f steps) (under 0 0) (b ∷ bs) e ⊎ ((vs : List Value) × (after : List ℕ) × Kept (repeated f steps) 0 (b ∷ bs) vs after × NoRound (repeated f steps) after e)
     first e [] z = inl z.1
     first e (vs ∷ all) z = inr (vs, z.0, z.2, (all, z.3))
@@ -109,7 +114,7 @@ pub part_reads : (p : Part) (values : List Value) (bs : List ℕ) → Reads (par
 part_reads (choice k c off on) values bs = let n = number_at_place values k in let b = holds (under n 0) c in reads_seen (λ o. optional o) (λ o after. Choice b off on n bs o after) (choice_reads b off on n bs)
 part_reads (filled k steps) values bs = let n = number_at_place values k in
     reads_values (reads_seen (λ o. optional o) (λ o after. (vs : List Value) × Kept steps n bs vs after × (o ≡ unless_empty vs)) (reads_seen (λ vs. unless_empty vs) (λ vs after. Kept steps n bs vs after) (kept_reads steps n bs)))
-      (λ y. (λ p. (p.1.0, p.1.1, p.2 ∙ ap (λ o. optional o) p.1.2), λ q. (unless_empty q.0, (q.0, q.1, refl), q.2)))
+    (λ y. (λ p. (p.1.0, p.1.1, p.2 ∙ ap (λ o. optional o) p.1.2), λ q. (unless_empty q.0, (q.0, q.1, refl), q.2)))
 part_reads (each f steps) values bs = reads_values (reads_map (λ g. (several g, [])) (repeats_read (length bs) f steps [] bs (omega arith)))
     (λ y. (λ p. (p.1.0, p.1.1, ap (λ z. z.0) p.2 ∙ ap (λ g. several g) p.1.2, ap (λ z. z.1) p.2), λ q. (q.0, (q.0, q.1, refl), λ i. (q.2 i, q.3 i))))
 
@@ -117,7 +122,7 @@ part_reads (each f steps) values bs = reads_values (reads_map (λ g. (several g,
 pub parts_read : (ps : List Part) (values : List Value) (bs : List ℕ) → Reads (parts_at ps values bs) (λ x. AreParts ps values bs x.0 x.1) (PartsFault ps values bs)
 parts_read [] values bs = known_reads [] bs
 parts_read (p ∷ ps) values bs = reads_values (reads_then (λ g. seen (λ gs. g.0 ∷ gs) (parts_at ps values g.1)) (λ g after. IsPart p values bs g after) (λ g after y. (gs : List Group) × AreParts ps values after gs y.1 × (y.0 ≡ g ∷ gs)) (λ g after. PartsFault ps values after)
-        (part_reads p values bs) (λ g after _. reads_seen (λ gs. g ∷ gs) (λ gs rest. AreParts ps values after gs rest) (parts_read ps values after)))
+    (part_reads p values bs) (λ g after _. reads_seen (λ gs. g ∷ gs) (λ gs rest. AreParts ps values after gs rest) (parts_read ps values after)))
     (λ y. (λ p. (p.0, p.1, p.2, p.3.0, p.3.1, p.3.2), λ p. (p.0, p.1, p.2, (p.3, p.4, p.5))))
 
 -- ---- rows
@@ -129,5 +134,5 @@ kept_with k gs = (k.kept, gs)
 -- A row is read.
 pub row_reads : (row : Row) (first len : ℕ) (body : List ℕ) → Reads (read_row row first len body) (λ x. IsRow row first len body x.0 x.1) (RowFault row first len body)
 row_reads row first len body = reads_values (reads_then (λ k. seen (kept_with k.0) (parts_at row.parts k.0.values k.1)) (λ k after. Fields row.steps (under first len) body k after) (λ k after y. (gs : List Group) × AreParts row.parts k.values after gs y.1 × (y.0 ≡ kept_with k gs)) (λ k after. PartsFault row.parts k.values after)
-        (steps_read row.steps (under first len) body) (λ k after _. reads_seen (kept_with k) (λ gs rest. AreParts row.parts k.values after gs rest) (parts_read row.parts k.values after)))
+    (steps_read row.steps (under first len) body) (λ k after _. reads_seen (kept_with k) (λ gs rest. AreParts row.parts k.values after gs rest) (parts_read row.parts k.values after)))
     (λ y. (λ p. (p.0, p.1, p.2, p.3.0, p.3.1, p.3.2), λ p. (p.0, p.1, p.2, (p.3, p.4, p.5))))

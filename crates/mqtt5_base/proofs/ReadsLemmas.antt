@@ -44,23 +44,23 @@ not_both x e h = absurd cc
 -- a value alone
 pub reads_ok : {Y : Type 0} (x : Y) → Reads (Ok x) (λ y. y ≡ x) (λ e. ⊥)
 reads_ok x = record {
-    value = λ y. (λ e. sym (same_ok x y e), λ e. ap gives (sym e));
-    fault = λ e. (λ h. not_both x e h, λ h. absurd h)
-  }
+  value = λ y. (λ e. sym (same_ok x y e), λ e. ap gives (sym e));
+  fault = λ e. (λ h. not_both x e h, λ h. absurd h);
+}
 
 -- a fault alone
 pub reads_err : {Y : Type 0} (e : Error) → Reads {X = Y} (Err e) (λ y. ⊥) (λ d. d ≡ e)
 reads_err {Y} e = record {
-    value = λ y. (λ h. not_both y e (sym h), λ h. absurd h);
-    fault = λ d. (λ h. sym (same_error {Y = Y} e d h), λ h. ap fails (sym h))
-  }
+  value = λ y. (λ h. not_both y e (sym h), λ h. absurd h);
+  fault = λ d. (λ h. sym (same_error {Y = Y} e d h), λ h. ap fails (sym h));
+}
 
 -- the same said otherwise
 pub reads_like : {Y : Type 0} {r : Result Y Error} {P Q : Y → Type 0} {F G : Error → Type 0} → Reads r P F → ((y : Y) → P y ↔ Q y) → ((e : Error) → F e ↔ G e) → Reads r Q G
 reads_like h v f = record {
-    value = λ y. (λ e. (v y).0 ((h.value y).0 e), λ q. (h.value y).1 ((v y).1 q));
-    fault = λ d. (λ e. (f d).0 ((h.fault d).0 e), λ g. (h.fault d).1 ((f d).1 g))
-  }
+  value = λ y. (λ e. (v y).0 ((h.value y).0 e), λ q. (h.value y).1 ((v y).1 q));
+  fault = λ d. (λ e. (f d).0 ((h.fault d).0 e), λ g. (h.fault d).1 ((f d).1 g));
+}
 
 -- its values said otherwise
 pub reads_values : {Y : Type 0} {r : Result Y Error} {P Q : Y → Type 0} {F : Error → Type 0} → Reads r P F → ((y : Y) → P y ↔ Q y) → Reads r Q F
@@ -90,11 +90,14 @@ reads_bind {X} {Y} {r} {P} {F} f Q G h k = record { value = λ y. (found y, hold
   where
     found : (y : Y) → (r >>= f) ≡ Ok y → (x : X) × P x × Q x y
     found y e = let b = bind_found r f y e in let p = (h.value b.0).0 b.1 in (b.0, p, ((k b.0 p).value y).0 b.2)
+
     holds : (y : Y) → (x : X) × P x × Q x y → (r >>= f) ≡ Ok y
     holds y p = rw ((h.value p.0).1 p.1) (((k p.0 p.1).value y).1 p.2)
+
     wrong : (e : Error) → (r ≡ Err e) ⊎ ((x : X) × (r ≡ Ok x) × (f x ≡ Err e)) → F e ⊎ ((x : X) × P x × G x e)
     wrong e (inl z) = inl ((h.fault e).0 z)
     wrong e (inr z) = let p = (h.value z.0).0 z.1 in inr (z.0, p, ((k z.0 p).fault e).0 z.2)
+
     first : (e : Error) → F e ⊎ ((x : X) × P x × G x e) → (r >>= f) ≡ Err e
     first e (inl z) = rw ((h.fault e).1 z) refl
     first e (inr z) = rw ((h.value z.0).1 z.1) (((k z.0 z.1).fault e).1 z.2)
@@ -109,6 +112,7 @@ reads_then {X} {Y} {r} {F} f P Q G h k = reads_like (reads_bind f (λ x. Q x.0 x
     to : (e : Error) → F e ⊎ ((x : X × List ℕ) × P x.0 x.1 × G x.0 x.1 e) → F e ⊎ ((x : X) × (bs : List ℕ) × P x bs × G x bs e)
     to e (inl z) = inl z
     to e (inr z) = inr (z.0.0, z.0.1, z.1, z.2)
+
     from : (e : Error) → F e ⊎ ((x : X) × (bs : List ℕ) × P x bs × G x bs e) → F e ⊎ ((x : X × List ℕ) × P x.0 x.1 × G x.0 x.1 e)
     from e (inl z) = inl z
     from e (inr z) = inr ((z.0, z.1), z.2, z.3)
@@ -123,6 +127,7 @@ reads_after {X} {Y} {r} {C} {F} a s Q G h k = reads_like (reads_bind (λ x. s) (
     to : (e : Error) → F e ⊎ ((x : X) × (C × (x ≡ a)) × G e) → F e ⊎ (C × G e)
     to e (inl z) = inl z
     to e (inr z) = inr (z.1.0, z.2)
+
     from : (e : Error) → F e ⊎ (C × G e) → F e ⊎ ((x : X) × (C × (x ≡ a)) × G e)
     from e (inl z) = inl z
     from e (inr z) = inr (a, (z.0, refl), z.1)
@@ -190,6 +195,7 @@ reads_long {Y} a b {r} {P} {F} e h = reads_like (reads_unless (ltb a b) e h) (λ
     to : (d : Error) → ((ltb a b ≡ true) × (d ≡ e)) ⊎ ((ltb a b ≡ false) × F d) → ((a < b) × (d ≡ e)) ⊎ ((b ≤ a) × F d)
     to d (inl z) = inl (ltb-true a b z.0, z.1)
     to d (inr z) = inr (ltb-false a b z.0, z.1)
+
     from : (d : Error) → ((a < b) × (d ≡ e)) ⊎ ((b ≤ a) × F d) → ((ltb a b ≡ true) × (d ≡ e)) ⊎ ((ltb a b ≡ false) × F d)
     from d (inl z) = inl (lt-ltb a b z.0, z.1)
     from d (inr z) = inr (le-ltb a b z.0, z.1)

@@ -18,12 +18,14 @@ judged_reads t w a = reads_if (passes t a) a (fault_of w (number_of a))
 pub field_reads : (f : Field) (bs : List ℕ) → Reads (field_at f bs) (λ x. Takes (λ front. IsField f front x.0 x.1) bs x.1) (FieldFault f bs)
 field_reads (one k) bs = reads_as (λ a. plain a) (IsKind k) bs (kind_reads k bs)
 field_reads (checked k t w) bs = reads_values (reads_then (λ a. judged t w a.0 >>= λ b. Ok (plain b, a.1)) (λ a mid. Takes (λ front. IsKind k front a) bs mid) (λ a mid y. (b : Atom) × ((passes t a ≡ true) × (b ≡ a)) × (y ≡ (plain b, mid)))
-        (λ a mid e. (passes t a ≡ false) × (e ≡ fault_of w (number_of a))) (kind_reads k bs) (λ a mid _. reads_map (λ b. (plain b, mid)) (judged_reads t w a)))
+    (λ a mid e. (passes t a ≡ false) × (e ≡ fault_of w (number_of a))) (kind_reads k bs) (λ a mid _. reads_map (λ b. (plain b, mid)) (judged_reads t w a)))
     (λ y. (λ p. rw (p.3.2, p.3.1.1) (p.2.0, p.2.1, (p.0, p.2.2, p.3.1.0, refl)), λ q. let h = q.2 in (h.0, y.1, (q.0, q.1, h.1), (h.0, (h.2, refl), λ i. (h.3 i, y.1)))))
 field_reads (block table) bs = reads_as (λ p. properties p) (IsBlock table) bs (block_reads table bs)
 field_reads remainder bs = reads_values (reads_ok (plain (content bs), []))
-    (λ y. (λ e. rw e (bs, sym (append-nil bs), (refl, refl)),
-      λ q. let all : bs ≡ q.0 = q.1 ∙ ap (λ r. q.0 ++ r) q.2.1 ∙ append-nil q.0 in λ i. ((q.2.0 ∙ ap (λ c. plain (content c)) (sym all)) i, q.2.1 i)))
+    (λ y. (
+      λ e. rw e (bs, sym (append-nil bs), (refl, refl)),
+      λ q. let all : bs ≡ q.0 = q.1 ∙ ap (λ r. q.0 ++ r) q.2.1 ∙ append-nil q.0 in λ i. ((q.2.0 ∙ ap (λ c. plain (content c)) (sym all)) i, q.2.1 i),
+    ))
 
 -- a value and the bytes after it are those
 pub known_reads : {X : Type 0} (x : X) (bs : List ℕ) → Reads {X = X × List ℕ} (Ok (x, bs)) (λ y. (y.0 ≡ x) × (y.1 ≡ bs)) (λ e. ⊥)

@@ -88,6 +88,7 @@ unfinished (suc most) (b ∷ bs) e = by_byte (unfinished most bs) (cases_lt b 12
   where
     none : Finished 1 b ≡ Unfinished → ⊥
     none h = absurd cc
+
     by_byte : (length_at most bs ≡ Unfinished → (length bs < most) × GoOn bs) → (b < 128) ⊎ (128 ≤ b) → (length (b ∷ bs) < suc most) × GoOn (b ∷ bs)
     by_byte again (inl lt) = absurd (none (sym (length_last most b bs lt) ∙ e))
     by_byte again (inr le) = let t = again (unfinished_behind b (length_at most bs) (sym (length_more most b bs le) ∙ e)) in (omega (arith, t.0), (le, t.1))
@@ -112,6 +113,7 @@ overlong (suc most) (b ∷ bs) e = by_byte (overlong most bs) (cases_lt b 128)
   where
     none : Finished 1 b ≡ Overlong → ⊥
     none h = absurd cc
+
     by_byte : (length_at most bs ≡ Overlong → OverlongFront most bs) → (b < 128) ⊎ (128 ≤ b) → OverlongFront (suc most) (b ∷ bs)
     by_byte again (inl lt) = absurd (none (sym (length_last most b bs lt) ∙ e))
     by_byte again (inr le) =

@@ -60,8 +60,8 @@ abbrev pub BlockFault : List Entry → List ℕ → Error → Type 0
 BlockFault table bs e =
     VarIntFault bs e
     ⊎ ((n : ℕ) × (after : List ℕ) × Takes (λ front. VarInt front n) bs after
-        × (((length after < n) × (e ≡ BoundaryCrossed n))
-            ⊎ ((items : List (ℕ × Atom)) × (here rest : List ℕ) × (after ≡ here ++ rest) × (length here ≡ n) × FaultAfter table here items e)))
+    × (((length after < n) × (e ≡ BoundaryCrossed n))
+    ⊎ ((items : List (ℕ × Atom)) × (here rest : List ℕ) × (after ≡ here ++ rest) × (length here ≡ n) × FaultAfter table here items e)))
 
 -- ---- steps
 

@@ -30,7 +30,7 @@ abbrev pub FrameFault : Rows → ℕ → List ℕ → Error → Type 0
 FrameFault rows first body e =
     ((row_among rows (first / 16) ≡ None) × (e ≡ InvalidPacketType (first / 16)))
     ⊎ ((row : Row) × (row_among rows (first / 16) ≡ Some row)
-        × (((lacks_body row body ≡ true) × (e ≡ PayloadRequired)) ⊎ ((lacks_body row body ≡ false) × RowFault row first (length body) body e)))
+    × (((lacks_body row body ≡ true) × (e ≡ PayloadRequired)) ⊎ ((lacks_body row body ≡ false) × RowFault row first (length body) body e)))
 
 -- these bytes are a first byte, the length of the body and the body
 abbrev pub IsWhole : List ℕ → ℕ → List ℕ → Type 0

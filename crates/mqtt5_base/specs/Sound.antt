@@ -42,4 +42,3 @@ text_sound t u h = same_text t u (bytes_sound t.bytes u.bytes h)
 
 pub pair_sound : {A B : Type 0} {E : A → A → Bool} {F : B → B → Bool} → ((x y : A) → E x y ≡ true → x ≡ y) → ((x y : B) → F x y ≡ true → x ≡ y) → (x y : A × B) → (E x.0 y.0 && F x.1 y.1) ≡ true → x ≡ y
 pair_sound e f x y h = let p = both (e x.0 y.0) (f x.1 y.1) h in λ i. (p.0 i, p.1 i)
-

@@ -13,7 +13,9 @@ use bytes::BytesMut;
 pub fn frame_size(body_len: usize) -> usize
     ensures { (first : ℕ) (body : List ℕ) → body_len ≡ min (length body) usize.MAX → result ≡ min (length (frame_of first body)) usize.MAX }
 {
-    body_len.saturating_add(varint_len(body_len)).saturating_add(1)
+    body_len
+        .saturating_add(varint_len(body_len))
+        .saturating_add(1)
 }
 
 /// Makes room for a frame and appends its first byte and its remaining length; answers the length of

@@ -6,11 +6,9 @@ ghost use Rattle.mqtt5_base.specs.Laws.{IsGrammar, IsShortest};
 /// first; of every frame exactly one of the two.
 pub fn grammar_laws()
     ensures { IsGrammar }
-{
-}
+{}
 
 /// The shortest form of a variable byte integer stands for its number, and no shorter bytes do.
 pub fn shortest_form()
     ensures { IsShortest }
-{
-}
+{}

@@ -46,8 +46,8 @@ fn variable_byte_integers(rt: HostRuntime) -> Result<(), Fail> {
 #[test]
 fn fields_in_a_row(rt: HostRuntime) -> Result<(), Fail> {
     let bytes: &[u8] = &[
-        0x05, 0x00, 0x3C, 0x00, 0x00, 0x04, 0xD2, 0x00, 0x02, 0x68, 0x69, 0x00, 0x03, 0x61, 0x2F, 0x62, 0x00,
-        0x02, 0xC3, 0x28, 0x01,
+        0x05, 0x00, 0x3C, 0x00, 0x00, 0x04, 0xD2, 0x00, 0x02, 0x68, 0x69, 0x00, 0x03, 0x61, 0x2F,
+        0x62, 0x00, 0x02, 0xC3, 0x28, 0x01,
     ];
     let mut stream = Bytes::copy_from_slice(rt.alloc(), bytes)?;
     assert_eq!(rt; read_u8(&mut stream), Ok(5));
@@ -55,8 +55,14 @@ fn fields_in_a_row(rt: HostRuntime) -> Result<(), Fail> {
     assert_eq!(rt; read_u32(&mut stream), Ok(1234));
     assert_eq!(rt; read_bytes(&mut stream)?.as_slice(), b"hi".as_slice());
     assert_eq!(rt; read_text(rt.alloc(), &mut stream)?.as_str(), "a/b");
-    assert_eq!(rt; read_text(rt.alloc(), &mut stream), Err(Error::TopicNotUtf8));
-    assert_eq!(rt; read_bytes(&mut stream)?.as_slice(), [0xC3, 0x28].as_slice());
+    assert_eq!(rt;
+        read_text(rt.alloc(), &mut stream),
+        Err(Error::TopicNotUtf8)
+    );
+    assert_eq!(rt;
+        read_bytes(&mut stream)?.as_slice(),
+        [0xC3, 0x28].as_slice()
+    );
     assert_eq!(rt; read_u16(&mut stream), Err(Error::MalformedPacket));
     assert_eq!(rt; read_u8(&mut stream), Ok(1));
     Ok(())
@@ -88,7 +94,10 @@ fn headers(rt: HostRuntime) -> Result<(), Fail> {
     let header = FixedHeader::new(0xF0, 1, 2);
     assert_eq!(rt; header.packet_type(), Ok(PacketType::Auth));
     assert_eq!(rt; header.frame_length(), 4);
-    assert_eq!(rt; FixedHeader::new(0x0F, 1, 2).packet_type(), Err(Error::InvalidPacketType(0)));
+    assert_eq!(rt;
+        FixedHeader::new(0x0F, 1, 2).packet_type(),
+        Err(Error::InvalidPacketType(0))
+    );
     assert_eq!(rt; qos(2), Some(QoS::ExactlyOnce));
     assert_eq!(rt; qos(3), None);
     assert_eq!(rt; QoS::default(), QoS::AtMostOnce);

@@ -1,8 +1,8 @@
 -- What a packet's own reading and writing say of the codec's.
-use Rattle.std.proofs.Common.{◌≡◌, ◌⊎◌, ℕ, List, ◌++◌, length, drop, take, Option, Some, None, Result, Ok, Err, refl, sym, ap, subst, ◌∙◌, inl, inr}
+use Rattle.std.proofs.Common.{◌≡◌, ◌⊎◌, ℕ, List, ◌++◌, Option, Result, Ok, Err, refl, ap, ◌∙◌, inl, inr}
 use Rattle.mqtt5_base.specs.declared.error.Error.{Error}
 use Rattle.mqtt5_base.specs.declared.error.Error.TheVariants.{OutOfMemory}
-use Rattle.mqtt5_base.specs.Front.{Front, Bad, front, front_of_error}
+use Rattle.mqtt5_base.specs.Front.{front, front_of_error}
 use Rattle.mqtt5_base.specs.Puts.{Writes}
 use Rattle.mqtt5_codec.specs.Codecs.{ReadsPacket}
 use Rattle.mqtt5_base.proofs.FrontLemmas.{front_no_memory}

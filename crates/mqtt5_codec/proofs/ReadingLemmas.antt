@@ -1,11 +1,10 @@
 -- The packet of a frame that was read by its type's own reader.
-use Rattle.std.proofs.Common.{◌≡◌, ℕ, ◌/◌, List, [], ◌∷◌, drop, Result, Ok, Err, IfOk, refl, sym, ap, ◌∙◌}
+use Rattle.std.proofs.Common.{◌≡◌, ℕ, ◌/◌, List, drop, Result, Ok, Err, IfOk, refl, sym, ap, ◌∙◌}
 use Rattle.mqtt5_base.specs.declared.error.Error.{Error}
-use Rattle.mqtt5_base.specs.declared.error.Error.TheVariants.{OutOfMemory}
 use Rattle.mqtt5_base.specs.declared.header.FixedHeader.{FixedHeader}
 use Rattle.mqtt5_base.specs.Grammar.{Content}
 use Rattle.mqtt5_base.specs.Headers.{IsHeader}
-use Rattle.mqtt5_base.specs.Reading.{◌>>=◌, Gives, frame_at, frame_values}
+use Rattle.mqtt5_base.specs.Reading.{◌>>=◌, Gives, frame_values}
 use Rattle.mqtt5_base.proofs.HeaderLemmas.{frame_at_header}
 use Rattle.mqtt5_codec.specs.declared.packet.Packet.{Packet}
 use Rattle.mqtt5_codec.specs.Packets.{packet_rows, packet_type, packet_content, packet_of, first_of, packet_in}
@@ -17,7 +16,7 @@ packet_in_header : (h : FixedHeader) (frame : List ℕ) → IsHeader h frame →
 unfolding packet_in
 packet_in_header h frame is =
     ap (λ (r : Result Content Error). r >>= λ c. Ok (packet_of (first_of frame / 16) c)) (frame_at_header packet_rows h frame is)
-        ∙ ap (λ (b : ℕ). frame_values packet_rows h.byte1 (drop h.fixed_header_len frame) >>= λ c. Ok (packet_of (b / 16) c)) (first_of_header h frame is)
+    ∙ ap (λ (b : ℕ). frame_values packet_rows h.byte1 (drop h.fixed_header_len frame) >>= λ c. Ok (packet_of (b / 16) c)) (first_of_header h frame is)
 
 -- what was read by its type's reader is the packet of the frame
 pub packet_read : (h : FixedHeader) (frame : List ℕ) → IsHeader h frame → (r : Result Packet Error) → Gives packet_content r (frame_values packet_rows h.byte1 (drop h.fixed_header_len frame)) → IfOk r (λ p. packet_type p ≡ h.byte1 / 16) → Gives (λ p. p) r (packet_in frame)

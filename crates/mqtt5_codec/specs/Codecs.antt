@@ -1,8 +1,8 @@
 -- What reading a packet from a stream and writing one to a buffer answer.
-use Rattle.std.specs.Prelude.{◌≡◌, ℕ, List, ◌++◌, length, take, drop, Option, Some, None, Result, Ok, Err, ◌⊎◌}
+use Rattle.std.specs.Prelude.{◌≡◌, ℕ, List, ◌++◌, take, drop, Option, Some, None, Result, Ok, Err, ◌⊎◌}
 use Rattle.mqtt5_base.specs.declared.error.Error.{Error}
 use Rattle.mqtt5_base.specs.declared.error.Error.TheVariants as errors
-use Rattle.mqtt5_base.specs.Front.{Front, Bad, More, Whole, front, front_of_error}
+use Rattle.mqtt5_base.specs.Front.{Bad, More, Whole, front, front_of_error}
 use Rattle.mqtt5_codec.specs.declared.packet.Packet.{Packet}
 use Rattle.mqtt5_codec.specs.Packets.{packet_in}
 

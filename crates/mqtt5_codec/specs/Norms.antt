@@ -1,5 +1,5 @@
 -- What a packet is read as after it was written.
-use Rattle.std.specs.Prelude.{◌≡◌, ℕ, ◌≤◌, List, ◌++◌, length, Option, Some, None, Result, Ok}
+use Rattle.std.specs.Prelude.{◌≡◌, ℕ, ◌≤◌, List, ◌++◌, length, Option, Some, None, Ok}
 use Rattle.mqtt5_base.specs.Front.{Whole, front}
 use Rattle.mqtt5_base.specs.Layout.{body_bytes}
 use Rattle.mqtt5_flow.specs.Norms.{publish_norm, puback_norm}

@@ -1,9 +1,7 @@
 -- This file serves the logic alone: the derived `==` of packets finds equal values alone.
-use Rattle.std.specs.Prelude.{◌≡◌, true}
 use Rattle.std.proofs.Common.{ap}
 use Rattle.mqtt5_base.specs.Sound.{Sound}
 use Rattle.mqtt5_flow.specs.Sound.{publish_sound, puback_sound}
-use Rattle.mqtt5_codec.specs.declared.packet.Packet.{Packet}
 use Rattle.mqtt5_codec.specs.declared.packet.Packet.TheVariants as packets
 use Rattle.mqtt5_codec.specs.contracts.packet.PacketPartialEq.TheImpl as packet
 

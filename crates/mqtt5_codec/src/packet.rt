@@ -23,7 +23,11 @@ impl Packet {
     /// `check`, with the stream unchanged; E5 of a type that isn't read, E13 of one without the body
     /// that it needs, or the first fault of its fields, with just the frame taken out; E21 does one of
     /// the two.
-    pub fn read(alloc: Global, stream: &mut BytesMut, max_size: Option<u32>) -> Result<Packet, Error>
+    pub fn read(
+        alloc: Global,
+        stream: &mut BytesMut,
+        max_size: Option<u32>,
+    ) -> Result<Packet, Error>
         ensures { ReadsPacket result max_size stream.old.items stream.new.items }
     {
         let header = check(stream.as_slice(), max_size)?;

@@ -64,7 +64,11 @@ fn read_frame(alloc: Global, header: FixedHeader, frame: Bytes) -> Result<Packet
 }
 
 /// Takes the frame of this header out of the stream and reads it.
-pub(crate) fn take_frame(alloc: Global, header: FixedHeader, stream: &mut BytesMut) -> Result<Packet, Error>
+pub(crate) fn take_frame(
+    alloc: Global,
+    header: FixedHeader,
+    stream: &mut BytesMut,
+) -> Result<Packet, Error>
     requires whole { frame_len header ≤ length stream.old.items }
     requires header { IsHeader header (take (frame_len header) stream.old.items) }
     ensures { TakesFrame (frame_len header) result stream.old.items stream.new.items }

@@ -32,7 +32,11 @@ fn written_and_read_back(rt: HostRuntime) -> Result<(), Fail> {
     for (packet, bytes) in packets {
         assert_eq!(rt; packet.size(), bytes.len(), "of {bytes:?}");
         let mut stream = BytesMut::new(rt.alloc());
-        assert_eq!(rt; packet.write(&mut stream, Some(12)), Ok(bytes.len()), "of {bytes:?}");
+        assert_eq!(rt;
+            packet.write(&mut stream, Some(12)),
+            Ok(bytes.len()),
+            "of {bytes:?}"
+        );
         assert_eq!(rt; stream.as_slice(), bytes);
         stream.extend_from_slice(&[0xAA])?;
         let read = Packet::read(rt.alloc(), &mut stream, Some(10))?;
@@ -50,17 +54,36 @@ fn refused_frames(rt: HostRuntime) -> Result<(), Fail> {
         (&[0x10, 0x00], Error::InvalidPacketType(1)),
         (&[0x30, 0x00], Error::PayloadRequired),
         (&[0x36, 0x03, 0x00, 0x01, 0x61], Error::InvalidQoS(3)),
-        (&[0x32, 0x06, 0x00, 0x01, 0x61, 0x00, 0x00, 0x00], Error::PacketIdZero),
-        (&[0x40, 0x05, 0x00, 0x01, 0x00, 0x01, 0x03], Error::InvalidPropertyType(3)),
-        (&[0x40, 0x05, 0x00, 0x01, 0x00, 0x01, 0x1F], Error::MalformedPacket),
-        (&[0x30, 0x04, 0x00, 0x01, 0x61, 0x80], Error::MalformedPacket),
-        (&[0x30, 0x05, 0x00, 0x01, 0x61, 0x09, 0x78], Error::BoundaryCrossed(9)),
+        (
+            &[0x32, 0x06, 0x00, 0x01, 0x61, 0x00, 0x00, 0x00],
+            Error::PacketIdZero,
+        ),
+        (
+            &[0x40, 0x05, 0x00, 0x01, 0x00, 0x01, 0x03],
+            Error::InvalidPropertyType(3),
+        ),
+        (
+            &[0x40, 0x05, 0x00, 0x01, 0x00, 0x01, 0x1F],
+            Error::MalformedPacket,
+        ),
+        (
+            &[0x30, 0x04, 0x00, 0x01, 0x61, 0x80],
+            Error::MalformedPacket,
+        ),
+        (
+            &[0x30, 0x05, 0x00, 0x01, 0x61, 0x09, 0x78],
+            Error::BoundaryCrossed(9),
+        ),
     ];
     for (frame, why) in table {
         let mut stream = BytesMut::new(rt.alloc());
         stream.extend_from_slice(frame)?;
         stream.extend_from_slice(&[0xAA])?;
-        assert_eq!(rt; Packet::read(rt.alloc(), &mut stream, None), Err(why), "of {frame:?}");
+        assert_eq!(rt;
+            Packet::read(rt.alloc(), &mut stream, None),
+            Err(why),
+            "of {frame:?}"
+        );
         assert_eq!(rt; stream.as_slice(), [0xAA].as_slice(), "of {frame:?}");
     }
     Ok(())
@@ -80,7 +103,10 @@ fn properties_are_read(rt: HostRuntime) -> Result<(), Fail> {
     assert_eq!(rt; publish.topic.as_slice(), b"a".as_slice());
     assert_eq!(rt; publish.payload.as_slice(), b"x".as_slice());
     let properties = publish.properties.ok_or("no properties")?;
-    assert_eq!(rt; properties.subscription_identifiers.as_slice(), [1, 2, 3].as_slice());
+    assert_eq!(rt;
+        properties.subscription_identifiers.as_slice(),
+        [1, 2, 3].as_slice()
+    );
     Ok(())
 }
 
@@ -107,7 +133,10 @@ fn refused_writes(rt: HostRuntime) -> Result<(), Fail> {
     }
     let ack = Packet::PubAck(PubAck::new(1, None));
     let mut buffer = BytesMut::new(rt.alloc());
-    let too_large = Error::OutgoingPacketTooLarge { pkt_size: 4, max: 3 };
+    let too_large = Error::OutgoingPacketTooLarge {
+        pkt_size: 4,
+        max: 3,
+    };
     assert_eq!(rt; ack.write(&mut buffer, Some(3)), Err(too_large));
     assert!(rt; buffer.is_empty());
     Ok(())

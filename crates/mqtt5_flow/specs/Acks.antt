@@ -1,5 +1,5 @@
 -- An ack as it is written (MQTT 5.0 section 3.4).
-use Rattle.std.specs.Prelude.{ℕ, ◌==◌, Bool, true, false, List, [], ◌∷◌, ◌++◌, Option, is_none, if◌then◌else◌}
+use Rattle.std.specs.Prelude.{ℕ, ◌==◌, Bool, false, List, [], ◌∷◌, ◌++◌, Option, is_none, if◌then◌else◌}
 use Rattle.std.specs.Int.{w16, to_be_bytes}
 use Rattle.mqtt5_base.specs.Grammar.{number, Entry, Found, Value, plain, properties}
 use Rattle.mqtt5_base.specs.Layout.{WrittenPacket, plainly, block_bytes}

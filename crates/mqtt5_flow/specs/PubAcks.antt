@@ -1,5 +1,5 @@
 -- A PubAck as the values of its row (MQTT 5.0 section 3.4).
-use Rattle.std.specs.Prelude.{ℕ, ◌==◌, List, [], ◌∷◌, Option, option_map, if◌then◌else◌}
+use Rattle.std.specs.Prelude.{ℕ, ◌==◌, [], ◌∷◌, option_map, if◌then◌else◌}
 use Rattle.mqtt5_base.specs.Grammar.{Found, Content}
 use Rattle.mqtt5_base.specs.Views.{texts, pairs, one_text, all_pairs, here_in, number_in, found_in}
 use Rattle.mqtt5_base.specs.Layout.{WrittenPacket}

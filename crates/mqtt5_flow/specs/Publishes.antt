@@ -1,5 +1,5 @@
 -- A Publish as the values of its row (MQTT 5.0 section 3.3).
-use Rattle.std.specs.Prelude.{ℕ, ◌==◌, ◌+◌, ◌*◌, List, [], ◌∷◌, Option, option_map}
+use Rattle.std.specs.Prelude.{ℕ, ◌==◌, ◌+◌, ◌*◌, List, [], ◌∷◌, option_map}
 use Rattle.mqtt5_base.specs.Grammar.{number, content, Found, Value, plain, properties, Content}
 use Rattle.mqtt5_base.specs.Views.{qos_number, qos_of, bit, numbers, contents, texts, pairs, identifiers, one_number, one_content, one_text, all_pairs, all_numbers, here_in, number_in, content_in, found_in}
 use Rattle.mqtt5_base.specs.Layout.{WrittenPacket, plainly}
@@ -40,23 +40,23 @@ publish_packet p = plainly (publish_first p) (publish_values p)
 
 abbrev pub publish_set : Found → PublishProperties
 publish_set f = record {
-    payload_format_indicator = one_number (here_in f 0);
-    message_expiry_interval = one_number (here_in f 1);
-    topic_alias = one_number (here_in f 2);
-    response_topic = one_text (here_in f 3);
-    correlation_data = one_content (here_in f 4);
-    user_properties = all_pairs (here_in f 5);
-    subscription_identifiers = all_numbers (here_in f 6);
-    content_type = one_text (here_in f 7)
-  }
+  payload_format_indicator = one_number (here_in f 0);
+  message_expiry_interval = one_number (here_in f 1);
+  topic_alias = one_number (here_in f 2);
+  response_topic = one_text (here_in f 3);
+  correlation_data = one_content (here_in f 4);
+  user_properties = all_pairs (here_in f 5);
+  subscription_identifiers = all_numbers (here_in f 6);
+  content_type = one_text (here_in f 7);
+}
 
 abbrev pub publish_of : Content → Publish
 publish_of c = record {
-    dup = number_in c.0 0 == 1;
-    qos = qos_of (number_in c.0 1);
-    retain = number_in c.0 2 == 1;
-    topic = content_in c.0 3;
-    pkid = number_in c.0 4;
-    payload = content_in c.0 6;
-    properties = option_map publish_set (found_in c.0 5)
-  }
+  dup = number_in c.0 0 == 1;
+  qos = qos_of (number_in c.0 1);
+  retain = number_in c.0 2 == 1;
+  topic = content_in c.0 3;
+  pkid = number_in c.0 4;
+  payload = content_in c.0 6;
+  properties = option_map publish_set (found_in c.0 5);
+}

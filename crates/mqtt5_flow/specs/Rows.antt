@@ -1,6 +1,6 @@
 -- The rows of Publish and of the acks (MQTT 5.0 sections 3.3 to 3.7).
-use Rattle.std.specs.Prelude.{ℕ, true, false, List, [], ◌∷◌, None}
-use Rattle.mqtt5_base.specs.Grammar.{u8, u16, bytes, number, Entry, single, several_of, Test, any_of, not_zero, bad_reason, bad_qos, zero_id, plain, properties, Field, one, checked, block, remainder, given, read, whole, bits, always, longer, set, Step, field, note, judge, Row, there, bit_of, is_qos, steps_row}
+use Rattle.std.specs.Prelude.{true, false, List, [], ◌∷◌, None}
+use Rattle.mqtt5_base.specs.Grammar.{u8, u16, bytes, number, Entry, single, several_of, Test, any_of, not_zero, bad_reason, bad_qos, zero_id, plain, properties, Field, one, checked, block, remainder, given, read, whole, bits, always, longer, set, field, note, judge, Row, there, bit_of, is_qos, steps_row}
 
 -- ---- Publish (3.3)
 
@@ -16,15 +16,15 @@ publish_id = checked u16 not_zero zero_id
 abbrev pub publish_row : Row
 publish_row =
     steps_row
-      (note (bit_of given 8)
-      ∷ note (bits given 2 4)
-      ∷ note (bit_of given 1)
-      ∷ judge always (whole (read 1)) is_qos bad_qos
-      ∷ there (one bytes)
-      ∷ field (set (whole (read 1))) publish_id (plain (number 0))
-      ∷ there (block publish_table)
-      ∷ there remainder
-      ∷ [])
+    (note (bit_of given 8)
+    ∷ note (bits given 2 4)
+    ∷ note (bit_of given 1)
+    ∷ judge always (whole (read 1)) is_qos bad_qos
+    ∷ there (one bytes)
+    ∷ field (set (whole (read 1))) publish_id (plain (number 0))
+    ∷ there (block publish_table)
+    ∷ there remainder
+    ∷ [])
 
 -- ---- PubAck, PubRec, PubRel and PubComp (3.4 to 3.7)
 
@@ -36,16 +36,16 @@ ack_table = single 31 ∷ several_of 38 ∷ []
 -- properties; the reason code is judged last
 abbrev pub ack_row : Test → List Entry → Row
 ack_row codes table = record {
-    steps =
+  steps =
       there (one u16)
       ∷ field (longer 2) (one u8) (plain (number 0))
       ∷ field (longer 3) (block table) (properties None)
       ∷ judge always (whole (read 1)) codes bad_reason
       ∷ [];
-    parts = [];
-    bare = false;
-    brief = true
-  }
+  parts = [];
+  bare = false;
+  brief = true;
+}
 
 -- the reason codes of a PubAck and of a PubRec (3.4.2.1, 3.5.2.1)
 abbrev pub puback_codes : Test

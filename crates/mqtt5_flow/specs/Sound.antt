@@ -1,17 +1,11 @@
 -- This file serves the logic alone: the derived `==` of each type finds equal values alone.
-use Rattle.std.specs.Prelude.{◌≡◌, true}
 use Rattle.std.proofs.Common.{rules}
 use Rattle.mqtt5_base.specs.Sound.{Sound, both, bool_sound, number_sound, option_sound, list_sound, bytes_sound, text_sound, pair_sound}
 use Rattle.mqtt5_base.specs.contracts.quality.QoSPartialEq.TheImpl as qos
-use Rattle.mqtt5_flow.specs.declared.puback.PubAckReason.{PubAckReason}
 use Rattle.mqtt5_flow.specs.contracts.puback.PubAckReasonPartialEq.TheImpl as puback_reason
-use Rattle.mqtt5_flow.specs.declared.puback.PubAckProperties.{PubAckProperties}
 use Rattle.mqtt5_flow.specs.contracts.puback.PubAckPropertiesPartialEq.TheImpl as puback_properties
-use Rattle.mqtt5_flow.specs.declared.puback.PubAck.{PubAck}
 use Rattle.mqtt5_flow.specs.contracts.puback.PubAckPartialEq.TheImpl as puback
-use Rattle.mqtt5_flow.specs.declared.publish.PublishProperties.{PublishProperties}
 use Rattle.mqtt5_flow.specs.contracts.publish.PublishPropertiesPartialEq.TheImpl as publish_properties
-use Rattle.mqtt5_flow.specs.declared.publish.Publish.{Publish}
 use Rattle.mqtt5_flow.specs.contracts.publish.PublishPartialEq.TheImpl as publish
 
 qos_sound : Sound qos.eq-value.it
@@ -33,41 +27,41 @@ puback_sound x y h =
 pub publish_properties_sound : Sound publish_properties.eq-value.it
 publish_properties_sound x y h =
     let e =
-        both (option_sound number_sound x.payload_format_indicator y.payload_format_indicator)
-        (both (option_sound number_sound x.message_expiry_interval y.message_expiry_interval)
-        (both (option_sound number_sound x.topic_alias y.topic_alias)
-        (both (option_sound text_sound x.response_topic y.response_topic)
-        (both (option_sound bytes_sound x.correlation_data y.correlation_data)
-        (both (list_sound (pair_sound text_sound text_sound) x.user_properties y.user_properties)
-        (both (list_sound number_sound x.subscription_identifiers y.subscription_identifiers)
-        (option_sound text_sound x.content_type y.content_type))))))) h in
+    both (option_sound number_sound x.payload_format_indicator y.payload_format_indicator)
+    (both (option_sound number_sound x.message_expiry_interval y.message_expiry_interval)
+    (both (option_sound number_sound x.topic_alias y.topic_alias)
+    (both (option_sound text_sound x.response_topic y.response_topic)
+    (both (option_sound bytes_sound x.correlation_data y.correlation_data)
+    (both (list_sound (pair_sound text_sound text_sound) x.user_properties y.user_properties)
+    (both (list_sound number_sound x.subscription_identifiers y.subscription_identifiers)
+    (option_sound text_sound x.content_type y.content_type))))))) h in
     λ i. record {
-        payload_format_indicator = e.0 i;
-        message_expiry_interval = e.1.0 i;
-        topic_alias = e.1.1.0 i;
-        response_topic = e.1.1.1.0 i;
-        correlation_data = e.1.1.1.1.0 i;
-        user_properties = e.1.1.1.1.1.0 i;
-        subscription_identifiers = e.1.1.1.1.1.1.0 i;
-        content_type = e.1.1.1.1.1.1.1 i
-      }
+      payload_format_indicator = e.0 i;
+      message_expiry_interval = e.1.0 i;
+      topic_alias = e.1.1.0 i;
+      response_topic = e.1.1.1.0 i;
+      correlation_data = e.1.1.1.1.0 i;
+      user_properties = e.1.1.1.1.1.0 i;
+      subscription_identifiers = e.1.1.1.1.1.1.0 i;
+      content_type = e.1.1.1.1.1.1.1 i;
+    }
 
 pub publish_sound : Sound publish.eq-value.it
 publish_sound x y h =
     let e =
-        both (bool_sound x.dup y.dup)
-        (both (qos_sound x.qos y.qos)
-        (both (bool_sound x.retain y.retain)
-        (both (bytes_sound x.topic y.topic)
-        (both (number_sound x.pkid y.pkid)
-        (both (bytes_sound x.payload y.payload)
-        (option_sound publish_properties_sound x.properties y.properties)))))) h in
+    both (bool_sound x.dup y.dup)
+    (both (qos_sound x.qos y.qos)
+    (both (bool_sound x.retain y.retain)
+    (both (bytes_sound x.topic y.topic)
+    (both (number_sound x.pkid y.pkid)
+    (both (bytes_sound x.payload y.payload)
+    (option_sound publish_properties_sound x.properties y.properties)))))) h in
     λ i. record {
-        dup = e.0 i;
-        qos = e.1.0 i;
-        retain = e.1.1.0 i;
-        topic = e.1.1.1.0 i;
-        pkid = e.1.1.1.1.0 i;
-        payload = e.1.1.1.1.1.0 i;
-        properties = e.1.1.1.1.1.1 i
-      }
+      dup = e.0 i;
+      qos = e.1.0 i;
+      retain = e.1.1.0 i;
+      topic = e.1.1.1.0 i;
+      pkid = e.1.1.1.1.0 i;
+      payload = e.1.1.1.1.1.0 i;
+      properties = e.1.1.1.1.1.1 i;
+    }

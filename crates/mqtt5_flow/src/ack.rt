@@ -10,8 +10,8 @@ ghost use Rattle.mqtt5_flow.specs.Acks.{ack_packet, ack_is_short, ack_body};
 
 use bytes::{Bytes, BytesMut};
 use mqtt5_base::{
-    Error, FieldValue, FixedHeader, PropertySet, block_fits, block_len, frame_size, put_block, read_block, read_u8,
-    read_u16, start_frame,
+    Error, FieldValue, FixedHeader, PropertySet, block_fits, block_len, frame_size, put_block,
+    read_block, read_u8, read_u16, start_frame,
 };
 use std::alloc::Global;
 

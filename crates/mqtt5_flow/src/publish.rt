@@ -11,8 +11,8 @@ ghost use Rattle.mqtt5_flow.specs.Publishes.{publish_found, publish_first, publi
 
 use bytes::{Bytes, BytesMut};
 use mqtt5_base::{
-    Error, FieldValue, FixedHeader, Property, PropertySet, QoS, Sequence, Tagged, Text, block_fits, block_len,
-    frame_size, put_block, qos, read_block, read_bytes, read_u16, start_frame,
+    Error, FieldValue, FixedHeader, Property, PropertySet, QoS, Sequence, Tagged, Text, block_fits,
+    block_len, frame_size, put_block, qos, read_block, read_bytes, read_u16, start_frame,
 };
 use std::alloc::{AllocError, Global};
 
@@ -214,7 +214,11 @@ impl Publish {
     fn body_len(&self) -> usize
         ensures { result ≡ min (length (body_bytes publish_row (publish_packet self.now))) usize.MAX }
     {
-        let id_len: usize = if self.qos == QoS::AtMostOnce || self.pkid == 0 { 0 } else { 2 };
+        let id_len: usize = if self.qos == QoS::AtMostOnce || self.pkid == 0 {
+            0
+        } else {
+            2
+        };
         self.topic
             .field_len()
             .saturating_add(id_len)

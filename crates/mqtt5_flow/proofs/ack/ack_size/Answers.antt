@@ -8,4 +8,4 @@ pub returns : goal.returns
 returns g c = λ first id.
     let p = option_map g.P.PropertySet.found c.args.properties.now in
     c.frame_size.ensures first (ack_body g.P.PropertySet.table id (g.R.Reason.code c.args.reason) p) c.body_len.ensures
-        ∙ ap (λ (b : List ℕ). min (length (frame_of first b)) 18446744073709551615) (sym (ack_written g.R.Reason.codes g.P.PropertySet.table first id (g.R.Reason.code c.args.reason) p))
+    ∙ ap (λ (b : List ℕ). min (length (frame_of first b)) 18446744073709551615) (sym (ack_written g.R.Reason.codes g.P.PropertySet.table first id (g.R.Reason.code c.args.reason) p))
