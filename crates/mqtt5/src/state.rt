@@ -332,8 +332,8 @@ impl MqttState {
     {
         let id = publish.pkid;
         self.events.reserve(1)?;
-        let sent = copied(publish)?;
-        self.slots.insert(id, Slot::Sent(sent))?;
+        let stored = copied(publish)?;
+        self.slots.insert(id, Slot::Sent(stored))?;
         self.events
             .push_back_reserved(Event::Outgoing(Outgoing::Publish(id)));
         self.last_pkid = last;
