@@ -16,15 +16,11 @@ sevens (b ∷ bs) = b % 128 + 128 * sevens bs
 abbrev pub VarInt : List ℕ → ℕ → Type 0
 VarInt bs n = (length bs ≤ 4) × IsEnded bs × (n ≡ sevens bs)
 
--- the greatest number that has such bytes
-abbrev pub longest : ℕ
-longest = 268435455
-
 abbrev pub var_int_in : ℕ → ℕ → List ℕ
 var_int_in zero n = n ∷ []
 var_int_in (suc k) n = if nat_lt n 128 then n ∷ [] else (n % 128 + 128) ∷ var_int_in k (n / 128)
 
--- the shortest bytes of a number up to the greatest
+-- the shortest bytes of a number, up to 268,435,455
 unfoldable pub var_int : ℕ → List ℕ
 var_int n = var_int_in 3 n
 
