@@ -10,7 +10,7 @@ use Rattle.mqtt5_base.specs.Frames.{IsWhole}
 use Rattle.mqtt5_base.specs.Front.{Front, Bad, More, Whole, cut, within, by_remaining, front, IsFront}
 use Rattle.mqtt5_base.specs.Headers.{IsHeader, Checks, frame_len}
 use Rattle.mqtt5_base.specs.VarInt.{Length, Overlong, Unfinished, Finished, length_at}
-use Rattle.mqtt5_base.proofs.LengthLemmas.{Keeps, length_keeps, finished_reads, finished_stands, unfinished_before}
+use Rattle.mqtt5_base.proofs.LengthLemmas.{Keeps, length_keeps, finished_some, finished_stands, unfinished_before}
 
 -- ---- what is decided stays so
 
@@ -212,7 +212,7 @@ front_lacks : (limit : Option ℕ) (s more : List ℕ) (k : ℕ) (frame rest : L
 unfolding front
 front_lacks limit [] more k frame rest whole e =
     let two : 2 ≡ k = cc in
-    (omega arith, omega (arith, (finished_reads 4 whole.others whole.count whole.n whole.remaining).some))
+    (omega arith, omega (arith, finished_some 4 whole.others whole.count whole.n whole.remaining))
 front_lacks limit (b ∷ s) more k frame rest whole e =
     let others : whole.others ≡ s ++ more = cc in
     remaining_lacks limit b s more k whole.count whole.n (ap (length_at 4) (sym others) ∙ whole.remaining) (length_at 4 s) refl e
