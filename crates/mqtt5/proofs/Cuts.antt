@@ -1,5 +1,5 @@
 -- Pieces that are cut.
-use Rattle.std.proofs.Common.{◌≡◌, ℕ, List, [], ◌∷◌, ◌++◌, refl, sym, ap, ◌∙◌, append_assoc}
+use Rattle.std.proofs.Common.{◌≡◌, ℕ, List, [], ◌∷◌, ◌++◌, refl, ap, ◌∙◌, append_assoc}
 use Rattle.mqtt5.specs.declared.run.Step.{Step}
 use Rattle.mqtt5.specs.Run.{Atom, Byte, bytes_of, of_input, atoms, piece}
 

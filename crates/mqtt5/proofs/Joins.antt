@@ -1,15 +1,15 @@
 -- A run over two lists.
-use Rattle.std.proofs.Common.{◌≡◌, ℕ, List, [], ◌∷◌, ◌++◌, Option, Some, None, Result, Ok, Err, refl, sym, ap, ◌∙◌, append_assoc}
+use Rattle.std.proofs.Common.{◌≡◌, ℕ, List, [], ◌∷◌, ◌++◌, Option, Result, Ok, Err, refl, sym, ap, ◌∙◌, append_assoc}
 use Rattle.mqtt5_base.specs.Front.{Front, Bad, More, Whole, front}
 use Rattle.mqtt5_base.specs.declared.error.Error.{Error}
 use Rattle.mqtt5_codec.specs.declared.codec.Codec.{Codec}
 use Rattle.mqtt5_codec.specs.declared.packet.Packet.{Packet}
 use Rattle.mqtt5_codec.specs.Packets.{packet_in}
-use Rattle.mqtt5.specs.Session.{Session, Answer, out, inc}
+use Rattle.mqtt5.specs.Session.{Session, out, inc}
 use Rattle.mqtt5.specs.declared.error.StateError.{StateError}
 use Rattle.mqtt5.specs.declared.run.Step.{Step}
 use Rattle.mqtt5.specs.Course.{Course, Rests, Faults, Moves, End, Ending, Holds, Fault, finish}
-use Rattle.mqtt5.specs.Run.{Atom, Byte, Ask, of_input, atoms, reply_bytes, answered, moved, stepped, received, looked, run}
+use Rattle.mqtt5.specs.Run.{Atom, Byte, Ask, of_input, atoms, reply_bytes, answered, moved, received, looked, run}
 
 -- a course, and from where it rests another
 abbrev pub after : Session → Course → (Session → List ℕ → Course) → Course

@@ -1,14 +1,14 @@
 -- The run over a piece, byte by byte, is that of the whole frames in it.
-use Rattle.std.proofs.Common.{◌≡◌, ℕ, List, [], ◌∷◌, ◌++◌, Option, Some, None, Result, Ok, Err, refl, sym, ap, subst, ◌∙◌, append_assoc}
+use Rattle.std.proofs.Common.{◌≡◌, ℕ, List, [], ◌∷◌, ◌++◌, refl, sym, ap, subst, ◌∙◌, append_assoc}
 use Rattle.std.proofs.lemmas.List.{append-nil}
 use Rattle.mqtt5_base.specs.Front.{Front, Bad, More, Whole, front}
 use Rattle.mqtt5_base.proofs.FrontLemmas.{front_is}
 use Rattle.mqtt5_codec.specs.declared.codec.Codec.{Codec}
 use Rattle.mqtt5_codec.specs.Packets.{packet_in}
-use Rattle.mqtt5.specs.Session.{Session, Answer, out, inc}
+use Rattle.mqtt5.specs.Session.{Session}
 use Rattle.mqtt5.specs.Errors.{state_error}
-use Rattle.mqtt5.specs.Course.{Course, Rests, Faults, Moves}
-use Rattle.mqtt5.specs.Run.{Atom, Byte, Ask, bytes_of, received, looked, run}
+use Rattle.mqtt5.specs.Course.{Course, Faults}
+use Rattle.mqtt5.specs.Run.{Atom, bytes_of, received, looked, run}
 
 -- what comes of a stream whose front is this
 abbrev pub outcome : Codec → ℕ → List Atom → Session → List ℕ → Front → Course

@@ -1,22 +1,20 @@
 -- What the codec and the session do with the front of a stream is what the run does.
 use Rattle.std.specs.Prelude.{OnOk, IfErr}
-use Rattle.std.proofs.Common.{◌≡◌, ◌<◌, ◌⊎◌, ℕ, List, [], ◌∷◌, ◌++◌, length, Option, Some, None, Result, Ok, Err, refl, sym, ap, subst, ◌∙◌, inl, inr}
-use Rattle.mqtt5_base.specs.Front.{Front, Bad, More, Whole, front}
+use Rattle.std.proofs.Common.{◌≡◌, ◌<◌, ℕ, List, [], ◌∷◌, ◌++◌, length, Some, None, Result, Ok, Err, refl, sym, ap, ◌∙◌, inl, inr}
+use Rattle.mqtt5_base.specs.Front.{Bad, More, Whole, front}
 use Rattle.mqtt5_base.specs.declared.error.Error.{Error}
-use Rattle.mqtt5_base.specs.declared.error.Error.TheVariants as errors
 use Rattle.mqtt5_base.proofs.FrontLemmas.{front_is}
 use Rattle.mqtt5_codec.specs.declared.codec.Codec.{Codec}
 use Rattle.mqtt5_codec.specs.declared.packet.Packet.{Packet}
 use Rattle.mqtt5_codec.specs.Packets.{packet_in}
 use Rattle.mqtt5_codec.specs.Codecs.{Decodes}
-use Rattle.mqtt5.specs.Session.{Session, Answer, out, inc}
+use Rattle.mqtt5.specs.Session.{Session, out, inc}
 use Rattle.mqtt5.specs.Errors.{state_error}
 use Rattle.mqtt5.specs.declared.error.StateError.{StateError}
 use Rattle.mqtt5.specs.declared.event.Request.{Request}
-use Rattle.mqtt5.specs.declared.error.StateError.TheVariants as faults
-use Rattle.mqtt5.specs.Course.{Course, Rests, Faults, Moves, finish, Passes, Stops, LeadsTo, Fault, Holds}
+use Rattle.mqtt5.specs.Course.{Course, finish, Stops, LeadsTo, Holds}
 use Rattle.mqtt5.specs.Run.{Atom, Ask, bytes_of, stepped, received, run, Goes, Drained, IsMore}
-use Rattle.mqtt5.proofs.Settles.{outcome, from_start, regroup}
+use Rattle.mqtt5.proofs.Settles.{from_start, regroup}
 use Rattle.mqtt5.proofs.Ways.{leads_same, leads_on, stops_on, passes_here}
 
 -- a whole frame with a packet is one step of the session

@@ -1,6 +1,6 @@
 -- Courses that lead to one another.
-use Rattle.std.proofs.Common.{◌≡◌, ◌⊎◌, ℕ, List, [], ◌∷◌, ◌++◌, refl, sym, ap, subst, ◌∙◌, inl, inr}
-use Rattle.mqtt5.specs.Session.{Session, Answer, out, inc}
+use Rattle.std.proofs.Common.{◌≡◌, ℕ, List, refl, sym, ap, subst, ◌∙◌, inl, inr}
+use Rattle.mqtt5.specs.Session.{Session}
 use Rattle.mqtt5.specs.declared.error.StateError.{StateError}
 use Rattle.mqtt5.specs.Course.{Course, Rests, Faults, Moves, finish, Passes, Stops, LeadsTo}
 

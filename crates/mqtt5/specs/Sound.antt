@@ -1,9 +1,7 @@
 -- This file serves the logic alone: the derived `==` of requests finds equal values alone.
-use Rattle.std.specs.Prelude.{◌≡◌, true}
 use Rattle.std.proofs.Common.{ap}
 use Rattle.mqtt5_base.specs.Sound.{Sound}
 use Rattle.mqtt5_flow.specs.Sound.{publish_sound}
-use Rattle.mqtt5.specs.declared.event.Request.{Request}
 use Rattle.mqtt5.specs.declared.event.Request.TheVariants as requests
 use Rattle.mqtt5.specs.contracts.event.RequestPartialEq.TheImpl as request
 

@@ -1,8 +1,5 @@
-use Rattle.std.proofs.Common.{◌≡◌, ap, drop, [], arith, length, subst, List}
+use Rattle.std.proofs.Common.{◌≡◌, drop, [], arith}
 use Rattle.std.proofs.lemmas.List.{drop_all}
-use Rattle.mqtt5.specs.declared.run.Step.{Step}
-use Rattle.mqtt5.specs.Course.{LeadsTo}
-use Rattle.mqtt5.specs.Run.{run, atoms}
 use Rattle.mqtt5.proofs.Taking.{ended}
 use Rattle.mqtt5.proofs.run.drive.Goals as goal
 

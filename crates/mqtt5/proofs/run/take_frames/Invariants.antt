@@ -1,4 +1,4 @@
-use Rattle.std.proofs.Common.{◌≡◌, length}
+use Rattle.std.proofs.Common.{length}
 use Rattle.mqtt5.specs.Run.{Drained}
 use Rattle.mqtt5.proofs.run.take_frames.Given as goal
 

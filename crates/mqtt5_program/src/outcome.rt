@@ -1,0 +1,43 @@
+//! What came of a script.
+
+use bytes::BytesMut;
+use mqtt5::{MqttState, StateError, Step, drive};
+use mqtt5_base::front_laws;
+use mqtt5_codec::Codec;
+use std::alloc::Global;
+use std::num::NonZeroU16;
+
+/// The session and the bytes written once the steps ran, and the fault that ended them.
+#[derive(Drop)]
+pub struct Outcome {
+    pub state: MqttState,
+    pub written: BytesMut,
+    pub fault: Option<StateError>,
+}
+
+/// Runs the steps on a new session and empty buffers, by a codec without limits. S12 where the session
+/// can't be made; a fault of the run is the outcome's.
+pub fn run_steps(alloc: Global, limit: NonZeroU16, steps: &[Step]) -> Result<Outcome, StateError> {
+    let mut state = MqttState::new(alloc, limit.get(), false)?;
+    let mut codec = Codec {
+        max_incoming_size: None,
+        max_outgoing_size: None,
+    };
+    let mut input = BytesMut::new(alloc);
+    let mut written = BytesMut::new(alloc);
+    front_laws();
+    let fault = drive(
+        alloc,
+        &mut state,
+        &mut codec,
+        &mut input,
+        &mut written,
+        steps,
+    )
+    .err();
+    Ok(Outcome {
+        state,
+        written,
+        fault,
+    })
+}

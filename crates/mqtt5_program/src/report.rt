@@ -1,0 +1,154 @@
+//! The lines that tell of an outcome. Printing takes no memory.
+
+ghost use Rattle.std.specs.Prelude.{◌≤◌, length};
+
+use crate::outcome::Outcome;
+use mqtt5::{Event, Outgoing, StateError};
+use mqtt5_base::Error;
+use mqtt5_codec::Packet;
+use mqtt5_flow::Publish;
+use std::io;
+use std::io::Write;
+
+/// How many bytes are turned into digits at once.
+const CHUNK: usize = 256;
+
+/// Prints the bytes written, the events in order, how many ids are in use, and the fault.
+pub fn write_outcome<W: Write>(output: &mut W, outcome: &mut Outcome) -> io::Result<()> {
+    output.write_all(b"out ")?;
+    write_hex(output, outcome.written.as_slice())?;
+    output.write_all(b"\n")?;
+    while let Some(event) = outcome.state.pop_event() {
+        write_event(output, &event)?;
+    }
+    writeln!(output, "inflight {}", outcome.state.inflight())?;
+    match &outcome.fault {
+        Some(fault) => write_fault(output, fault),
+        None => Ok(()),
+    }
+}
+
+/// Prints a fault by its number: S2 with its id, S7 with the number of what it holds.
+pub fn write_fault<W: Write>(output: &mut W, fault: &StateError) -> io::Result<()> {
+    match fault {
+        StateError::Unsolicited(id) => writeln!(output, "fault S2 {id}"),
+        StateError::Deserialization(error) => writeln!(output, "fault S7 E{}", error_number(error)),
+        other => writeln!(output, "fault S{}", fault_number(other)),
+    }
+}
+
+fn write_event<W: Write>(output: &mut W, event: &Event) -> io::Result<()> {
+    match event {
+        Event::Outgoing(outgoing) => {
+            let (name, id) = sent(outgoing);
+            match id {
+                Some(id) => writeln!(output, "sent {name} {id}"),
+                None => writeln!(output, "sent {name}"),
+            }
+        }
+        Event::Incoming(Packet::Publish(publish)) => write_got(output, publish),
+        Event::Incoming(Packet::PubAck(ack)) => writeln!(output, "got PubAck {}", ack.pkid),
+    }
+}
+
+fn write_got<W: Write>(output: &mut W, publish: &Publish) -> io::Result<()> {
+    write!(output, "got Publish {} ", publish.pkid)?;
+    write_hex(output, publish.topic.as_slice())?;
+    output.write_all(b" ")?;
+    write_hex(output, publish.payload.as_slice())?;
+    output.write_all(b"\n")
+}
+
+/// Two digits a byte, or `-` for none.
+fn write_hex<W: Write>(output: &mut W, bytes: &[u8]) -> io::Result<()> {
+    if bytes.is_empty() {
+        return output.write_all(b"-");
+    }
+    let mut rest = bytes;
+    while !rest.is_empty() {
+        let (chunk, after) = rest.split_at(rest.len().min(CHUNK));
+        write_digits(output, chunk)?;
+        rest = after;
+    }
+    Ok(())
+}
+
+fn write_digits<W: Write>(output: &mut W, chunk: &[u8]) -> io::Result<()>
+    requires { length chunk.now ≤ CHUNK }
+{
+    let mut buffer = [0u8; 2 * CHUNK];
+    let digits = &mut buffer[..2 * chunk.len()];
+    hex::encode_to_slice(chunk, digits).unwrap();
+    output.write_all(digits)
+}
+
+/// The name of what was sent, and its id where it has one.
+fn sent(outgoing: &Outgoing) -> (&'static str, Option<u16>) {
+    match *outgoing {
+        Outgoing::Publish(id) => ("Publish", Some(id)),
+        Outgoing::Subscribe(id) => ("Subscribe", Some(id)),
+        Outgoing::Unsubscribe(id) => ("Unsubscribe", Some(id)),
+        Outgoing::PubAck(id) => ("PubAck", Some(id)),
+        Outgoing::PubRec(id) => ("PubRec", Some(id)),
+        Outgoing::PubRel(id) => ("PubRel", Some(id)),
+        Outgoing::PubComp(id) => ("PubComp", Some(id)),
+        Outgoing::PingReq => ("PingReq", None),
+        Outgoing::Disconnect => ("Disconnect", None),
+        Outgoing::AwaitAck(id) => ("AwaitAck", Some(id)),
+    }
+}
+
+/// The number of a fault, or 0 of one that is never answered.
+fn fault_number(fault: &StateError) -> u8 {
+    match fault {
+        StateError::InvalidState => 1,
+        StateError::Unsolicited(_) => 2,
+        StateError::AwaitPingResp => 3,
+        StateError::WrongPacket => 4,
+        StateError::CollisionTimeout => 5,
+        StateError::EmptySubscription => 6,
+        StateError::Deserialization(_) => 7,
+        StateError::InvalidAlias { .. } => 8,
+        StateError::OutgoingPacketTooLarge { .. } => 9,
+        StateError::ServerDisconnect => 10,
+        StateError::ConnFail => 11,
+        StateError::OutOfMemory => 12,
+        StateError::Io
+        | StateError::Coversion
+        | StateError::IncomingPacketTooLarge
+        | StateError::ConnectionAborted => 0,
+    }
+}
+
+/// The number of why a frame isn't read, or a packet isn't written; 0 of one that is never answered.
+fn error_number(error: &Error) -> u8 {
+    match error {
+        Error::InvalidConnectReturnCode(_) => 1,
+        Error::InvalidProtocol => 2,
+        Error::InvalidProtocolLevel(_) => 3,
+        Error::IncorrectPacketFormat => 4,
+        Error::InvalidPacketType(_) => 5,
+        Error::InvalidRetainForwardRule(_) => 6,
+        Error::InvalidQoS(_) => 7,
+        Error::InvalidSubscribeReasonCode(_) => 8,
+        Error::PacketIdZero => 9,
+        Error::EmptySubscription => 10,
+        Error::PayloadTooLong => 11,
+        Error::PayloadSizeLimitExceeded { .. } => 12,
+        Error::PayloadRequired => 13,
+        Error::TopicNotUtf8 => 14,
+        Error::BoundaryCrossed(_) => 15,
+        Error::MalformedPacket => 16,
+        Error::MalformedRemainingLength => 17,
+        Error::InvalidPropertyType(_) => 18,
+        Error::InsufficientBytes(_) => 19,
+        Error::OutgoingPacketTooLarge { .. } => 20,
+        Error::OutOfMemory => 21,
+        Error::InvalidReason(_)
+        | Error::InvalidRemainingLength(_)
+        | Error::SubscriptionIdZero
+        | Error::PayloadSizeIncorrect
+        | Error::PayloadNotUtf8
+        | Error::Io => 0,
+    }
+}

@@ -1,0 +1,137 @@
+//! A script of steps, one on each line.
+
+use bytes::Bytes;
+use hex::FromHexError;
+use mqtt5::{Input, Request, Step};
+use mqtt5_base::{Error, qos};
+use mqtt5_flow::Publish;
+use std::alloc::{AllocError, AllocFailed, Global};
+use std::io::{ErrorKind, Read};
+
+/// How many bytes a script may have.
+const LONGEST: usize = 1_000_000;
+
+/// Why a script isn't run.
+#[derive(Debug, PartialEq, Eq, Drop)]
+pub enum ScriptError {
+    /// The line of this number, from 1, says nothing; 0 where the script is too long or isn't UTF-8.
+    Bad(usize),
+    /// A read failed.
+    Stdin,
+    OutOfMemory,
+}
+
+impl From<AllocFailed<Step>> for ScriptError {
+    fn from(_refused: AllocFailed<Step>) -> ScriptError {
+        ScriptError::OutOfMemory
+    }
+}
+
+/// Why a line has no step.
+#[derive(Clone, Copy, Debug, PartialEq, Eq)]
+enum LineError {
+    Bad,
+    OutOfMemory,
+}
+
+impl LineError {
+    fn at(self, number: usize) -> ScriptError {
+        match self {
+            LineError::Bad => ScriptError::Bad(number),
+            LineError::OutOfMemory => ScriptError::OutOfMemory,
+        }
+    }
+}
+
+impl From<FromHexError> for LineError {
+    fn from(error: FromHexError) -> LineError {
+        match error {
+            FromHexError::OutOfMemory => LineError::OutOfMemory,
+            _other => LineError::Bad,
+        }
+    }
+}
+
+/// Reads a script and takes its lines apart; empty lines count, and have no step.
+pub fn read_script<R: Read>(alloc: Global, input: &mut R) -> Result<Vec<Step>, ScriptError> {
+    let bytes = read_bytes(alloc, input)?;
+    match str::from_utf8(bytes.as_slice()) {
+        Ok(text) => parse_script(alloc, text),
+        Err(_) => Err(ScriptError::Bad(0)),
+    }
+}
+
+fn read_bytes<R: Read>(alloc: Global, input: &mut R) -> Result<Vec<u8>, ScriptError> {
+    let mut bytes = Vec::new(alloc);
+    match input.take(LONGEST as u64 + 1).read_to_end(&mut bytes) {
+        Ok(_) if bytes.len() > LONGEST => Err(ScriptError::Bad(0)),
+        Ok(_) => Ok(bytes),
+        Err(error) if error.kind() == ErrorKind::OutOfMemory => Err(ScriptError::OutOfMemory),
+        Err(_) => Err(ScriptError::Stdin),
+    }
+}
+
+fn parse_script(alloc: Global, text: &str) -> Result<Vec<Step>, ScriptError> {
+    let mut steps = Vec::new(alloc);
+    let mut number = 0usize;
+    for line in text.split('\n') {
+        number = number.saturating_add(1);
+        if !line.is_empty() {
+            steps.push(parse_line(alloc, line).map_err(|error| error.at(number))?)?;
+        }
+    }
+    Ok(steps)
+}
+
+fn parse_line(alloc: Global, line: &str) -> Result<Step, LineError> {
+    let (word, rest) = line.split_once(' ').ok_or(LineError::Bad)?;
+    let (at, rest) = rest.split_once(' ').ok_or(LineError::Bad)?;
+    let at = parse_number(at).ok_or(LineError::Bad)?;
+    let input = match word {
+        "in" => Input::Bytes(parse_bytes(alloc, rest)?),
+        "pub" => Input::Request(parse_publish(alloc, rest)?),
+        _ => return Err(LineError::Bad),
+    };
+    Ok(Step { at, input })
+}
+
+/// The QOS, TOPIC and PAYLOAD of a publish.
+fn parse_publish(alloc: Global, fields: &str) -> Result<Request, LineError> {
+    let (number, fields) = fields.split_once(' ').ok_or(LineError::Bad)?;
+    let (topic, payload) = fields.split_once(' ').ok_or(LineError::Bad)?;
+    let number = parse_number(number).ok_or(LineError::Bad)?;
+    let number = u8::try_from(number).map_err(|_| LineError::Bad)?;
+    let quality = qos(number).ok_or(LineError::Bad)?;
+    let topic = parse_topic(alloc, topic)?;
+    let payload = parse_bytes(alloc, payload)?;
+    match Publish::new(alloc, topic.as_str(), quality, payload, None) {
+        Ok(publish) => Ok(Request::Publish(publish)),
+        Err(_) => Err(LineError::OutOfMemory),
+    }
+}
+
+fn parse_topic(alloc: Global, field: &str) -> Result<String, LineError> {
+    String::from_utf8(parse_hex(alloc, field)?).map_err(|_| LineError::Bad)
+}
+
+fn parse_bytes(alloc: Global, field: &str) -> Result<Bytes, LineError> {
+    Bytes::from_vec(parse_hex(alloc, field)?).map_err(|_| LineError::OutOfMemory)
+}
+
+/// Bytes of two digits each, at least one, or none as `-`.
+fn parse_hex(alloc: Global, field: &str) -> Result<Vec<u8>, LineError> {
+    match field {
+        "" => Err(LineError::Bad),
+        "-" => Ok(Vec::new(alloc)),
+        digits => Ok(hex::decode(alloc, digits)?),
+    }
+}
+
+/// A number of decimal digits alone, which fits a `u64`.
+pub fn parse_number(field: &str) -> Option<u64> {
+    if field.bytes().all(|byte| byte.is_ascii_digit()) {
+        field.parse::<u64>().ok()
+    } else {
+        None
+    }
+}

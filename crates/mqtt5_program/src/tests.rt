@@ -1,0 +1,197 @@
+//! Words and scripts, and what is printed.
+
+use crate::run::run;
+use std::alloc::{AllocError, Global};
+use std::io;
+use std::io::{ErrorKind, Read, Write};
+use std::test::Fail;
+
+/// The lines of a publish of QoS 1 and its ack.
+const ACKED: &str = "out 320a0003612f620001006869\nsent Publish 1\ngot PubAck 1\ninflight 0\n";
+
+const USAGE: &str = "usage: mqtt5 drive LIMIT | mqtt5 world LIMIT | mqtt5 bench\n";
+
+/// A script, what `drive 10` prints of it, and the status.
+const SCRIPTS: [(&str, &str, u8); 34] = [
+    ("pub 0 1 612f62 6869\nin 1 40\nin 1 0200\nin 1 01", ACKED, 0),
+    ("pub 0 1 612f62 6869\nin 1 40020001\n", ACKED, 0),
+    (
+        "pub 0 0 61 -\n",
+        "out 300400016100\nsent Publish 0\ninflight 0\n",
+        0,
+    ),
+    (
+        "in 1 40020001\n",
+        "out -\ngot PubAck 1\ninflight 0\nfault S2 1\n",
+        1,
+    ),
+    (
+        "in 1 300400016180\n",
+        "out -\ninflight 0\nfault S7 E16\n",
+        1,
+    ),
+    ("pub 0 3 61 -\n", "line 1: bad\n", 2),
+    ("", "out -\ninflight 0\n", 0),
+    ("pub 0 2 61 -\n", "out -\ninflight 0\nfault S1\n", 1),
+    (
+        "in 1 320700016100070078\n",
+        "out 40020007\ngot Publish 7 61 78\nsent PubAck 7\ninflight 0\n",
+        0,
+    ),
+    (
+        "pub 00 001 612F62 6869",
+        "out 320a0003612f620001006869\nsent Publish 1\ninflight 1\n",
+        0,
+    ),
+    (
+        "pub 0 0 - -\n",
+        "out 3003000000\nsent Publish 0\ninflight 0\n",
+        0,
+    ),
+    ("in 18446744073709551615 -\n", "out -\ninflight 0\n", 0),
+    ("\n\nin 1 -\n\nin 1 4\n\npub\n", "line 5: bad\n", 2),
+    ("in 18446744073709551616 -\n", "line 1: bad\n", 2),
+    ("in +1 -\n", "line 1: bad\n", 2),
+    ("in  1 -\n", "line 1: bad\n", 2),
+    ("in 1  -\n", "line 1: bad\n", 2),
+    ("in 1 - \n", "line 1: bad\n", 2),
+    ("in\t1 -\n", "line 1: bad\n", 2),
+    ("in 1 -\r\n", "line 1: bad\n", 2),
+    ("in 1 -40\n", "line 1: bad\n", 2),
+    ("in 1 40-\n", "line 1: bad\n", 2),
+    ("in 1 4g\n", "line 1: bad\n", 2),
+    ("in 1 \n", "line 1: bad\n", 2),
+    ("in  -\n", "line 1: bad\n", 2),
+    ("in 1\n", "line 1: bad\n", 2),
+    ("in\n", "line 1: bad\n", 2),
+    (" \n", "line 1: bad\n", 2),
+    ("In 1 -\n", "line 1: bad\n", 2),
+    ("ping 1\n", "line 1: bad\n", 2),
+    ("pub 0 256 61 -\n", "line 1: bad\n", 2),
+    ("pub 0 1 61\n", "line 1: bad\n", 2),
+    ("pub 0 1 ff -\n", "line 1: bad\n", 2),
+    ("pub 0 1 61 - -\n", "line 1: bad\n", 2),
+];
+
+/// Words, and what the program prints on them where each read fails.
+const WORDS: [(&str, &str, u8); 13] = [
+    ("drive 0", USAGE, 2),
+    ("drive 65536", USAGE, 2),
+    ("drive +1", USAGE, 2),
+    ("drive", USAGE, 2),
+    ("fly", USAGE, 2),
+    ("", USAGE, 2),
+    ("drive ", USAGE, 2),
+    ("drive 10 10", USAGE, 2),
+    ("world 10", USAGE, 2),
+    ("bench", USAGE, 2),
+    ("drive 1", "fault stdin\n", 1),
+    ("drive 00010", "fault stdin\n", 1),
+    ("drive 65535", "fault stdin\n", 1),
+];
+
+/// Gives its bytes, and then fails.
+#[derive(Drop)]
+struct FailingReader {
+    bytes: &'static [u8],
+}
+
+impl Read for FailingReader {
+    fn read(&mut self, buf: &mut [u8]) -> io::Result<usize> {
+        if self.bytes.is_empty() {
+            return Err(io::Error::from(ErrorKind::Other));
+        }
+        self.bytes.read(buf)
+    }
+}
+
+/// Takes so many bytes, and then fails.
+#[derive(Drop)]
+struct FailingWriter {
+    room: usize,
+}
+
+impl Write for FailingWriter {
+    fn write(&mut self, buf: &[u8]) -> io::Result<usize> {
+        if self.room < buf.len() {
+            return Err(io::Error::from(ErrorKind::Other));
+        }
+        self.room -= buf.len();
+        Ok(buf.len())
+    }
+
+    fn flush(&mut self) -> io::Result<()> {
+        Ok(())
+    }
+}
+
+fn owned(alloc: Global, words: &str) -> Result<Vec<String>, AllocError> {
+    words
+        .split(' ')
+        .map(|word| String::from_str(alloc, word))
+        .try_collect(alloc)
+}
+
+/// What the program prints, and its status.
+fn printed<R: Read>(alloc: Global, words: &str, input: &mut R) -> Result<(String, u8), Fail> {
+    let words = owned(alloc, words)?;
+    let mut output = Vec::new(alloc);
+    let status = run(alloc, words.as_slice(), input, &mut output);
+    match String::from_utf8(output) {
+        Ok(text) => Ok((text, status)),
+        Err(_) => Err(Fail::from("not UTF-8")),
+    }
+}
+
+#[test]
+fn scripts(rt: HostRuntime) -> Result<(), Fail> {
+    for (script, lines, want) in SCRIPTS {
+        let mut input = script.as_bytes();
+        let (text, status) = printed(rt.alloc(), "drive 10", &mut input)?;
+        assert_eq!(rt; text.as_str(), lines, "of {script:?}");
+        assert_eq!(rt; status, want, "of {script:?}");
+    }
+    Ok(())
+}
+
+#[test]
+fn longest_scripts(rt: HostRuntime) -> Result<(), Fail> {
+    for (byte, len, lines, want) in [
+        (b'\n', 1_000_000, "out -\ninflight 0\n", 0),
+        (b'\n', 1_000_001, "line 0: bad\n", 2),
+        (0xFF, 1, "line 0: bad\n", 2),
+    ] {
+        let script = vec![in rt.alloc(); byte; len]?;
+        let mut input = script.as_slice();
+        let (text, status) = printed(rt.alloc(), "drive 10", &mut input)?;
+        assert_eq!(rt; text.as_str(), lines, "of {len} bytes");
+        assert_eq!(rt; status, want, "of {len} bytes");
+    }
+    Ok(())
+}
+
+#[test]
+fn words(rt: HostRuntime) -> Result<(), Fail> {
+    for (words, lines, want) in WORDS {
+        let mut input = FailingReader { bytes: b"in 1 -\n" };
+        let (text, status) = printed(rt.alloc(), words, &mut input)?;
+        assert_eq!(rt; text.as_str(), lines, "of {words:?}");
+        assert_eq!(rt; status, want, "of {words:?}");
+    }
+    Ok(())
+}
+
+#[test]
+fn failing_writes(rt: HostRuntime) -> Result<(), Fail> {
+    for (words, lines, done) in [("drive 10", ACKED, 0), ("fly", USAGE, 2)] {
+        let words = owned(rt.alloc(), words)?;
+        for room in 0..=lines.len() {
+            let mut input: &[u8] = b"pub 0 1 612f62 6869\nin 1 40020001\n";
+            let mut output = FailingWriter { room };
+            let status = run(rt.alloc(), words.as_slice(), &mut input, &mut output);
+            let want = if room < lines.len() { 1 } else { done };
+            assert_eq!(rt; status, want, "with room for {room} bytes");
+        }
+    }
+    Ok(())
+}
