@@ -44,8 +44,8 @@ pub enum StateError {
     #[error("Cannot send packet of size '{pkt_size:?}'. It's greater than the broker's maximum packet size of: '{max:?}'")]
     OutgoingPacketTooLarge { pkt_size: u32, max: u32 },
     /// Never answered.
-    #[error("Cannot receive a packet that is greater than the client's maximum packet size")]
-    IncomingPacketTooLarge,
+    #[error("Cannot receive packet of size '{pkt_size:?}'. It's greater than the client's maximum packet size of: '{max:?}'")]
+    IncomingPacketTooLarge { pkt_size: usize, max: usize },
     /// S10: the broker ended the connection.
     #[error("Server sent disconnect")]
     ServerDisconnect,

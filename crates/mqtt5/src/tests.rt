@@ -2,7 +2,7 @@
 
 use crate::error::StateError;
 use crate::event::Request;
-use crate::run::{Input, Step, drive};
+use crate::run::{Input, Step, cutting, drive, twice};
 use crate::state::MqttState;
 use bytes::{Bytes, BytesMut};
 use mqtt5_base::{QoS, front_laws};
@@ -137,6 +137,8 @@ fn driven(alloc: Global) -> Result<(BytesMut, u16), StateError> {
 
 #[test]
 fn one_publish_out_its_ack_in(rt: HostRuntime) -> Result<(), Fail> {
+    cutting();
+    twice();
     let (output, inflight) = driven(rt.alloc())?;
     let frame = [
         0x32, 0x0A, 0x00, 0x03, 0x61, 0x2F, 0x62, 0x00, 0x01, 0x00, 0x68, 0x69,

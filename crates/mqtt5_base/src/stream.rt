@@ -46,6 +46,7 @@ mod tests {
 
     #[test]
     fn checks_fronts(rt: HostRuntime) -> Result<(), Fail> {
+        front_laws();
         let refused: [(&[u8], Option<u32>, Error); 7] = [
             (&[], None, Error::InsufficientBytes(2)),
             (&[0x30], None, Error::InsufficientBytes(1)),

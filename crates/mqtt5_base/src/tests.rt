@@ -5,6 +5,7 @@ use crate::exact::{copied, same};
 use crate::fields::{read_bytes, read_text, read_u8, read_u16, read_u32, read_varint};
 use crate::frame::{frame_size, start_frame};
 use crate::header::{FixedHeader, PacketType};
+use crate::laws::{grammar_laws, shortest_form};
 use crate::mqttbytes::qos;
 use crate::quality::QoS;
 use crate::sequence::Sequence;
@@ -91,6 +92,8 @@ fn texts_and_lists(rt: HostRuntime) -> Result<(), Fail> {
 
 #[test]
 fn headers(rt: HostRuntime) -> Result<(), Fail> {
+    grammar_laws();
+    shortest_form();
     let header = FixedHeader::new(0xF0, 1, 2);
     assert_eq!(rt; header.packet_type(), Ok(PacketType::Auth));
     assert_eq!(rt; header.frame_length(), 4);

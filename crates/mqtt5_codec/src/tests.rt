@@ -1,6 +1,7 @@
 //! Worked frames.
 
 use crate::codec::Codec;
+use crate::frames::frame_laws;
 use crate::packet::Packet;
 use bytes::{Bytes, BytesMut};
 use mqtt5_base::{Error, QoS, copied, same};
@@ -30,6 +31,7 @@ fn written_and_read_back(rt: HostRuntime) -> Result<(), Fail> {
         (Packet::PubAck(PubAck::new(1, None)), PUBACK),
     ];
     for (packet, bytes) in packets {
+        packet.reads_back();
         assert_eq!(rt; packet.size(), bytes.len(), "of {bytes:?}");
         let mut stream = BytesMut::new(rt.alloc());
         assert_eq!(rt;
@@ -144,6 +146,7 @@ fn refused_writes(rt: HostRuntime) -> Result<(), Fail> {
 
 #[test]
 fn codec_in_pieces(rt: HostRuntime) -> Result<(), Fail> {
+    frame_laws();
     let codec = Codec {
         max_incoming_size: None,
         max_outgoing_size: None,

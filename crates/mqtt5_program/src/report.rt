@@ -115,7 +115,7 @@ fn fault_number(fault: &StateError) -> u8 {
         StateError::OutOfMemory => 12,
         StateError::Io
         | StateError::Coversion
-        | StateError::IncomingPacketTooLarge
+        | StateError::IncomingPacketTooLarge { .. }
         | StateError::ConnectionAborted => 0,
     }
 }
