@@ -5,7 +5,8 @@ use Rattle.std.specs.Int.{w16, to_be_bytes}
 use Rattle.mqtt5_base.specs.Grammar.{Entry, Found, Test}
 use Rattle.mqtt5_base.specs.Layout.{block_bytes, body_bytes}
 use Rattle.mqtt5_flow.specs.Rows.{ack_row}
-use Rattle.mqtt5_flow.specs.Acks.{ack_packet, ack_body}
+use Rattle.mqtt5_flow.specs.Acks.{ack_packet}
+use Rattle.mqtt5_flow.specs.AckBody.{ack_body}
 
 -- the body is the identifier, and where it isn't short the code and the block
 pub ack_written : (codes : Test) (table : List Entry) (first id code : ℕ) (p : Option Found) → body_bytes (ack_row codes table) (ack_packet first id code p) ≡ ack_body table id code p

@@ -2,27 +2,47 @@
 use Rattle.std.proofs.Common.{◌≡◌, rules}
 use Rattle.mqtt5_base.specs.Layout.{content_of_packet}
 use Rattle.mqtt5_base.proofs.ViewsBack.{qos_back, bit_back, numbers_back, contents_back, texts_back, pairs_back, identifiers_back, set_back}
+use Rattle.mqtt5_flow.specs.declared.properties.AckProperties.{AckProperties}
 use Rattle.mqtt5_flow.specs.declared.puback.PubAckReason.{PubAckReason}
-use Rattle.mqtt5_flow.specs.declared.puback.PubAckProperties.{PubAckProperties}
+use Rattle.mqtt5_flow.specs.declared.pubrel.PubRelReason.{PubRelReason}
 use Rattle.mqtt5_flow.specs.declared.puback.PubAck.{PubAck}
+use Rattle.mqtt5_flow.specs.declared.pubrec.PubRec.{PubRec}
+use Rattle.mqtt5_flow.specs.declared.pubrel.PubRel.{PubRel}
+use Rattle.mqtt5_flow.specs.declared.pubcomp.PubComp.{PubComp}
 use Rattle.mqtt5_flow.specs.declared.publish.PublishProperties.{PublishProperties}
 use Rattle.mqtt5_flow.specs.declared.publish.Publish.{Publish}
-use Rattle.mqtt5_flow.specs.PubAcks.{puback_code, puback_found, puback_packet, puback_reason, puback_set, puback_of}
+use Rattle.mqtt5_flow.specs.Acks.{ack_found, ack_set, puback_code, puback_reason, pubrel_code, pubrel_reason, puback_packet, puback_of, pubrec_packet, pubrec_of, pubrel_packet, pubrel_of, pubcomp_packet, pubcomp_of}
 use Rattle.mqtt5_flow.specs.Publishes.{publish_found, publish_packet, publish_set, publish_of}
 
--- ---- PubAck
+-- ---- acks
 
 -- a reason is that of its code
 puback_reason_back : (r : PubAckReason) → puback_reason (puback_code r) ≡ r
 puback_reason_back = search rules
 
+-- a reason is that of its code
+pubrel_reason_back : (r : PubRelReason) → pubrel_reason (pubrel_code r) ≡ r
+pubrel_reason_back = search rules
+
 -- the properties are those of their values
-puback_set_back : (s : PubAckProperties) → puback_set (puback_found s) ≡ s
-puback_set_back s = λ i. record { reason_string = texts_back s.reason_string i; user_properties = pairs_back s.user_properties i }
+ack_set_back : (s : AckProperties) → ack_set (ack_found s) ≡ s
+ack_set_back s = λ i. record { reason_string = texts_back s.reason_string i; user_properties = pairs_back s.user_properties i }
 
 -- A PubAck is the one of its values.
 pub puback_back : (p : PubAck) → puback_of (content_of_packet (puback_packet p)) ≡ p
-puback_back p = λ i. record { pkid = p.pkid; reason = puback_reason_back p.reason i; properties = set_back puback_found puback_set puback_set_back p.properties i }
+puback_back p = λ i. record { pkid = p.pkid; reason = puback_reason_back p.reason i; properties = set_back ack_found ack_set ack_set_back p.properties i }
+
+-- A PubRec is the one of its values.
+pub pubrec_back : (p : PubRec) → pubrec_of (content_of_packet (pubrec_packet p)) ≡ p
+pubrec_back p = λ i. record { pkid = p.pkid; reason = puback_reason_back p.reason i; properties = set_back ack_found ack_set ack_set_back p.properties i }
+
+-- A PubRel is the one of its values.
+pub pubrel_back : (p : PubRel) → pubrel_of (content_of_packet (pubrel_packet p)) ≡ p
+pubrel_back p = λ i. record { pkid = p.pkid; reason = pubrel_reason_back p.reason i; properties = set_back ack_found ack_set ack_set_back p.properties i }
+
+-- A PubComp is the one of its values.
+pub pubcomp_back : (p : PubComp) → pubcomp_of (content_of_packet (pubcomp_packet p)) ≡ p
+pubcomp_back p = λ i. record { pkid = p.pkid; reason = pubrel_reason_back p.reason i; properties = set_back ack_found ack_set ack_set_back p.properties i }
 
 -- ---- Publish
 

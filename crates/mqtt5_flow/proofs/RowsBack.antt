@@ -1,13 +1,14 @@
--- What the rows of Publish and PubAck give comes back from the packets that are made of it.
+-- What the rows of Publish and of the acks give comes back from the packets that are made of it.
 use Rattle.std.specs.Prelude.{nat_lt}
-use Rattle.std.proofs.Common.{◌≡◌, ℕ, ◌/◌, ◌%◌, true, List, [], ◌∷◌, Option, refl, sym, ap, ◌∙◌}
+use Rattle.std.proofs.Common.{◌≡◌, ℕ, ◌/◌, ◌%◌, true, List, [], ◌∷◌, Option, option_map, refl, sym, ap, ◌∙◌}
 use Rattle.mqtt5_base.specs.Grammar.{u8, u16, bytes, Atom, number, number_of, Entry, Found, Test, not_zero, passes, zero_id, plain, properties, atom_of, Content}
 use Rattle.mqtt5_base.specs.Fields.{props, IsRow}
+use Rattle.mqtt5_base.specs.Views.{number_in, found_in}
 use Rattle.mqtt5_base.specs.Layout.{content_of_packet}
 use Rattle.mqtt5_base.proofs.SetShapes.{kept_by, ComeBack, IsBack, numbers_again, contents_again, texts_again, pairs_again, identifiers_again, set_again}
 use Rattle.mqtt5_base.proofs.FieldShapes.{one_back, remainder_back, properties_back, maybe_one, maybe_checked, maybe_properties, among_each, qos_again}
-use Rattle.mqtt5_flow.specs.Rows.{publish_table, publish_row, ack_table, ack_row, puback_codes, puback_row}
-use Rattle.mqtt5_flow.specs.PubAcks.{puback_code, puback_found, puback_packet, puback_reason, puback_set, puback_of}
+use Rattle.mqtt5_flow.specs.Rows.{publish_table, publish_row, ack_table, ack_row, puback_codes, pubrel_codes, puback_row, pubrel_row}
+use Rattle.mqtt5_flow.specs.Acks.{ack_found, ack_set, puback_code, puback_reason, pubrel_code, pubrel_reason, puback_packet, puback_of, pubrec_packet, pubrec_of, pubrel_packet, pubrel_of, pubcomp_packet, pubcomp_of}
 use Rattle.mqtt5_flow.specs.Publishes.{publish_found, publish_packet, publish_set, publish_of}
 use Rattle.mqtt5_flow.proofs.Bits.{bit_of_mod}
 
@@ -72,18 +73,41 @@ ack_row_again codes table first len body c rest h =
     let kept : h.0.kept ≡ (plain id.0 ∷ plain code.0 ∷ properties p.0 ∷ []) = ap (λ k. k.kept) j.1.0 ∙ (λ i. id.1 i ∷ code.1 i ∷ p.1 i ∷ []) in
     (id.0, code.0, p.0, h.5 ∙ (λ i. (kept i, h.4.0 i)), id.2, code.2, ap (λ v. passes codes (atom_of v)) (sym code.1) ∙ j.0 refl, p.2)
 
--- the properties of a PubAck
-puback_set_again : (items : List (ℕ × Atom)) → ComeBack items → puback_found (puback_set (props ack_table items)) ≡ props ack_table items
-puback_set_again items l = λ i. texts_again _ (l 31) i ∷ pairs_again _ (l 38) i ∷ []
+-- the properties of an ack
+ack_set_again : (items : List (ℕ × Atom)) → ComeBack items → ack_found (ack_set (props ack_table items)) ≡ props ack_table items
+ack_set_again items l = λ i. texts_again _ (l 31) i ∷ pairs_again _ (l 38) i ∷ []
 
--- the reason of a PubAck
+-- What the row of an ack gives comes back, where each code does.
+ack_comes_back : (codes : Test) (back : ℕ → ℕ) → ((n : ℕ) → passes codes (number n) ≡ true → back n ≡ n) → (first len : ℕ) (body : List ℕ) (c : Content) (rest : List ℕ) → IsRow (ack_row codes ack_table) first len body c rest
+    → (plain (number (number_in c.0 0)) ∷ plain (number (back (number_in c.0 1))) ∷ properties (option_map ack_found (option_map ack_set (found_in c.0 2))) ∷ [], []) ≡ c
+ack_comes_back codes back each first len body c rest h =
+    let a = ack_row_again codes ack_table first len body c rest h in
+    let code = ap number (each (number_of a.1) (ap (passes codes) a.5 ∙ a.6)) ∙ a.5 in
+    let set = set_again ack_table ack_found ack_set ack_set_again a.2 a.7 in
+    ap (λ (z : Content). (plain (number (number_in z.0 0)) ∷ plain (number (back (number_in z.0 1))) ∷ properties (option_map ack_found (option_map ack_set (found_in z.0 2))) ∷ [], [])) a.3
+    ∙ (λ i. (plain (a.4 i) ∷ plain (code i) ∷ properties (set i) ∷ [], []))
+    ∙ sym a.3
+
+-- the reason of a PubAck or a PubRec
 puback_code_again : (n : ℕ) → passes puback_codes (number n) ≡ true → puback_code (puback_reason n) ≡ n
 puback_code_again n h = among_each (λ m. puback_code (puback_reason m) ≡ m) (0 ∷ 16 ∷ 128 ∷ 131 ∷ 135 ∷ 144 ∷ 145 ∷ 151 ∷ 153 ∷ []) (refl, (refl, (refl, (refl, (refl, (refl, (refl, (refl, (refl, tt))))))))) n h
 
+-- the reason of a PubRel or a PubComp
+pubrel_code_again : (n : ℕ) → passes pubrel_codes (number n) ≡ true → pubrel_code (pubrel_reason n) ≡ n
+pubrel_code_again n h = among_each (λ m. pubrel_code (pubrel_reason m) ≡ m) (0 ∷ 146 ∷ []) (refl, (refl, tt)) n h
+
 -- What the row of a PubAck gives comes back.
 pub puback_row_again : (first len : ℕ) (body : List ℕ) (c : Content) (rest : List ℕ) → IsRow puback_row first len body c rest → content_of_packet (puback_packet (puback_of c)) ≡ c
-puback_row_again first len body c rest h =
-    let a = ack_row_again puback_codes ack_table first len body c rest h in
-    let code = ap number (puback_code_again (number_of a.1) a.6) ∙ a.5 in
-    let set = set_again ack_table puback_found puback_set puback_set_again a.2 a.7 in
-    ap (λ z. content_of_packet (puback_packet (puback_of z))) a.3 ∙ (λ i. (plain (a.4 i) ∷ plain (code i) ∷ properties (set i) ∷ [], [])) ∙ sym a.3
+puback_row_again = ack_comes_back puback_codes (λ n. puback_code (puback_reason n)) puback_code_again
+
+-- What the row of a PubRec gives comes back.
+pub pubrec_row_again : (first len : ℕ) (body : List ℕ) (c : Content) (rest : List ℕ) → IsRow puback_row first len body c rest → content_of_packet (pubrec_packet (pubrec_of c)) ≡ c
+pubrec_row_again = ack_comes_back puback_codes (λ n. puback_code (puback_reason n)) puback_code_again
+
+-- What the row of a PubRel gives comes back.
+pub pubrel_row_again : (first len : ℕ) (body : List ℕ) (c : Content) (rest : List ℕ) → IsRow pubrel_row first len body c rest → content_of_packet (pubrel_packet (pubrel_of c)) ≡ c
+pubrel_row_again = ack_comes_back pubrel_codes (λ n. pubrel_code (pubrel_reason n)) pubrel_code_again
+
+-- What the row of a PubComp gives comes back.
+pub pubcomp_row_again : (first len : ℕ) (body : List ℕ) (c : Content) (rest : List ℕ) → IsRow pubrel_row first len body c rest → content_of_packet (pubcomp_packet (pubcomp_of c)) ≡ c
+pubcomp_row_again = ack_comes_back pubrel_codes (λ n. pubrel_code (pubrel_reason n)) pubrel_code_again

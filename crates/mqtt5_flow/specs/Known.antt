@@ -3,8 +3,12 @@ use Rattle.std.specs.Prelude.{◌≡◌, true}
 use Rattle.std.proofs.Common.{rules}
 use Rattle.mqtt5_base.specs.Grammar.{number, passes}
 use Rattle.mqtt5_flow.specs.declared.puback.PubAckReason.{PubAckReason}
-use Rattle.mqtt5_flow.specs.PubAcks.{puback_code}
-use Rattle.mqtt5_flow.specs.Rows.{puback_codes}
+use Rattle.mqtt5_flow.specs.declared.pubrel.PubRelReason.{PubRelReason}
+use Rattle.mqtt5_flow.specs.Acks.{puback_code, pubrel_code}
+use Rattle.mqtt5_flow.specs.Rows.{puback_codes, pubrel_codes}
 
 pub puback_known : (r : PubAckReason) → passes puback_codes (number (puback_code r)) ≡ true
 puback_known = search rules
+
+pub pubrel_known : (r : PubRelReason) → passes pubrel_codes (number (pubrel_code r)) ≡ true
+pubrel_known = search rules

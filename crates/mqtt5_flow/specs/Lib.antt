@@ -1,6 +1,7 @@
 pub mod Rows
 pub mod Acks
-pub mod PubAcks
+pub mod AckBody
+pub mod Pings
 pub mod Publishes
 pub mod Known
 pub mod Sound

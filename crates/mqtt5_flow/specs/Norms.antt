@@ -1,15 +1,27 @@
--- What Publish and PubAck are read as after they were written.
+-- What Publish and the acks are read as after they were written.
 use Rattle.std.specs.Prelude.{ℕ}
 use Rattle.mqtt5_base.specs.declared.quality.QoS.{QoS}
 use Rattle.mqtt5_base.specs.declared.quality.QoS.TheVariants.{AtMostOnce, AtLeastOnce, ExactlyOnce}
 use Rattle.mqtt5_base.specs.Tidy.{tidy}
 use Rattle.mqtt5_flow.specs.declared.puback.PubAck.{PubAck}
+use Rattle.mqtt5_flow.specs.declared.pubrec.PubRec.{PubRec}
+use Rattle.mqtt5_flow.specs.declared.pubrel.PubRel.{PubRel}
+use Rattle.mqtt5_flow.specs.declared.pubcomp.PubComp.{PubComp}
 use Rattle.mqtt5_flow.specs.declared.publish.Publish.{Publish}
-use Rattle.mqtt5_flow.specs.PubAcks.{puback_found}
+use Rattle.mqtt5_flow.specs.Acks.{ack_found}
 use Rattle.mqtt5_flow.specs.Publishes.{publish_found}
 
 abbrev pub puback_norm : PubAck → PubAck
-puback_norm p = record { pkid = p.pkid; reason = p.reason; properties = tidy puback_found p.properties }
+puback_norm p = record { pkid = p.pkid; reason = p.reason; properties = tidy ack_found p.properties }
+
+abbrev pub pubrec_norm : PubRec → PubRec
+pubrec_norm p = record { pkid = p.pkid; reason = p.reason; properties = tidy ack_found p.properties }
+
+abbrev pub pubrel_norm : PubRel → PubRel
+pubrel_norm p = record { pkid = p.pkid; reason = p.reason; properties = tidy ack_found p.properties }
+
+abbrev pub pubcomp_norm : PubComp → PubComp
+pubcomp_norm p = record { pkid = p.pkid; reason = p.reason; properties = tidy ack_found p.properties }
 
 -- a Publish of QoS 0 has no packet identifier
 abbrev pub norm_id : QoS → ℕ → ℕ

@@ -1,4 +1,4 @@
--- The rows of Publish and of the acks (MQTT 5.0 sections 3.3 to 3.7).
+-- The rows of Publish, of the acks and of the pings (MQTT 5.0 sections 3.3 to 3.7, 3.12 and 3.13).
 use Rattle.std.specs.Prelude.{true, false, List, [], ◌∷◌, None}
 use Rattle.mqtt5_base.specs.Grammar.{u8, u16, bytes, number, Entry, single, several_of, Test, any_of, not_zero, bad_reason, bad_qos, zero_id, plain, properties, Field, one, checked, block, remainder, given, read, whole, bits, always, longer, set, field, note, judge, Row, there, bit_of, is_qos, steps_row}
 
@@ -51,5 +51,20 @@ ack_row codes table = record {
 abbrev pub puback_codes : Test
 puback_codes = any_of (0 ∷ 16 ∷ 128 ∷ 131 ∷ 135 ∷ 144 ∷ 145 ∷ 151 ∷ 153 ∷ [])
 
+-- those of a PubRel and of a PubComp (3.6.2.1, 3.7.2.1)
+abbrev pub pubrel_codes : Test
+pubrel_codes = any_of (0 ∷ 146 ∷ [])
+
+-- PubAck and PubRec
 abbrev pub puback_row : Row
 puback_row = ack_row puback_codes ack_table
+
+-- PubRel and PubComp
+abbrev pub pubrel_row : Row
+pubrel_row = ack_row pubrel_codes ack_table
+
+-- ---- PingReq and PingResp (3.12, 3.13)
+
+-- nothing; a body is ignored
+abbrev pub ping_row : Row
+ping_row = record { steps = []; parts = []; bare = true; brief = false }

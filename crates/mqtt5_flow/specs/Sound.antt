@@ -3,8 +3,14 @@ use Rattle.std.proofs.Common.{rules}
 use Rattle.mqtt5_base.specs.Sound.{Sound, both, bool_sound, number_sound, option_sound, list_sound, bytes_sound, text_sound, pair_sound}
 use Rattle.mqtt5_base.specs.contracts.quality.QoSPartialEq.TheImpl as qos
 use Rattle.mqtt5_flow.specs.contracts.puback.PubAckReasonPartialEq.TheImpl as puback_reason
-use Rattle.mqtt5_flow.specs.contracts.puback.PubAckPropertiesPartialEq.TheImpl as puback_properties
+use Rattle.mqtt5_flow.specs.contracts.pubrel.PubRelReasonPartialEq.TheImpl as pubrel_reason
+use Rattle.mqtt5_flow.specs.contracts.properties.AckPropertiesPartialEq.TheImpl as ack_properties
 use Rattle.mqtt5_flow.specs.contracts.puback.PubAckPartialEq.TheImpl as puback
+use Rattle.mqtt5_flow.specs.contracts.pubrec.PubRecPartialEq.TheImpl as pubrec
+use Rattle.mqtt5_flow.specs.contracts.pubrel.PubRelPartialEq.TheImpl as pubrel
+use Rattle.mqtt5_flow.specs.contracts.pubcomp.PubCompPartialEq.TheImpl as pubcomp
+use Rattle.mqtt5_flow.specs.contracts.ping.PingReqPartialEq.TheImpl as pingreq
+use Rattle.mqtt5_flow.specs.contracts.ping.PingRespPartialEq.TheImpl as pingresp
 use Rattle.mqtt5_flow.specs.contracts.publish.PublishPropertiesPartialEq.TheImpl as publish_properties
 use Rattle.mqtt5_flow.specs.contracts.publish.PublishPartialEq.TheImpl as publish
 
@@ -14,15 +20,39 @@ qos_sound = search rules
 pub puback_reason_sound : Sound puback_reason.eq-value.it
 puback_reason_sound = search rules
 
-pub puback_properties_sound : Sound puback_properties.eq-value.it
-puback_properties_sound x y h =
+pub pubrel_reason_sound : Sound pubrel_reason.eq-value.it
+pubrel_reason_sound = search rules
+
+pub ack_properties_sound : Sound ack_properties.eq-value.it
+ack_properties_sound x y h =
     let e = both (option_sound text_sound x.reason_string y.reason_string) (list_sound (pair_sound text_sound text_sound) x.user_properties y.user_properties) h in
     λ i. record { reason_string = e.0 i; user_properties = e.1 i }
 
 pub puback_sound : Sound puback.eq-value.it
 puback_sound x y h =
-    let e = both (number_sound x.pkid y.pkid) (both (puback_reason_sound x.reason y.reason) (option_sound puback_properties_sound x.properties y.properties)) h in
+    let e = both (number_sound x.pkid y.pkid) (both (puback_reason_sound x.reason y.reason) (option_sound ack_properties_sound x.properties y.properties)) h in
     λ i. record { pkid = e.0 i; reason = e.1.0 i; properties = e.1.1 i }
+
+pub pubrec_sound : Sound pubrec.eq-value.it
+pubrec_sound x y h =
+    let e = both (number_sound x.pkid y.pkid) (both (puback_reason_sound x.reason y.reason) (option_sound ack_properties_sound x.properties y.properties)) h in
+    λ i. record { pkid = e.0 i; reason = e.1.0 i; properties = e.1.1 i }
+
+pub pubrel_sound : Sound pubrel.eq-value.it
+pubrel_sound x y h =
+    let e = both (number_sound x.pkid y.pkid) (both (pubrel_reason_sound x.reason y.reason) (option_sound ack_properties_sound x.properties y.properties)) h in
+    λ i. record { pkid = e.0 i; reason = e.1.0 i; properties = e.1.1 i }
+
+pub pubcomp_sound : Sound pubcomp.eq-value.it
+pubcomp_sound x y h =
+    let e = both (number_sound x.pkid y.pkid) (both (pubrel_reason_sound x.reason y.reason) (option_sound ack_properties_sound x.properties y.properties)) h in
+    λ i. record { pkid = e.0 i; reason = e.1.0 i; properties = e.1.1 i }
+
+pub pingreq_sound : Sound pingreq.eq-value.it
+pingreq_sound = search rules
+
+pub pingresp_sound : Sound pingresp.eq-value.it
+pingresp_sound = search rules
 
 pub publish_properties_sound : Sound publish_properties.eq-value.it
 publish_properties_sound x y h =

@@ -6,7 +6,8 @@ ghost use Rattle.mqtt5_base.specs.Reading.{Gives, judged, values_in};
 ghost use Rattle.mqtt5_base.specs.Puts.{Puts, Writes};
 ghost use Rattle.mqtt5_base.specs.Layout.{block_fits, layout, writing, content_of_packet};
 ghost use Rattle.mqtt5_flow.specs.Rows.{ack_row};
-ghost use Rattle.mqtt5_flow.specs.Acks.{ack_packet, ack_is_short, ack_body};
+ghost use Rattle.mqtt5_flow.specs.Acks.{ack_packet};
+ghost use Rattle.mqtt5_flow.specs.AckBody.{ack_is_short, ack_body};
 
 use bytes::{Bytes, BytesMut};
 use mqtt5_base::{

@@ -1,7 +1,12 @@
 //! A clone of each type is the same value, and its `==` decides equality.
 
-use crate::puback::{PubAck, PubAckProperties, PubAckReason};
+use crate::ping::{PingReq, PingResp};
+use crate::properties::AckProperties;
+use crate::puback::{PubAck, PubAckReason};
+use crate::pubcomp::PubComp;
 use crate::publish::{Publish, PublishProperties};
+use crate::pubrec::PubRec;
+use crate::pubrel::{PubRel, PubRelReason};
 use mqtt5_base::Exact;
 
 impl Exact for PubAckReason {
@@ -13,13 +18,22 @@ impl Exact for PubAckReason {
     ghost sound = { puback_reason_sound };
 }
 
-impl Exact for PubAckProperties {
+impl Exact for PubRelReason {
     ghost use Rattle.std.proofs.Common.{rules};
-    ghost use Rattle.mqtt5_flow.specs.Sound.{puback_properties_sound};
+    ghost use Rattle.mqtt5_flow.specs.Sound.{pubrel_reason_sound};
 
     ghost same = { Prim.search rules };
 
-    ghost sound = { puback_properties_sound };
+    ghost sound = { pubrel_reason_sound };
+}
+
+impl Exact for AckProperties {
+    ghost use Rattle.std.proofs.Common.{rules};
+    ghost use Rattle.mqtt5_flow.specs.Sound.{ack_properties_sound};
+
+    ghost same = { Prim.search rules };
+
+    ghost sound = { ack_properties_sound };
 }
 
 impl Exact for PubAck {
@@ -29,6 +43,51 @@ impl Exact for PubAck {
     ghost same = { Prim.search rules };
 
     ghost sound = { puback_sound };
+}
+
+impl Exact for PubRec {
+    ghost use Rattle.std.proofs.Common.{rules};
+    ghost use Rattle.mqtt5_flow.specs.Sound.{pubrec_sound};
+
+    ghost same = { Prim.search rules };
+
+    ghost sound = { pubrec_sound };
+}
+
+impl Exact for PubRel {
+    ghost use Rattle.std.proofs.Common.{rules};
+    ghost use Rattle.mqtt5_flow.specs.Sound.{pubrel_sound};
+
+    ghost same = { Prim.search rules };
+
+    ghost sound = { pubrel_sound };
+}
+
+impl Exact for PubComp {
+    ghost use Rattle.std.proofs.Common.{rules};
+    ghost use Rattle.mqtt5_flow.specs.Sound.{pubcomp_sound};
+
+    ghost same = { Prim.search rules };
+
+    ghost sound = { pubcomp_sound };
+}
+
+impl Exact for PingReq {
+    ghost use Rattle.std.proofs.Common.{rules};
+    ghost use Rattle.mqtt5_flow.specs.Sound.{pingreq_sound};
+
+    ghost same = { Prim.search rules };
+
+    ghost sound = { pingreq_sound };
+}
+
+impl Exact for PingResp {
+    ghost use Rattle.std.proofs.Common.{rules};
+    ghost use Rattle.mqtt5_flow.specs.Sound.{pingresp_sound};
+
+    ghost same = { Prim.search rules };
+
+    ghost sound = { pingresp_sound };
 }
 
 impl Exact for PublishProperties {

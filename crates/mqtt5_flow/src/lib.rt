@@ -1,10 +1,20 @@
-//! Publish and its acks.
+//! Publish, its acks and pings.
 #![tactic(auto)]
 
 mod ack;
 mod exact;
+mod ping;
+mod properties;
 mod puback;
+mod pubcomp;
 mod publish;
+mod pubrec;
+mod pubrel;
 
+pub use ping::{PingReq, PingResp};
+pub use properties::AckProperties;
 pub use puback::{PubAck, PubAckProperties, PubAckReason};
+pub use pubcomp::{PubComp, PubCompProperties, PubCompReason};
 pub use publish::{Publish, PublishProperties};
+pub use pubrec::{PubRec, PubRecProperties, PubRecReason};
+pub use pubrel::{PubRel, PubRelProperties, PubRelReason};

@@ -4,13 +4,14 @@ ghost use Rattle.std.specs.Prelude.{◌≡◌, ◌+◌, ◌≤◌, Some, None, d
 ghost use Rattle.mqtt5_base.specs.Reading.{Gives, values_in};
 ghost use Rattle.mqtt5_base.specs.Puts.{Writes};
 ghost use Rattle.mqtt5_base.specs.Layout.{layout, writing, content_of_packet};
-ghost use Rattle.mqtt5_flow.specs.Rows.{ack_table, puback_codes, puback_row};
-ghost use Rattle.mqtt5_flow.specs.PubAcks.{puback_code, puback_found, puback_packet};
+ghost use Rattle.mqtt5_flow.specs.Rows.{puback_codes, puback_row};
+ghost use Rattle.mqtt5_flow.specs.Acks.{puback_code, puback_packet};
 
 use crate::ack::{Reason, ack_size, read_ack, write_ack};
+use crate::properties::AckProperties;
 use bytes::{Bytes, BytesMut};
-use mqtt5_base::{Error, FixedHeader, Property, PropertySet, Sequence, Tagged, Text};
-use std::alloc::{AllocError, Global};
+use mqtt5_base::{Error, FixedHeader};
+use std::alloc::Global;
 
 /// Why a publish is answered so (MQTT 5.0 section 3.4.2.1).
 #[derive(Debug, Clone, Copy, PartialEq, Eq)]
@@ -70,57 +71,7 @@ impl Reason for PubAckReason {
 }
 
 /// The properties of a PubAck (MQTT 5.0 section 3.4.2.2).
-#[derive(Debug, Clone, PartialEq, Eq, Drop)]
-pub struct PubAckProperties {
-    pub reason_string: Option<Text>,
-    pub user_properties: Sequence<(Text, Text)>,
-}
-
-impl PropertySet for PubAckProperties {
-    ghost table = { ack_table };
-
-    ghost found = { puback_found };
-
-    fn empty(alloc: Global) -> PubAckProperties {
-        PubAckProperties {
-            reason_string: None,
-            user_properties: Sequence::new(alloc),
-        }
-    }
-
-    fn may_have(id: u8) -> bool {
-        matches!(id, 31 | 38)
-    }
-
-    fn add(&mut self, property: Property) -> Result<(), AllocError> {
-        match property {
-            Property::ReasonString(text) => self.reason_string = Some(text),
-            Property::UserProperty(key, value) => self.user_properties.push((key, value))?,
-            _other => {}
-        }
-        Ok(())
-    }
-
-    fn set_fits(&self) -> bool {
-        self.reason_string.values_fit() && self.user_properties.values_fit()
-    }
-
-    fn set_len(&self) -> usize {
-        self.reason_string
-            .values_len(31)
-            .saturating_add(self.user_properties.values_len(38))
-    }
-
-    fn put_set(&self, out: &mut BytesMut) {
-        self.reason_string.put_values(31, out);
-        self.user_properties.put_values(38, out);
-    }
-
-    fn set_known(&self) {
-        self.reason_string.values_known();
-        self.user_properties.values_known();
-    }
-}
+pub type PubAckProperties = AckProperties;
 
 /// A PubAck (MQTT 5.0 section 3.4).
 #[derive(Debug, Clone, PartialEq, Eq, Drop)]

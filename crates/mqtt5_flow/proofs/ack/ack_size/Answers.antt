@@ -1,6 +1,6 @@
 use Rattle.std.proofs.Common.{◌∙◌, ap, sym, option_map, min, length, List, ℕ}
 use Rattle.mqtt5_base.specs.Layout.{frame_of}
-use Rattle.mqtt5_flow.specs.Acks.{ack_body}
+use Rattle.mqtt5_flow.specs.AckBody.{ack_body}
 use Rattle.mqtt5_flow.proofs.AckLemmas.{ack_written}
 use Rattle.mqtt5_flow.proofs.ack.ack_size.Goals as goal
 

@@ -1,0 +1,35 @@
+//! The packets that ask whether the peer is there, and answer it.
+
+ghost use Rattle.mqtt5_base.specs.Puts.{Writes};
+ghost use Rattle.mqtt5_base.specs.Layout.{writing};
+ghost use Rattle.mqtt5_flow.specs.Rows.{ping_row};
+ghost use Rattle.mqtt5_flow.specs.Pings.{pingreq_packet, pingresp_packet};
+
+use bytes::BytesMut;
+use mqtt5_base::{Error, start_frame};
+
+/// A PingReq (MQTT 5.0 section 3.12). A body is ignored.
+#[derive(Debug, Clone, Copy, PartialEq, Eq)]
+pub struct PingReq;
+
+impl PingReq {
+    /// Appends a PingReq and answers its length, 2. E21; then the buffer is unchanged.
+    pub fn write(buffer: &mut BytesMut) -> Result<usize, Error>
+        ensures { Writes (writing ping_row pingreq_packet) result buffer.old.items buffer.new.items }
+    {
+        start_frame(0xC0, 0, buffer)
+    }
+}
+
+/// A PingResp (MQTT 5.0 section 3.13). A body is ignored.
+#[derive(Debug, Clone, Copy, PartialEq, Eq)]
+pub struct PingResp;
+
+impl PingResp {
+    /// Appends a PingResp and answers its length, 2. E21; then the buffer is unchanged.
+    pub fn write(buffer: &mut BytesMut) -> Result<usize, Error>
+        ensures { Writes (writing ping_row pingresp_packet) result buffer.old.items buffer.new.items }
+    {
+        start_frame(0xD0, 0, buffer)
+    }
+}

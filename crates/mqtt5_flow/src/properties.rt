@@ -1,0 +1,62 @@
+//! The properties of an ack, which are the same for every packet that acknowledges another.
+
+ghost use Rattle.mqtt5_flow.specs.Rows.{ack_table};
+ghost use Rattle.mqtt5_flow.specs.Acks.{ack_found};
+
+use bytes::BytesMut;
+use mqtt5_base::{Property, PropertySet, Sequence, Tagged, Text};
+use std::alloc::{AllocError, Global};
+
+/// A reason string and user properties (MQTT 5.0 sections 3.4.2.2, 3.5.2.2, 3.6.2.2, 3.7.2.2, 3.9.2.1
+/// and 3.11.2.1).
+#[derive(Debug, Clone, PartialEq, Eq, Drop)]
+pub struct AckProperties {
+    pub reason_string: Option<Text>,
+    pub user_properties: Sequence<(Text, Text)>,
+}
+
+impl PropertySet for AckProperties {
+    ghost table = { ack_table };
+
+    ghost found = { ack_found };
+
+    fn empty(alloc: Global) -> AckProperties {
+        AckProperties {
+            reason_string: None,
+            user_properties: Sequence::new(alloc),
+        }
+    }
+
+    fn may_have(id: u8) -> bool {
+        matches!(id, 31 | 38)
+    }
+
+    fn add(&mut self, property: Property) -> Result<(), AllocError> {
+        match property {
+            Property::ReasonString(text) => self.reason_string = Some(text),
+            Property::UserProperty(key, value) => self.user_properties.push((key, value))?,
+            _other => {}
+        }
+        Ok(())
+    }
+
+    fn set_fits(&self) -> bool {
+        self.reason_string.values_fit() && self.user_properties.values_fit()
+    }
+
+    fn set_len(&self) -> usize {
+        self.reason_string
+            .values_len(31)
+            .saturating_add(self.user_properties.values_len(38))
+    }
+
+    fn put_set(&self, out: &mut BytesMut) {
+        self.reason_string.put_values(31, out);
+        self.user_properties.put_values(38, out);
+    }
+
+    fn set_known(&self) {
+        self.reason_string.values_known();
+        self.user_properties.values_known();
+    }
+}

@@ -1,0 +1,102 @@
+//! The answer to a PubRec: the publish of QoS 2 is released.
+
+ghost use Rattle.std.specs.Prelude.{◌≡◌, ◌+◌, ◌≤◌, Some, None, drop, length, min, option_map};
+ghost use Rattle.mqtt5_base.specs.Reading.{Gives, values_in};
+ghost use Rattle.mqtt5_base.specs.Puts.{Writes};
+ghost use Rattle.mqtt5_base.specs.Layout.{layout, writing, content_of_packet};
+ghost use Rattle.mqtt5_flow.specs.Rows.{pubrel_codes, pubrel_row};
+ghost use Rattle.mqtt5_flow.specs.Acks.{pubrel_code, pubrel_packet};
+
+use crate::ack::{Reason, ack_size, read_ack, write_ack};
+use crate::properties::AckProperties;
+use bytes::{Bytes, BytesMut};
+use mqtt5_base::{Error, FixedHeader};
+use std::alloc::Global;
+
+/// Why a publish is released so (MQTT 5.0 section 3.6.2.1).
+#[derive(Debug, Clone, Copy, PartialEq, Eq)]
+pub enum PubRelReason {
+    Success,
+    PacketIdentifierNotFound,
+}
+
+impl Reason for PubRelReason {
+    ghost use Rattle.mqtt5_flow.specs.Known.{pubrel_known};
+
+    ghost codes = { pubrel_codes };
+
+    ghost code = { pubrel_code };
+
+    ghost known = { pubrel_known };
+
+    fn of(num: u8) -> Result<PubRelReason, Error> {
+        match num {
+            0 => Ok(PubRelReason::Success),
+            146 => Ok(PubRelReason::PacketIdentifierNotFound),
+            _ => Err(Error::InvalidConnectReturnCode(num)),
+        }
+    }
+
+    fn code(self) -> u8 {
+        match self {
+            PubRelReason::Success => 0,
+            PubRelReason::PacketIdentifierNotFound => 146,
+        }
+    }
+
+    fn success() -> PubRelReason {
+        PubRelReason::Success
+    }
+}
+
+/// The properties of a PubRel (MQTT 5.0 section 3.6.2.2).
+pub type PubRelProperties = AckProperties;
+
+/// A PubRel (MQTT 5.0 section 3.6).
+#[derive(Debug, Clone, PartialEq, Eq, Drop)]
+pub struct PubRel {
+    pub pkid: u16,
+    pub reason: PubRelReason,
+    pub properties: Option<PubRelProperties>,
+}
+
+impl PubRel {
+    /// A PubRel with Success. Takes no memory.
+    pub fn new(pkid: u16, properties: Option<PubRelProperties>) -> PubRel
+        ensures { result ≡ record { pkid = pkid; reason = PubRelReason.Success; properties = properties } }
+    {
+        PubRel {
+            pkid,
+            reason: PubRelReason::Success,
+            properties,
+        }
+    }
+
+    /// The PubRel of a frame's bytes. E16 to E18, E14 and E15 of a field that can't be read, E1 of a
+    /// reason code that a PubRel doesn't have; E21.
+    pub fn read(alloc: Global, header: FixedHeader, bytes: Bytes) -> Result<PubRel, Error>
+        requires { length bytes ≡ header.fixed_header_len + header.remaining_len }
+        ensures { Gives (λ p. content_of_packet (pubrel_packet p)) result (values_in pubrel_row header.byte1 header.remaining_len (drop header.fixed_header_len bytes)) }
+    {
+        let (pkid, reason, properties) = read_ack(alloc, header, bytes)?;
+        Ok(PubRel {
+            pkid,
+            reason,
+            properties,
+        })
+    }
+
+    /// Appends the PubRel and answers its length. E11, E21; then the buffer is unchanged.
+    pub fn write(&self, buffer: &mut BytesMut) -> Result<usize, Error>
+        ensures { Writes (writing pubrel_row (pubrel_packet self.now)) result buffer.old.items buffer.new.items }
+    {
+        write_ack(0x62, self.pkid, self.reason, &self.properties, buffer)
+    }
+
+    /// How many bytes it takes, or the greatest `usize` where they are more. Takes no memory.
+    pub fn size(&self) -> usize
+        ensures { result ≡ min (length (layout pubrel_row (pubrel_packet self.now))) usize.MAX }
+    {
+        ack_size(self.reason, &self.properties)
+    }
+}
