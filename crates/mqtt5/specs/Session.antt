@@ -149,6 +149,7 @@ on_publish ExactlyOnce s id at = (Err errors.WrongPacket, s)
 abbrev pub heard : Session → Packet → ℕ → Answer
 heard s (packets.PubAck ack) at = on_puback (map.get s.core.held ack.pkid) s ack.pkid at
 heard s (packets.Publish p) at = on_publish p.qos s p.pkid at
+heard s other at = (Err errors.WrongPacket, s)
 
 -- a packet: its reply or its fault, and the session after it, which has its event in both cases
 unfoldable pub inc : Session → Packet → ℕ → Answer

@@ -252,6 +252,7 @@ impl MqttState {
         match packet {
             Packet::PubAck(ack) => self.hear_puback(ack, at),
             Packet::Publish(publish) => self.hear_publish(publish, at),
+            other => self.refuse(other),
         }
     }
 
@@ -407,6 +408,14 @@ impl MqttState {
             .push_back_reserved(Event::Incoming(as_publish(publish)));
         self.last_incoming = at;
         Ok(None)
+    }
+
+    /// A packet that a broker doesn't send.
+    fn refuse(&mut self, packet: Packet) -> Result<Option<Packet>, StateError>
+        ensures { Hears result self.old self.new (Err StateError.WrongPacket, hears self.old packet) }
+    {
+        self.note(packet)?;
+        Err(StateError::WrongPacket)
     }
 
     /// Answers a publish of QoS 1.

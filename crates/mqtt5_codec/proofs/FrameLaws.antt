@@ -10,8 +10,8 @@ use Rattle.mqtt5_base.specs.Laws.{Reads}
 use Rattle.mqtt5_base.proofs.ReadsLemmas.{reads_like, reads_map, reads_one}
 use Rattle.mqtt5_base.proofs.FrameLaws.{frame_reads}
 use Rattle.mqtt5_base.proofs.HeaderLemmas.{one_whole, frame_at_whole}
-use Rattle.mqtt5_flow.proofs.PacketsBack.{publish_back, puback_back}
-use Rattle.mqtt5_flow.proofs.RowsBack.{publish_row_again, puback_row_again}
+use Rattle.mqtt5_flow.proofs.PacketsBack.{publish_back, puback_back, pubrec_back, pubrel_back, pubcomp_back}
+use Rattle.mqtt5_flow.proofs.RowsBack.{publish_row_again, puback_row_again, pubrec_row_again, pubrel_row_again, pubcomp_row_again, ping_row_again}
 use Rattle.mqtt5_codec.specs.declared.packet.Packet.{Packet}
 use Rattle.mqtt5_codec.specs.declared.packet.Packet.TheVariants as packets
 use Rattle.mqtt5_codec.specs.Packets.{packet_rows, packet_type, packet_content, IsFrameOf, IsFaultOf, packet_of, first_of, packet_in}
@@ -22,6 +22,11 @@ use Rattle.mqtt5_codec.proofs.FrameLemmas.{first_of_whole}
 pub packet_back : (p : Packet) → packet_of (packet_type p) (packet_content p) ≡ p
 packet_back (packets.Publish p) = ap (λ q. packets.Publish q) (publish_back p)
 packet_back (packets.PubAck p) = ap (λ q. packets.PubAck q) (puback_back p)
+packet_back (packets.PubRec p) = ap (λ q. packets.PubRec q) (pubrec_back p)
+packet_back (packets.PubRel p) = ap (λ q. packets.PubRel q) (pubrel_back p)
+packet_back (packets.PubComp p) = ap (λ q. packets.PubComp q) (pubcomp_back p)
+packet_back (packets.PingReq p) = refl
+packet_back (packets.PingResp p) = refl
 
 -- ---- the rows
 
@@ -66,10 +71,14 @@ ComesBack kind row = (first len : ℕ) (body : List ℕ) (c : Content) (rest : L
 
 -- the values of each row come back
 rows_again : EachRow ComesBack packet_rows
-rows_again = (
-  λ first len body c rest h. (refl, publish_row_again first len body c rest h),
-  (λ first len body c rest h. (refl, puback_row_again first len body c rest h), tt),
-)
+rows_again = (λ first len body c rest h. (refl, publish_row_again first len body c rest h),
+  (λ first len body c rest h. (refl, puback_row_again first len body c rest h),
+  (λ first len body c rest h. (refl, pubrec_row_again first len body c rest h),
+  (λ first len body c rest h. (refl, pubrel_row_again first len body c rest h),
+  (λ first len body c rest h. (refl, pubcomp_row_again first len body c rest h),
+  (λ first len body c rest h. (refl, ping_row_again first len body c rest h),
+  (λ first len body c rest h. (refl, ping_row_again first len body c rest h),
+  tt)))))))
 
 -- The values of a frame come back from the packet that is made of them.
 pub content_again : (first : ℕ) (body : List ℕ) (c : Content) → IsFrame packet_rows first body c → (packet_type (packet_of (first / 16) c) ≡ first / 16) × (packet_content (packet_of (first / 16) c) ≡ c)

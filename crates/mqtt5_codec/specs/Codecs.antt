@@ -1,5 +1,6 @@
 -- What reading a packet from a stream and writing one to a buffer answer.
 use Rattle.std.specs.Prelude.{◌≡◌, ℕ, List, ◌++◌, take, drop, Option, Some, None, Result, Ok, Err, ◌⊎◌}
+use Rattle.bytes.specs.Filled.{Filled}
 use Rattle.mqtt5_base.specs.declared.error.Error.{Error}
 use Rattle.mqtt5_base.specs.declared.error.Error.TheVariants as errors
 use Rattle.mqtt5_base.specs.Front.{Bad, More, Whole, front, front_of_error}
@@ -24,6 +25,12 @@ Decodes (Err e) limit old new =
     ((e ≡ errors.OutOfMemory) × ((frame : List ℕ) × (rest : List ℕ) × (front limit old ≡ Whole frame rest) × ((new ≡ old) ⊎ (new ≡ rest))))
     ⊎ (((front limit old ≡ Bad e) × (new ≡ old))
     ⊎ ((frame : List ℕ) × (front limit old ≡ Whole frame new) × (packet_in frame ≡ Err e)))
+
+-- Where more bytes are needed, nothing was reserved: the spare room is what it was.
+abbrev pub Reserves : Result (Option Packet) Error → Filled → Filled → Type 0
+Reserves (Ok None) old new = new ≡ old
+Reserves (Ok (Some p)) old new = Unit {0}
+Reserves (Err e) old new = Unit {0}
 
 -- The bytes were appended, or there are none and this is why; want of memory only where there are some. A refusal left
 -- the buffer unchanged.

@@ -2,7 +2,7 @@
 use Rattle.std.specs.Prelude.{◌≡◌, ℕ, ◌≤◌, List, ◌++◌, length, Option, Some, None, Ok}
 use Rattle.mqtt5_base.specs.Front.{Whole, front}
 use Rattle.mqtt5_base.specs.Layout.{body_bytes}
-use Rattle.mqtt5_flow.specs.Norms.{publish_norm, puback_norm}
+use Rattle.mqtt5_flow.specs.Norms.{publish_norm, puback_norm, pubrec_norm, pubrel_norm, pubcomp_norm}
 use Rattle.mqtt5_codec.specs.declared.packet.Packet.{Packet}
 use Rattle.mqtt5_codec.specs.declared.packet.Packet.TheVariants as packets
 use Rattle.mqtt5_codec.specs.Packets.{packet_row, written_packet, packet_writing, packet_in}
@@ -11,6 +11,11 @@ use Rattle.mqtt5_codec.specs.Packets.{packet_row, written_packet, packet_writing
 abbrev pub norm : Packet → Packet
 norm (packets.Publish p) = packets.Publish (publish_norm p)
 norm (packets.PubAck p) = packets.PubAck (puback_norm p)
+norm (packets.PubRec p) = packets.PubRec (pubrec_norm p)
+norm (packets.PubRel p) = packets.PubRel (pubrel_norm p)
+norm (packets.PubComp p) = packets.PubComp (pubcomp_norm p)
+norm (packets.PingReq p) = packets.PingReq p
+norm (packets.PingResp p) = packets.PingResp p
 
 -- a limit that admits a remaining length
 abbrev pub Admits : Option ℕ → ℕ → Type 0

@@ -6,30 +6,46 @@ use Rattle.mqtt5_base.specs.Grammar.{Row, Content}
 use Rattle.mqtt5_base.specs.Frames.{Rows, IsWhole, IsFrame, FrameFault}
 use Rattle.mqtt5_base.specs.Reading.{◌>>=◌, frame_at}
 use Rattle.mqtt5_base.specs.Layout.{WrittenPacket, content_of_packet, layout, writing}
-use Rattle.mqtt5_flow.specs.Rows.{publish_row, puback_row}
+use Rattle.mqtt5_flow.specs.Rows.{publish_row, puback_row, pubrel_row, ping_row}
 use Rattle.mqtt5_flow.specs.Publishes.{publish_packet, publish_of}
-use Rattle.mqtt5_flow.specs.PubAcks.{puback_packet, puback_of}
+use Rattle.mqtt5_flow.specs.Acks.{puback_packet, puback_of, pubrec_packet, pubrec_of, pubrel_packet, pubrel_of, pubcomp_packet, pubcomp_of}
+use Rattle.mqtt5_flow.specs.Pings.{pingreq_packet, pingresp_packet}
 use Rattle.mqtt5_codec.specs.declared.packet.Packet.{Packet}
 use Rattle.mqtt5_codec.specs.declared.packet.Packet.TheVariants as packets
 
 -- the row of each packet type that is built (2.1.2); a type without one isn't read
 abbrev pub packet_rows : Rows
-packet_rows = (3, publish_row) ∷ (4, puback_row) ∷ []
+packet_rows = (3, publish_row) ∷ (4, puback_row) ∷ (5, puback_row) ∷ (6, pubrel_row) ∷ (7, pubrel_row) ∷ (12, ping_row) ∷ (13, ping_row) ∷ []
 
 -- ---- a packet and its frame
 
 abbrev pub packet_type : Packet → ℕ
 packet_type (packets.Publish p) = 3
 packet_type (packets.PubAck p) = 4
+packet_type (packets.PubRec p) = 5
+packet_type (packets.PubRel p) = 6
+packet_type (packets.PubComp p) = 7
+packet_type (packets.PingReq p) = 12
+packet_type (packets.PingResp p) = 13
 
 abbrev pub packet_row : Packet → Row
 packet_row (packets.Publish p) = publish_row
 packet_row (packets.PubAck p) = puback_row
+packet_row (packets.PubRec p) = puback_row
+packet_row (packets.PubRel p) = pubrel_row
+packet_row (packets.PubComp p) = pubrel_row
+packet_row (packets.PingReq p) = ping_row
+packet_row (packets.PingResp p) = ping_row
 
 -- the packet as it is written
 abbrev pub written_packet : Packet → WrittenPacket
 written_packet (packets.Publish p) = publish_packet p
 written_packet (packets.PubAck p) = puback_packet p
+written_packet (packets.PubRec p) = pubrec_packet p
+written_packet (packets.PubRel p) = pubrel_packet p
+written_packet (packets.PubComp p) = pubcomp_packet p
+written_packet (packets.PingReq p) = pingreq_packet
+written_packet (packets.PingResp p) = pingresp_packet
 
 -- the packet as the values of its row
 abbrev pub packet_content : Packet → Content
@@ -62,7 +78,14 @@ writing_under (Some max) p = if nat_lt max (packet_len p) then Err (OutgoingPack
 
 -- a packet from its type and its values
 abbrev pub packet_of : ℕ → Content → Packet
-packet_of kind c = if kind == 4 then packets.PubAck (puback_of c) else packets.Publish (publish_of c)
+packet_of kind c =
+    if kind == 4 then packets.PubAck (puback_of c)
+    else if kind == 5 then packets.PubRec (pubrec_of c)
+    else if kind == 6 then packets.PubRel (pubrel_of c)
+    else if kind == 7 then packets.PubComp (pubcomp_of c)
+    else if kind == 12 then packets.PingReq (record {})
+    else if kind == 13 then packets.PingResp (record {})
+    else packets.Publish (publish_of c)
 
 abbrev pub first_of : List ℕ → ℕ
 first_of [] = 0

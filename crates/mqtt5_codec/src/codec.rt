@@ -1,7 +1,7 @@
 //! The codec of a stream of packets.
 
 ghost use Rattle.mqtt5_codec.specs.Packets.{writing_under};
-ghost use Rattle.mqtt5_codec.specs.Codecs.{Decodes, Encodes};
+ghost use Rattle.mqtt5_codec.specs.Codecs.{Decodes, Encodes, Reserves};
 
 use crate::packet::Packet;
 use crate::reading::take_frame;
@@ -19,9 +19,11 @@ pub struct Codec {
 
 impl Codec {
     /// Takes the frame at the front of the stream out and answers its packet, or None, with the stream
-    /// unchanged, where more bytes are needed. Errors as of `Packet::read`, but E19.
+    /// unchanged and nothing reserved, where more bytes are needed. Errors as of `Packet::read`, but
+    /// E19.
     pub fn decode(&self, alloc: Global, stream: &mut BytesMut) -> Result<Option<Packet>, Error>
-        ensures { Decodes result self.now.max_incoming_size stream.old.items stream.new.items }
+        ensures decodes { Decodes result self.now.max_incoming_size stream.old.items stream.new.items }
+        ensures reserves { Reserves result stream.old stream.new }
     {
         match check(stream.as_slice(), self.max_incoming_size) {
             Ok(header) => Ok(Some(take_frame(alloc, header, stream)?)),

@@ -2,8 +2,8 @@
 
 use crate::reading::take_frame;
 use bytes::BytesMut;
-use mqtt5_base::{Error, check};
-use mqtt5_flow::{PubAck, Publish};
+use mqtt5_base::{Error, check, frame_size};
+use mqtt5_flow::{PingReq, PingResp, PubAck, PubComp, PubRec, PubRel, Publish};
 use std::alloc::Global;
 
 /// A packet.
@@ -11,6 +11,11 @@ use std::alloc::Global;
 pub enum Packet {
     Publish(Publish),
     PubAck(PubAck),
+    PingReq(PingReq),
+    PingResp(PingResp),
+    PubRec(PubRec),
+    PubRel(PubRel),
+    PubComp(PubComp),
 }
 
 impl Packet {
@@ -41,6 +46,10 @@ impl Packet {
         match self {
             Packet::Publish(publish) => publish.size(),
             Packet::PubAck(ack) => ack.size(),
+            Packet::PubRec(ack) => ack.size(),
+            Packet::PubRel(ack) => ack.size(),
+            Packet::PubComp(ack) => ack.size(),
+            Packet::PingReq(_) | Packet::PingResp(_) => frame_size(0),
         }
     }
 
@@ -50,6 +59,11 @@ impl Packet {
         match self {
             Packet::Publish(publish) => publish.write(buffer),
             Packet::PubAck(ack) => ack.write(buffer),
+            Packet::PubRec(ack) => ack.write(buffer),
+            Packet::PubRel(ack) => ack.write(buffer),
+            Packet::PubComp(ack) => ack.write(buffer),
+            Packet::PingReq(_) => PingReq::write(buffer),
+            Packet::PingResp(_) => PingResp::write(buffer),
         }
     }
 

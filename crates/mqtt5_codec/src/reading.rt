@@ -9,7 +9,7 @@ ghost use Rattle.mqtt5_codec.specs.Codecs.{TakesFrame};
 use crate::packet::Packet;
 use bytes::{Bytes, BytesMut};
 use mqtt5_base::{Error, FixedHeader, PacketType, check};
-use mqtt5_flow::{PubAck, Publish};
+use mqtt5_flow::{PingReq, PingResp, PubAck, PubComp, PubRec, PubRel, Publish};
 use std::alloc::Global;
 
 /// E13 of a frame without a body.
@@ -34,6 +34,24 @@ fn as_puback(ack: PubAck) -> Packet
     Packet::PubAck(ack)
 }
 
+fn as_pubrec(ack: PubRec) -> Packet
+    ensures { result ≡ Packet.PubRec ack }
+{
+    Packet::PubRec(ack)
+}
+
+fn as_pubrel(ack: PubRel) -> Packet
+    ensures { result ≡ Packet.PubRel ack }
+{
+    Packet::PubRel(ack)
+}
+
+fn as_pubcomp(ack: PubComp) -> Packet
+    ensures { result ≡ Packet.PubComp ack }
+{
+    Packet::PubComp(ack)
+}
+
 /// The packet of a whole frame. E5 of a type that isn't read, E13 of one without the body that it
 /// needs, else the first fault of its fields.
 #[tactic(auto, unfolding(mqtt5_base::specs::Reading::frame_values))]
@@ -51,6 +69,20 @@ fn read_body(alloc: Global, header: FixedHeader, frame: Bytes) -> Result<Packet,
             needs_body(header)?;
             Ok(as_puback(PubAck::read(alloc, header, frame)?))
         }
+        PacketType::PubRec => {
+            needs_body(header)?;
+            Ok(as_pubrec(PubRec::read(alloc, header, frame)?))
+        }
+        PacketType::PubRel => {
+            needs_body(header)?;
+            Ok(as_pubrel(PubRel::read(alloc, header, frame)?))
+        }
+        PacketType::PubComp => {
+            needs_body(header)?;
+            Ok(as_pubcomp(PubComp::read(alloc, header, frame)?))
+        }
+        PacketType::PingReq => Ok(Packet::PingReq(PingReq)),
+        PacketType::PingResp => Ok(Packet::PingResp(PingResp)),
         _other => Err(Error::InvalidPacketType(header.byte1 / 16)),
     }
 }

@@ -4,3 +4,4 @@ pub mod PacketsBack
 pub mod RowsBack
 pub mod AcksAgain
 pub mod PublishesAgain
+pub mod PingsAgain

@@ -7,7 +7,7 @@ use Rattle.mqtt5_base.specs.Views.{number_in, found_in}
 use Rattle.mqtt5_base.specs.Layout.{content_of_packet}
 use Rattle.mqtt5_base.proofs.SetShapes.{kept_by, ComeBack, IsBack, numbers_again, contents_again, texts_again, pairs_again, identifiers_again, set_again}
 use Rattle.mqtt5_base.proofs.FieldShapes.{one_back, remainder_back, properties_back, maybe_one, maybe_checked, maybe_properties, among_each, qos_again}
-use Rattle.mqtt5_flow.specs.Rows.{publish_table, publish_row, ack_table, ack_row, puback_codes, pubrel_codes, puback_row, pubrel_row}
+use Rattle.mqtt5_flow.specs.Rows.{publish_table, publish_row, ack_table, ack_row, puback_codes, pubrel_codes, puback_row, pubrel_row, ping_row}
 use Rattle.mqtt5_flow.specs.Acks.{ack_found, ack_set, puback_code, puback_reason, pubrel_code, pubrel_reason, puback_packet, puback_of, pubrec_packet, pubrec_of, pubrel_packet, pubrel_of, pubcomp_packet, pubcomp_of}
 use Rattle.mqtt5_flow.specs.Publishes.{publish_found, publish_packet, publish_set, publish_of}
 use Rattle.mqtt5_flow.proofs.Bits.{bit_of_mod}
@@ -111,3 +111,9 @@ pubrel_row_again = ack_comes_back pubrel_codes (λ n. pubrel_code (pubrel_reason
 -- What the row of a PubComp gives comes back.
 pub pubcomp_row_again : (first len : ℕ) (body : List ℕ) (c : Content) (rest : List ℕ) → IsRow pubrel_row first len body c rest → content_of_packet (pubcomp_packet (pubcomp_of c)) ≡ c
 pubcomp_row_again = ack_comes_back pubrel_codes (λ n. pubrel_code (pubrel_reason n)) pubrel_code_again
+
+-- ---- pings
+
+-- What the row of a ping gives is nothing.
+pub ping_row_again : (first len : ℕ) (body : List ℕ) (c : Content) (rest : List ℕ) → IsRow ping_row first len body c rest → ([], []) ≡ c
+ping_row_again first len body c rest h = sym (h.5 ∙ (λ i. ((h.2.0 i).kept, h.4.0 i)))

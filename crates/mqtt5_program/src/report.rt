@@ -39,15 +39,35 @@ pub fn write_fault<W: Write>(output: &mut W, fault: &StateError) -> io::Result<(
 
 fn write_event<W: Write>(output: &mut W, event: &Event) -> io::Result<()> {
     match event {
-        Event::Outgoing(outgoing) => {
-            let (name, id) = sent(outgoing);
-            match id {
-                Some(id) => writeln!(output, "sent {name} {id}"),
-                None => writeln!(output, "sent {name}"),
-            }
-        }
+        Event::Outgoing(outgoing) => write_named(output, "sent", sent(outgoing)),
         Event::Incoming(Packet::Publish(publish)) => write_got(output, publish),
-        Event::Incoming(Packet::PubAck(ack)) => writeln!(output, "got PubAck {}", ack.pkid),
+        Event::Incoming(packet) => write_named(output, "got", got(packet)),
+    }
+}
+
+/// Prints a name, with its id where it has one.
+fn write_named<W: Write>(
+    output: &mut W,
+    verb: &str,
+    named: (&str, Option<u16>),
+) -> io::Result<()> {
+    let (name, id) = named;
+    match id {
+        Some(id) => writeln!(output, "{verb} {name} {id}"),
+        None => writeln!(output, "{verb} {name}"),
+    }
+}
+
+/// A packet's name, and its id where it has one.
+fn got(packet: &Packet) -> (&'static str, Option<u16>) {
+    match packet {
+        Packet::Publish(publish) => ("Publish", Some(publish.pkid)),
+        Packet::PubAck(ack) => ("PubAck", Some(ack.pkid)),
+        Packet::PubRec(ack) => ("PubRec", Some(ack.pkid)),
+        Packet::PubRel(ack) => ("PubRel", Some(ack.pkid)),
+        Packet::PubComp(ack) => ("PubComp", Some(ack.pkid)),
+        Packet::PingReq(_) => ("PingReq", None),
+        Packet::PingResp(_) => ("PingResp", None),
     }
 }
 
