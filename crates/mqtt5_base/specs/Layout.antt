@@ -216,6 +216,10 @@ abbrev pub block_fits : List Entry → Option Found → Bool
 block_fits table None = true
 block_fits table (Some found) = if items_fit table found then fits_var_int (length (items_bytes table found)) else false
 
+-- a block's bytes, or why it isn't writable
+abbrev pub block_writing : List Entry → Option Found → Result (List ℕ) Error
+block_writing table p = if block_fits table p then Ok (block_bytes table p) else Err PayloadTooLong
+
 abbrev pub field_fits : Field → Value → Bool
 field_fits (one k) v = atom_fits k (atom_of v)
 field_fits (checked k t w) v = atom_fits k (atom_of v)

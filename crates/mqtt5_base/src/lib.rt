@@ -27,7 +27,7 @@ pub use header::{FixedHeader, PacketType};
 pub use laws::{grammar_laws, shortest_form};
 pub use mqttbytes::qos;
 pub use property::{
-    Property, PropertySet, block_fits, block_known, block_len, put_block, read_block,
+    Property, PropertyBlock, PropertySet, block_fits, block_known, block_len, put_block, read_block,
 };
 pub use quality::QoS;
 pub use sequence::Sequence;

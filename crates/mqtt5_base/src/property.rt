@@ -1,12 +1,12 @@
 //! Properties, the sets of them that packets have, and the blocks that they stand in.
 
-ghost use Rattle.std.specs.Prelude.{◌≡◌, ◌≤◌, List, drop, length, OnOk, OnErr, IfOk, option_map, true, min};
+ghost use Rattle.std.specs.Prelude.{◌≡◌, ◌≤◌, Some, List, drop, length, OnOk, OnErr, IfOk, option_map, true, min};
 ghost use Rattle.mqtt5_base.specs.Grammar.{Entry, Found, allows};
 ghost use Rattle.mqtt5_base.specs.Reading.{Gives, none_of, with_item, property_at, item_at, items_within, block_at};
 ghost use Rattle.mqtt5_base.specs.Items.{id_of, value_of};
 ghost use Rattle.mqtt5_base.specs.Sets.{IsSetOf, IsBlockOf};
-ghost use Rattle.mqtt5_base.specs.Puts.{Puts};
-ghost use Rattle.mqtt5_base.specs.Layout.{items_bytes, items_fit, block_bytes, block_fits};
+ghost use Rattle.mqtt5_base.specs.Puts.{Puts, Appends};
+ghost use Rattle.mqtt5_base.specs.Layout.{items_bytes, items_fit, block_bytes, block_fits, block_writing};
 
 use crate::error::Error;
 use crate::fields::{read_bytes, read_text, read_u8, read_u16, read_u32, read_varint};
@@ -124,6 +124,48 @@ pub trait PropertySet: Drop {
     /// Says of its values what the types of its fields do.
     fn set_known(&self)
         ensures { IsSetOf table (found self.now) };
+}
+
+/// A property set as the block that it is read from and written as.
+pub trait PropertyBlock: Drop {
+    /// Which properties it may have, in the order of writing.
+    ghost entries: { List Entry };
+
+    /// Their values, in that order.
+    ghost values: { Self → Found };
+
+    /// The set of the block at the front, or None of a block of length 0, and takes the block out.
+    /// E16 or E17 of the length, E15 with the length where fewer bytes are there, else the fault of
+    /// the first item that can't be read; E21. After a refusal the bytes are unchanged.
+    fn read(alloc: Global, stream: &mut Bytes) -> Result<Option<Self>, Error>
+        ensures read { Gives (λ p. (option_map values p, stream.new)) result (block_at entries stream.old) }
+        ensures kept { OnErr result (stream.new ≡ stream.old) };
+
+    /// Appends the set as a block. E11 where a text or bytes are over 65,535 bytes, or a subscription
+    /// identifier or the block's length over 268,435,455; E21. The buffer is then unchanged.
+    fn write(&self, buffer: &mut BytesMut) -> Result<(), Error>
+        ensures { Appends result (block_writing entries (Some (values self.now))) buffer.old.items buffer.new.items };
+}
+
+impl<P: PropertySet> PropertyBlock for P {
+    ghost entries = { P.table };
+
+    ghost values = { P.found };
+
+    fn read(alloc: Global, stream: &mut Bytes) -> Result<Option<P>, Error> {
+        read_block(alloc, stream)
+    }
+
+    fn write(&self, buffer: &mut BytesMut) -> Result<(), Error> {
+        let len = self.set_len();
+        if !self.set_fits() || !len.fits() {
+            return Err(Error::PayloadTooLong);
+        }
+        buffer.reserve(varint_len(len) + len)?;
+        len.put_field(buffer);
+        self.put_set(buffer);
+        Ok(())
+    }
 }
 
 #[tactic(auto, unfolding(crate::specs::Reading::item_at))]
