@@ -25,3 +25,6 @@ pub mod BlocksAgain
 pub mod StepsAgain
 pub mod PartsAgain
 pub mod FramesAgain
+pub mod Wildcards
+pub mod Levels
+pub mod Matching

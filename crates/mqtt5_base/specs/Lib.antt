@@ -16,3 +16,4 @@ pub mod Views
 pub mod Sound
 pub mod Items
 pub mod Tidy
+pub mod Topics

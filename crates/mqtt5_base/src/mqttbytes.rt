@@ -1,6 +1,8 @@
-//! Rules that all packets share.
+//! Rules that all packets share: the QoS of a number, topic names and topic filters.
 
 ghost use Rattle.std.specs.Prelude.{◌≡◌, ◌<◌, IsSome, IfSome, ◌↔◌};
+ghost use Rattle.mqtt5_base.specs.Grammar.{is_among};
+ghost use Rattle.mqtt5_base.specs.Topics.{IsMatching, covers, has_wildcards, is_inner, is_reserved, is_valid_filter, is_valid_topic, levels, match_levels, stands_alone, topic_matches};
 ghost use Rattle.mqtt5_base.specs.Views.{qos_number};
 
 use crate::quality::QoS;
@@ -17,3 +19,114 @@ pub fn qos(num: u8) -> Option<QoS>
         _ => None,
     }
 }
+
+/// Whether a topic or a filter has a wildcard: a `+` or a `#` (MQTT 5.0 section 4.7.1). Takes no memory.
+pub fn has_wildcards(s: &str) -> bool
+    ensures { result ≡ has_wildcards s.now }
+{
+    has_plus(s) || has_hash(s)
+}
+
+fn has_plus(s: &str) -> bool
+    ensures { result ≡ is_among s.now 43 }
+{
+    s.contains('+')
+}
+
+fn has_hash(s: &str) -> bool
+    ensures { result ≡ is_among s.now 35 }
+{
+    s.contains('#')
+}
+
+/// Whether a text can be the topic of a publish: it has no wildcard. Takes no memory.
+pub fn valid_topic(topic: &str) -> bool
+    ensures { result ≡ is_valid_topic topic.now }
+{
+    !has_wildcards(topic)
+}
+
+/// Whether a level's wildcard, if it has one, is all of it.
+fn stands_alone(level: &str) -> bool
+    ensures { result ≡ stands_alone level.now }
+{
+    !has_wildcards(level) || level.len() == 1
+}
+
+/// Whether another level may follow.
+fn is_inner(level: &str) -> bool
+    ensures { result ≡ is_inner level.now }
+{
+    !has_hash(level) && stands_alone(level)
+}
+
+/// Whether a text can be a filter: it isn't empty, each wildcard is all of its level, and a `#` stands
+/// in the last level alone (MQTT 5.0 section 4.7.1). Takes no memory.
+pub fn valid_filter(filter: &str) -> bool
+    ensures { result ≡ is_valid_filter filter.now }
+{
+    if filter.is_empty() {
+        return false;
+    }
+    // whether the level before may be the last one, and whether another may follow it
+    let mut ends = true;
+    let mut goes_on = true;
+    for level in filter.split('/') {
+        if !goes_on {
+            return false;
+        }
+        ends = stands_alone(level);
+        goes_on = is_inner(level);
+    }
+    ends
+}
+
+/// Whether a topic is one that no filter matches.
+fn is_reserved(topic: &str) -> bool
+    ensures { result ≡ is_reserved topic.now }
+{
+    topic.starts_with('$')
+}
+
+/// Whether a level of a filter, which isn't `#`, covers a level of a topic.
+fn covers(filter: &str, level: &str) -> bool
+    ensures { result ≡ covers filter.now level.now }
+{
+    if filter == "+" {
+        level != "#"
+    } else {
+        filter == level
+    }
+}
+
+fn levels_match(topic: &str, filter: &str) -> bool
+    ensures { result ≡ match_levels (levels topic.now) (levels filter.now) }
+{
+    let mut levels = topic.split('/');
+    for f in filter.split('/') {
+        if f == "#" {
+            return true;
+        }
+        let Some(level) = levels.next() else {
+            return false;
+        };
+        if !covers(f, level) {
+            return false;
+        }
+    }
+    levels.next().is_none()
+}
+
+/// Whether a topic matches a filter (MQTT 5.0 section 4.7): level by level, where a `+` of the filter
+/// covers each level but `#`, and a `#` all that is left, also nothing. A topic that starts with `$`
+/// matches no filter. Neither text's validity is tested. Takes no memory.
+pub fn matches(topic: &str, filter: &str) -> bool
+    ensures { result ≡ topic_matches topic.now filter.now }
+{
+    !is_reserved(topic) && levels_match(topic, filter)
+}
+
+/// Matching is transitive on all texts, and reflexive on those that don't start with `$`.
+pub fn matching_laws()
+    ensures { IsMatching }
+{}

@@ -6,7 +6,7 @@ use crate::fields::{read_bytes, read_text, read_u8, read_u16, read_u32, read_var
 use crate::frame::{frame_size, start_frame};
 use crate::header::{FixedHeader, PacketType};
 use crate::laws::{grammar_laws, shortest_form};
-use crate::mqttbytes::qos;
+use crate::mqttbytes::{has_wildcards, matches, matching_laws, qos, valid_filter, valid_topic};
 use crate::quality::QoS;
 use crate::sequence::Sequence;
 use crate::tagged::Tagged;
@@ -116,5 +116,50 @@ fn headers(rt: HostRuntime) -> Result<(), Fail> {
 fn errors_have_texts(rt: HostRuntime) -> Result<(), Fail> {
     let shown = format!(in rt.alloc(); "{}", Error::InvalidQoS(3))?;
     assert_eq!(rt; shown.as_str(), "Invalid QoS level = 3");
+    Ok(())
+}
+
+#[test]
+fn filters(rt: HostRuntime) -> Result<(), Fail> {
+    for bad in [
+        "sport/tennis#",
+        "sport/++",
+        "sport+",
+        "sport/tennis#/player",
+        "sport/tennis/#/ranking",
+        "",
+    ] {
+        assert!(rt; !valid_filter(bad), "of {bad}");
+    }
+    for good in ["#", "+/+", "/", "a/#"] {
+        assert!(rt; valid_filter(good), "of {good}");
+    }
+    for (text, wild) in [("a/b", false), ("a/+", true), ("#", true), ("", false)] {
+        assert_eq!(rt; has_wildcards(text), wild, "of {text}");
+        assert_eq!(rt; valid_topic(text), !wild, "of {text}");
+    }
+    Ok(())
+}
+
+#[test]
+fn topics_and_filters(rt: HostRuntime) -> Result<(), Fail> {
+    matching_laws();
+    let table = [
+        ("", "", true),
+        ("", "#", true),
+        ("", "+", true),
+        ("a", "a/#", true),
+        ("a", "a/+", false),
+        ("a/b", "a", false),
+        ("$", "#", false),
+        ("a/b/c", "a/b/c/#", true),
+        ("a/b/c", "a/b/c/d", false),
+        ("a/#", "a/+", false),
+        ("é/a", "+/a", true),
+        ("$SYS/a", "$SYS/a", false),
+    ];
+    for (topic, filter, does) in table {
+        assert_eq!(rt; matches(topic, filter), does, "of {topic} with {filter}");
+    }
     Ok(())
 }

@@ -1,5 +1,5 @@
 -- What reading a packet from a stream and writing one to a buffer answer.
-use Rattle.std.specs.Prelude.{◌≡◌, ℕ, List, ◌++◌, take, drop, Option, Some, None, Result, Ok, Err, ◌⊎◌}
+use Rattle.std.specs.Prelude.{◌≡◌, ℕ, List, take, drop, Option, Some, None, Result, Ok, Err, ◌⊎◌}
 use Rattle.bytes.specs.Filled.{Filled}
 use Rattle.mqtt5_base.specs.declared.error.Error.{Error}
 use Rattle.mqtt5_base.specs.declared.error.Error.TheVariants as errors
@@ -31,12 +31,6 @@ abbrev pub Reserves : Result (Option Packet) Error → Filled → Filled → Typ
 Reserves (Ok None) old new = new ≡ old
 Reserves (Ok (Some p)) old new = Unit {0}
 Reserves (Err e) old new = Unit {0}
-
--- The bytes were appended, or there are none and this is why; want of memory only where there are some. A refusal left
--- the buffer unchanged.
-abbrev pub Encodes : Result Unit Error → Result (List ℕ) Error → List ℕ → List ℕ → Type 0
-Encodes (Ok done) value old new = (bytes : List ℕ) × (value ≡ Ok bytes) × (new ≡ old ++ bytes)
-Encodes (Err e) value old new = (new ≡ old) × (((e ≡ errors.OutOfMemory) × ((bytes : List ℕ) × (value ≡ Ok bytes))) ⊎ (value ≡ Err e))
 
 -- A frame of so many bytes was taken out and read, or, for want of memory, perhaps neither.
 abbrev pub TakesFrame : ℕ → Result Packet Error → List ℕ → List ℕ → Type 0

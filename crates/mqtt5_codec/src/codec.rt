@@ -1,7 +1,8 @@
 //! The codec of a stream of packets.
 
+ghost use Rattle.mqtt5_base.specs.Puts.{Appends};
 ghost use Rattle.mqtt5_codec.specs.Packets.{writing_under};
-ghost use Rattle.mqtt5_codec.specs.Codecs.{Decodes, Encodes, Reserves};
+ghost use Rattle.mqtt5_codec.specs.Codecs.{Decodes, Reserves};
 
 use crate::packet::Packet;
 use crate::reading::take_frame;
@@ -34,7 +35,7 @@ impl Codec {
 
     /// Appends the packet's frame. Errors as of `Packet::write`; the buffer is then unchanged.
     pub fn encode(&self, packet: &Packet, buffer: &mut BytesMut) -> Result<(), Error>
-        ensures { Encodes result (writing_under self.now.max_outgoing_size packet.now) buffer.old.items buffer.new.items }
+        ensures { Appends result (writing_under self.now.max_outgoing_size packet.now) buffer.old.items buffer.new.items }
     {
         packet.write(buffer, self.max_outgoing_size)?;
         Ok(())

@@ -1,0 +1,9 @@
+use Rattle.std.proofs.Common.{arith}
+use Rattle.std.proofs.lemmas.Str.Pattern.{contains_char}
+use Rattle.mqtt5_base.proofs.Wildcards.{byte_is}
+use Rattle.mqtt5_base.proofs.mqttbytes.has_hash.Goals as goal
+
+pub returns : goal.returns
+returns c =
+    let p = contains_char 35 c.args.s.now c.contains.result c.contains.ensures.cases (omega arith) in
+    byte_is 35 c.args.s.now c.contains.result p.0 p.1
