@@ -27,36 +27,53 @@ fn publish_hi(alloc: Global) -> Result<Publish, Error> {
     Ok(publish)
 }
 
-#[test]
-fn written_and_read_back(rt: HostRuntime) -> Result<(), Fail> {
+/// Whether a packet takes exactly these bytes and is read back from them, whatever follows.
+fn goes_both_ways(alloc: Global, packet: &Packet, bytes: &[u8]) -> Result<bool, Error> {
+    packet.reads_back();
+    let mut stream = BytesMut::new(alloc);
+    let len = packet.write(&mut stream, None)?;
+    let written = len == packet.size() && stream.as_slice() == bytes;
+    stream.extend_from_slice(&[0xAA])?;
+    let read = Packet::read(alloc, &mut stream, None)?;
+    Ok(written && same(&copied(&read)?, packet) && stream.as_slice() == [0xAA].as_slice())
+}
+
+fn publish_both_ways(alloc: Global) -> Result<bool, Error> {
+    goes_both_ways(alloc, &Packet::Publish(publish_hi(alloc)?), PUBLISH)
+}
+
+fn lost_both_ways(alloc: Global) -> Result<bool, Error> {
     let mut lost = PubComp::new(7, None);
     lost.reason = PubCompReason::PacketIdentifierNotFound;
-    let packets: [(Packet, &[u8]); 8] = [
-        (Packet::Publish(publish_hi(rt.alloc())?), PUBLISH),
-        (Packet::PubAck(PubAck::new(1, None)), PUBACK),
-        (Packet::PubRec(PubRec::new(7, None)), &[0x50, 0x02, 0x00, 0x07]),
-        (Packet::PubRel(PubRel::new(7, None)), &[0x62, 0x02, 0x00, 0x07]),
-        (Packet::PubComp(PubComp::new(7, None)), &[0x70, 0x02, 0x00, 0x07]),
-        (Packet::PubComp(lost), &[0x70, 0x04, 0x00, 0x07, 0x92, 0x00]),
-        (Packet::PingReq(PingReq), &[0xC0, 0x00]),
-        (Packet::PingResp(PingResp), &[0xD0, 0x00]),
-    ];
-    for (packet, bytes) in packets {
-        packet.reads_back();
-        assert_eq!(rt; packet.size(), bytes.len(), "of {bytes:?}");
-        let mut stream = BytesMut::new(rt.alloc());
-        assert_eq!(rt;
-            packet.write(&mut stream, Some(12)),
-            Ok(bytes.len()),
-            "of {bytes:?}"
-        );
-        assert_eq!(rt; stream.as_slice(), bytes);
-        stream.extend_from_slice(&[0xAA])?;
-        let read = Packet::read(rt.alloc(), &mut stream, Some(10))?;
-        assert_eq!(rt; read, packet);
-        assert!(rt; same(&copied(&read)?, &packet));
-        assert_eq!(rt; stream.as_slice(), [0xAA].as_slice());
-    }
+    goes_both_ways(
+        alloc,
+        &Packet::PubComp(lost),
+        &[0x70, 0x04, 0x00, 0x07, 0x92, 0x00],
+    )
+}
+
+#[test]
+fn publish_written_and_read_back(rt: HostRuntime) -> Result<(), Fail> {
+    assert!(rt; publish_both_ways(rt.alloc())?);
+    Ok(())
+}
+
+#[test]
+fn acks_written_and_read_back(rt: HostRuntime) -> Result<(), Fail> {
+    let alloc = rt.alloc();
+    assert!(rt; goes_both_ways(alloc, &Packet::PubAck(PubAck::new(1, None)), PUBACK)?);
+    assert!(rt; goes_both_ways(alloc, &Packet::PubRec(PubRec::new(7, None)), &[0x50, 2, 0, 7])?);
+    assert!(rt; goes_both_ways(alloc, &Packet::PubRel(PubRel::new(7, None)), &[0x62, 2, 0, 7])?);
+    assert!(rt; goes_both_ways(alloc, &Packet::PubComp(PubComp::new(7, None)), &[0x70, 2, 0, 7])?);
+    assert!(rt; lost_both_ways(alloc)?);
+    Ok(())
+}
+
+#[test]
+fn pings_written_and_read_back(rt: HostRuntime) -> Result<(), Fail> {
+    let alloc = rt.alloc();
+    assert!(rt; goes_both_ways(alloc, &Packet::PingReq(PingReq), &[0xC0, 0])?);
+    assert!(rt; goes_both_ways(alloc, &Packet::PingResp(PingResp), &[0xD0, 0])?);
     Ok(())
 }
 
@@ -181,17 +198,22 @@ fn codec_in_pieces(rt: HostRuntime) -> Result<(), Fail> {
     Ok(())
 }
 
+/// The first byte of what is written for the packet of a frame, which is all of the stream.
+fn type_of_frame(alloc: Global, frame: &[u8]) -> Result<u8, Error> {
+    let mut stream = BytesMut::new(alloc);
+    stream.extend_from_slice(frame)?;
+    let packet = Packet::read(alloc, &mut stream, None)?;
+    if !stream.is_empty() {
+        return Ok(0);
+    }
+    packet.write(&mut stream, None)?;
+    Ok(stream.as_slice().first().copied().unwrap_or(0))
+}
+
 #[test]
 fn pings_ignore_a_body(rt: HostRuntime) -> Result<(), Fail> {
-    for (first, ping) in [
-        (0xC0, Packet::PingReq(PingReq)),
-        (0xD0, Packet::PingResp(PingResp)),
-    ] {
-        let mut stream = BytesMut::new(rt.alloc());
-        stream.extend_from_slice(&[first, 0x01, 0xFF])?;
-        assert_eq!(rt; Packet::read(rt.alloc(), &mut stream, None), Ok(ping));
-        assert!(rt; stream.is_empty());
-    }
+    assert_eq!(rt; type_of_frame(rt.alloc(), &[0xC0, 0x01, 0xFF])?, 0xC0);
+    assert_eq!(rt; type_of_frame(rt.alloc(), &[0xD0, 0x01, 0xFF])?, 0xD0);
     Ok(())
 }
 
@@ -214,9 +236,18 @@ fn properties(alloc: Global) -> Result<Option<AckProperties>, Error> {
     }))
 }
 
-#[test]
-fn lengths_of_two_bytes(rt: HostRuntime) -> Result<(), Fail> {
-    let alloc = rt.alloc();
+/// The size of a packet, where as much is written and read back; else 0.
+fn whole_size(alloc: Global, packet: &Packet) -> Result<usize, Error> {
+    let mut stream = BytesMut::new(alloc);
+    let len = packet.write(&mut stream, None)?;
+    if len != packet.size() || len != stream.len() {
+        return Ok(0);
+    }
+    let read = Packet::read(alloc, &mut stream, None)?;
+    Ok(if same(&read, packet) { len } else { 0 })
+}
+
+fn publish_size(alloc: Global) -> Result<usize, Error> {
     let mut publish = Publish::new(alloc, "a", QoS::AtMostOnce, Bytes::new(), None)?;
     publish.properties = Some(PublishProperties {
         payload_format_indicator: None,
@@ -228,34 +259,64 @@ fn lengths_of_two_bytes(rt: HostRuntime) -> Result<(), Fail> {
         subscription_identifiers: Sequence::new(alloc),
         content_type: None,
     });
-    let packets = [
-        (Packet::Publish(publish), 144),
-        (Packet::PubAck(PubAck::new(1, properties(alloc)?)), 144),
-        (Packet::PubRec(PubRec::new(1, properties(alloc)?)), 144),
-        (Packet::PubRel(PubRel::new(1, properties(alloc)?)), 144),
-        (Packet::PubComp(PubComp::new(1, properties(alloc)?)), 144),
-    ];
-    for (packet, size) in packets {
-        let mut stream = BytesMut::new(alloc);
-        assert_eq!(rt; packet.size(), size);
-        assert_eq!(rt; packet.write(&mut stream, None), Ok(size));
-        assert_eq!(rt; stream.len(), size);
-        assert_eq!(rt; Packet::read(alloc, &mut stream, None)?, packet);
-    }
-    let rec = PubRec::new(1, properties(alloc)?);
-    let mut buffer = BytesMut::new(alloc);
-    assert_eq!(rt; rec.size(), 144);
-    assert_eq!(rt; rec.write(&mut buffer), Ok(144));
-    assert_eq!(rt;
-        buffer.as_slice().get(..14),
-        Some(
-            [
-                0x50, 0x8D, 0x01, 0x00, 0x01, 0x00, 0x88, 0x01, 0x26, 0x00, 0x01, 0x6B, 0x00, 0x82,
-            ]
-            .as_slice()
-        )
-    );
+    whole_size(alloc, &Packet::Publish(publish))
+}
+
+fn puback_size(alloc: Global) -> Result<usize, Error> {
+    whole_size(alloc, &Packet::PubAck(PubAck::new(1, properties(alloc)?)))
+}
+
+fn pubrec_size(alloc: Global) -> Result<usize, Error> {
+    whole_size(alloc, &Packet::PubRec(PubRec::new(1, properties(alloc)?)))
+}
+
+fn pubrel_size(alloc: Global) -> Result<usize, Error> {
+    whole_size(alloc, &Packet::PubRel(PubRel::new(1, properties(alloc)?)))
+}
+
+fn pubcomp_size(alloc: Global) -> Result<usize, Error> {
+    whole_size(alloc, &Packet::PubComp(PubComp::new(1, properties(alloc)?)))
+}
+
+#[test]
+fn lengths_of_two_bytes(rt: HostRuntime) -> Result<(), Fail> {
+    let alloc = rt.alloc();
+    assert_eq!(rt; publish_size(alloc)?, 144);
+    assert_eq!(rt; puback_size(alloc)?, 144);
+    assert_eq!(rt; pubrec_size(alloc)?, 144);
+    assert_eq!(rt; pubrel_size(alloc)?, 144);
+    assert_eq!(rt; pubcomp_size(alloc)?, 144);
     Ok(())
+}
+
+/// What a PubRec with a pair of "k" and 130 bytes is written as.
+fn pubrec_bytes(alloc: Global) -> Result<BytesMut, Error> {
+    let mut buffer = BytesMut::new(alloc);
+    PubRec::new(1, properties(alloc)?).write(&mut buffer)?;
+    Ok(buffer)
+}
+
+#[test]
+fn pubrec_with_a_long_pair(rt: HostRuntime) -> Result<(), Fail> {
+    let bytes = pubrec_bytes(rt.alloc())?;
+    let begin: &[u8] = &[
+        0x50, 0x8D, 0x01, 0x00, 0x01, 0x00, 0x88, 0x01, 0x26, 0x00, 0x01, 0x6B, 0x00, 0x82,
+    ];
+    assert_eq!(rt; bytes.len(), 144);
+    assert!(rt; bytes.as_slice().starts_with(begin));
+    Ok(())
+}
+
+/// The identifier of an ack that says its second reason; 0 of another one.
+fn second_reason(alloc: Global, frame: &[u8]) -> Result<u16, Error> {
+    let mut stream = BytesMut::new(alloc);
+    stream.extend_from_slice(frame)?;
+    Ok(match Packet::read(alloc, &mut stream, None)? {
+        Packet::PubRec(ack) if ack.reason == PubRecReason::NoMatchingSubscribers => ack.pkid,
+        Packet::PubRel(ack) if ack.reason == PubRelReason::PacketIdentifierNotFound => ack.pkid,
+        Packet::PubComp(ack) if ack.reason == PubCompReason::PacketIdentifierNotFound => ack.pkid,
+        _other => 0,
+    })
 }
 
 #[test]
@@ -275,22 +336,7 @@ fn acks_by_their_reason(rt: HostRuntime) -> Result<(), Fail> {
         (&[0x70, 0x01, 0x00], Err(Error::MalformedPacket)),
     ];
     for (frame, known) in table {
-        let mut stream = BytesMut::new(rt.alloc());
-        stream.extend_from_slice(frame)?;
-        let id = match Packet::read(rt.alloc(), &mut stream, None) {
-            Ok(Packet::PubRec(ack)) if ack.reason == PubRecReason::NoMatchingSubscribers => {
-                Ok(ack.pkid)
-            }
-            Ok(Packet::PubRel(ack)) if ack.reason == PubRelReason::PacketIdentifierNotFound => {
-                Ok(ack.pkid)
-            }
-            Ok(Packet::PubComp(ack)) if ack.reason == PubCompReason::PacketIdentifierNotFound => {
-                Ok(ack.pkid)
-            }
-            Ok(_) => Ok(0),
-            Err(error) => Err(error),
-        };
-        assert_eq!(rt; id, known, "of {frame:?}");
+        assert_eq!(rt; second_reason(rt.alloc(), frame), known, "of {frame:?}");
     }
     Ok(())
 }

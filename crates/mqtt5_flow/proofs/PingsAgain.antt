@@ -10,4 +10,4 @@ use Rattle.mqtt5_flow.specs.Rows.{ping_row}
 pub ping_again : (rows : Rows) (first : ℕ) (bs : List ℕ) → row_among rows (first / 16) ≡ Some ping_row → writing ping_row (plainly first []) ≡ Ok bs → frame_at rows bs ≡ content_read ([], [])
 ping_again rows first bs among h =
     written_again rows ping_row (plainly first []) false ([], []) bs h
-        (record { brief = refl; among = among; whole = refl; suits = tt; parts = tt; kept = refl })
+    (record { brief = refl; among = among; whole = refl; suits = tt; parts = tt; kept = refl })
