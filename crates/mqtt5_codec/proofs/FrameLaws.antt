@@ -71,14 +71,28 @@ ComesBack kind row = (first len : ℕ) (body : List ℕ) (c : Content) (rest : L
 
 -- the values of each row come back
 rows_again : EachRow ComesBack packet_rows
-rows_again = (λ first len body c rest h. (refl, publish_row_again first len body c rest h),
-  (λ first len body c rest h. (refl, puback_row_again first len body c rest h),
-  (λ first len body c rest h. (refl, pubrec_row_again first len body c rest h),
-  (λ first len body c rest h. (refl, pubrel_row_again first len body c rest h),
-  (λ first len body c rest h. (refl, pubcomp_row_again first len body c rest h),
-  (λ first len body c rest h. (refl, ping_row_again first len body c rest h),
-  (λ first len body c rest h. (refl, ping_row_again first len body c rest h),
-  tt)))))))
+rows_again = (
+  λ first len body c rest h. (refl, publish_row_again first len body c rest h),
+  (
+    λ first len body c rest h. (refl, puback_row_again first len body c rest h),
+    (
+      λ first len body c rest h. (refl, pubrec_row_again first len body c rest h),
+      (
+        λ first len body c rest h. (refl, pubrel_row_again first len body c rest h),
+        (
+          λ first len body c rest h. (refl, pubcomp_row_again first len body c rest h),
+          (
+            λ first len body c rest h. (refl, ping_row_again first len body c rest h),
+            (
+              λ first len body c rest h. (refl, ping_row_again first len body c rest h),
+              tt,
+            ),
+          ),
+        ),
+      ),
+    ),
+  ),
+)
 
 -- The values of a frame come back from the packet that is made of them.
 pub content_again : (first : ℕ) (body : List ℕ) (c : Content) → IsFrame packet_rows first body c → (packet_type (packet_of (first / 16) c) ≡ first / 16) × (packet_content (packet_of (first / 16) c) ≡ c)

@@ -62,9 +62,27 @@ fn publish_written_and_read_back(rt: HostRuntime) -> Result<(), Fail> {
 fn acks_written_and_read_back(rt: HostRuntime) -> Result<(), Fail> {
     let alloc = rt.alloc();
     assert!(rt; goes_both_ways(alloc, &Packet::PubAck(PubAck::new(1, None)), PUBACK)?);
-    assert!(rt; goes_both_ways(alloc, &Packet::PubRec(PubRec::new(7, None)), &[0x50, 2, 0, 7])?);
-    assert!(rt; goes_both_ways(alloc, &Packet::PubRel(PubRel::new(7, None)), &[0x62, 2, 0, 7])?);
-    assert!(rt; goes_both_ways(alloc, &Packet::PubComp(PubComp::new(7, None)), &[0x70, 2, 0, 7])?);
+    assert!(rt;
+        goes_both_ways(
+            alloc,
+            &Packet::PubRec(PubRec::new(7, None)),
+            &[0x50, 2, 0, 7]
+        )?
+    );
+    assert!(rt;
+        goes_both_ways(
+            alloc,
+            &Packet::PubRel(PubRel::new(7, None)),
+            &[0x62, 2, 0, 7]
+        )?
+    );
+    assert!(rt;
+        goes_both_ways(
+            alloc,
+            &Packet::PubComp(PubComp::new(7, None)),
+            &[0x70, 2, 0, 7]
+        )?
+    );
     assert!(rt; lost_both_ways(alloc)?);
     Ok(())
 }
@@ -307,16 +325,24 @@ fn pubrec_with_a_long_pair(rt: HostRuntime) -> Result<(), Fail> {
     Ok(())
 }
 
-/// The identifier of an ack that says its second reason; 0 of another one.
+/// The identifier of an ack, where it says its second reason; else 0.
 fn second_reason(alloc: Global, frame: &[u8]) -> Result<u16, Error> {
     let mut stream = BytesMut::new(alloc);
     stream.extend_from_slice(frame)?;
-    Ok(match Packet::read(alloc, &mut stream, None)? {
-        Packet::PubRec(ack) if ack.reason == PubRecReason::NoMatchingSubscribers => ack.pkid,
-        Packet::PubRel(ack) if ack.reason == PubRelReason::PacketIdentifierNotFound => ack.pkid,
-        Packet::PubComp(ack) if ack.reason == PubCompReason::PacketIdentifierNotFound => ack.pkid,
-        _other => 0,
-    })
+    let packet = Packet::read(alloc, &mut stream, None)?;
+    let (pkid, second) = match &packet {
+        Packet::PubRec(ack) => (ack.pkid, ack.reason == PubRecReason::NoMatchingSubscribers),
+        Packet::PubRel(ack) => (
+            ack.pkid,
+            ack.reason == PubRelReason::PacketIdentifierNotFound,
+        ),
+        Packet::PubComp(ack) => (
+            ack.pkid,
+            ack.reason == PubCompReason::PacketIdentifierNotFound,
+        ),
+        _other => (0, false),
+    };
+    Ok(if second { pkid } else { 0 })
 }
 
 #[test]
