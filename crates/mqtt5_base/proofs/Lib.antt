@@ -28,3 +28,4 @@ pub mod FramesAgain
 pub mod Wildcards
 pub mod Levels
 pub mod Matching
+pub mod Bits

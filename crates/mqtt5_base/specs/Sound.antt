@@ -6,6 +6,7 @@ use Rattle.std.proofs.Common.{rules, ap, refl}
 use Rattle.std.proofs.lemmas.Bool.{eqb-true}
 use mathlib.Core.Bool.{beq}
 use Rattle.mqtt5_base.specs.Texts.{Utf8, same_text}
+use Rattle.mqtt5_base.specs.contracts.quality.QoSPartialEq.TheImpl as qos
 
 -- a test that holds of equal values alone
 abbrev pub Sound : {A : Type 0} → (A → A → Bool) → Type 0
@@ -42,3 +43,6 @@ text_sound t u h = same_text t u (bytes_sound t.bytes u.bytes h)
 
 pub pair_sound : {A B : Type 0} {E : A → A → Bool} {F : B → B → Bool} → ((x y : A) → E x y ≡ true → x ≡ y) → ((x y : B) → F x y ≡ true → x ≡ y) → (x y : A × B) → (E x.0 y.0 && F x.1 y.1) ≡ true → x ≡ y
 pair_sound e f x y h = let p = both (e x.0 y.0) (f x.1 y.1) h in λ i. (p.0 i, p.1 i)
+
+pub qos_sound : Sound qos.eq-value.it
+qos_sound = search rules

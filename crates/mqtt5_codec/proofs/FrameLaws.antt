@@ -12,21 +12,35 @@ use Rattle.mqtt5_base.proofs.FrameLaws.{frame_reads}
 use Rattle.mqtt5_base.proofs.HeaderLemmas.{one_whole, frame_at_whole}
 use Rattle.mqtt5_flow.proofs.PacketsBack.{publish_back, puback_back, pubrec_back, pubrel_back, pubcomp_back}
 use Rattle.mqtt5_flow.proofs.RowsBack.{publish_row_again, puback_row_again, pubrec_row_again, pubrel_row_again, pubcomp_row_again, ping_row_again}
+use Rattle.mqtt5_subs.proofs.PacketsBack.{subscribe_back, suback_back, unsubscribe_back, unsuback_back}
+use Rattle.mqtt5_subs.proofs.RowsBack.{subscribe_row_again, suback_row_again, suback_of_settled, unsubscribe_row_again, unsuback_row_again}
+use Rattle.mqtt5_link.proofs.ConnectsBack.{connect_back, will_back, login_back}
+use Rattle.mqtt5_link.proofs.ConnectRowsBack.{connect_row_again}
+use Rattle.mqtt5_link.proofs.AnswersBack.{connack_back, disconnect_back, auth_back}
+use Rattle.mqtt5_link.proofs.AnswerRowsBack.{connack_row_again, disconnect_row_again, auth_row_again}
 use Rattle.mqtt5_codec.specs.declared.packet.Packet.{Packet}
 use Rattle.mqtt5_codec.specs.declared.packet.Packet.TheVariants as packets
-use Rattle.mqtt5_codec.specs.Packets.{packet_rows, packet_type, packet_content, IsFrameOf, IsFaultOf, packet_of, first_of, packet_in}
+use Rattle.mqtt5_codec.specs.Packets.{packet_rows, packet_type, packet_content, IsRead, IsFrameOf, IsFaultOf, packet_of, first_of, packet_in}
 use Rattle.mqtt5_codec.specs.Laws.{IsFrames}
 use Rattle.mqtt5_codec.proofs.FrameLemmas.{first_of_whole}
 
--- A packet comes back from its type and its values.
-pub packet_back : (p : Packet) → packet_of (packet_type p) (packet_content p) ≡ p
-packet_back (packets.Publish p) = ap (λ q. packets.Publish q) (publish_back p)
-packet_back (packets.PubAck p) = ap (λ q. packets.PubAck q) (puback_back p)
-packet_back (packets.PubRec p) = ap (λ q. packets.PubRec q) (pubrec_back p)
-packet_back (packets.PubRel p) = ap (λ q. packets.PubRel q) (pubrel_back p)
-packet_back (packets.PubComp p) = ap (λ q. packets.PubComp q) (pubcomp_back p)
-packet_back (packets.PingReq p) = refl
-packet_back (packets.PingResp p) = refl
+-- A packet that reading can give comes back from its type and its values.
+pub packet_back : (p : Packet) → IsRead p → packet_of (packet_type p) (packet_content p) ≡ p
+packet_back (packets.Connect c will login) h = λ i. packets.Connect (connect_back c will login i) (will_back c will login i) (login_back c will login i)
+packet_back (packets.ConnAck p) h = ap (λ q. packets.ConnAck q) (connack_back p)
+packet_back (packets.Publish p) h = ap (λ q. packets.Publish q) (publish_back p)
+packet_back (packets.PubAck p) h = ap (λ q. packets.PubAck q) (puback_back p)
+packet_back (packets.PubRec p) h = ap (λ q. packets.PubRec q) (pubrec_back p)
+packet_back (packets.PubRel p) h = ap (λ q. packets.PubRel q) (pubrel_back p)
+packet_back (packets.PubComp p) h = ap (λ q. packets.PubComp q) (pubcomp_back p)
+packet_back (packets.Subscribe p) h = ap (λ q. packets.Subscribe q) (subscribe_back p)
+packet_back (packets.SubAck p) h = ap (λ q. packets.SubAck q) (suback_back p h)
+packet_back (packets.Unsubscribe p) h = ap (λ q. packets.Unsubscribe q) (unsubscribe_back p)
+packet_back (packets.UnsubAck p) h = ap (λ q. packets.UnsubAck q) (unsuback_back p)
+packet_back (packets.PingReq p) h = refl
+packet_back (packets.PingResp p) h = refl
+packet_back (packets.Disconnect p) h = ap (λ q. packets.Disconnect q) (disconnect_back p)
+packet_back (packets.Auth p) h = ap (λ q. packets.Auth q) (auth_back p)
 
 -- ---- the rows
 
@@ -67,35 +81,29 @@ row_each P (r ∷ rows) all kind row e = by_test (eqb kind r.0) refl (row_each P
 
 -- the values that a row gives come back from the packet that is made of them, and it has the type
 abbrev ComesBack : ℕ → Row → Type 0
-ComesBack kind row = (first len : ℕ) (body : List ℕ) (c : Content) (rest : List ℕ) → IsRow row first len body c rest → (packet_type (packet_of kind c) ≡ kind) × (packet_content (packet_of kind c) ≡ c)
+ComesBack kind row = (first len : ℕ) (body : List ℕ) (c : Content) (rest : List ℕ) → IsRow row first len body c rest → (packet_type (packet_of kind c) ≡ kind) × (packet_content (packet_of kind c) ≡ c) × IsRead (packet_of kind c)
 
 -- the values of each row come back
 rows_again : EachRow ComesBack packet_rows
-rows_again = (
-  λ first len body c rest h. (refl, publish_row_again first len body c rest h),
-  (
-    λ first len body c rest h. (refl, puback_row_again first len body c rest h),
-    (
-      λ first len body c rest h. (refl, pubrec_row_again first len body c rest h),
-      (
-        λ first len body c rest h. (refl, pubrel_row_again first len body c rest h),
-        (
-          λ first len body c rest h. (refl, pubcomp_row_again first len body c rest h),
-          (
-            λ first len body c rest h. (refl, ping_row_again first len body c rest h),
-            (
-              λ first len body c rest h. (refl, ping_row_again first len body c rest h),
-              tt,
-            ),
-          ),
-        ),
-      ),
-    ),
-  ),
-)
+rows_again = (λ first len body c rest h. (refl, connect_row_again first len body c rest h, tt),
+  (λ first len body c rest h. (refl, connack_row_again first len body c rest h, tt),
+  (λ first len body c rest h. (refl, publish_row_again first len body c rest h, tt),
+  (λ first len body c rest h. (refl, puback_row_again first len body c rest h, tt),
+  (λ first len body c rest h. (refl, pubrec_row_again first len body c rest h, tt),
+  (λ first len body c rest h. (refl, pubrel_row_again first len body c rest h, tt),
+  (λ first len body c rest h. (refl, pubcomp_row_again first len body c rest h, tt),
+  (λ first len body c rest h. (refl, subscribe_row_again first len body c rest h, tt),
+  (λ first len body c rest h. (refl, suback_row_again first len body c rest h, suback_of_settled c),
+  (λ first len body c rest h. (refl, unsubscribe_row_again first len body c rest h, tt),
+  (λ first len body c rest h. (refl, unsuback_row_again first len body c rest h, tt),
+  (λ first len body c rest h. (refl, ping_row_again first len body c rest h, tt),
+  (λ first len body c rest h. (refl, ping_row_again first len body c rest h, tt),
+  (λ first len body c rest h. (refl, disconnect_row_again first len body c rest h, tt),
+  (λ first len body c rest h. (refl, auth_row_again first len body c rest h, tt),
+  tt)))))))))))))))
 
 -- The values of a frame come back from the packet that is made of them.
-pub content_again : (first : ℕ) (body : List ℕ) (c : Content) → IsFrame packet_rows first body c → (packet_type (packet_of (first / 16) c) ≡ first / 16) × (packet_content (packet_of (first / 16) c) ≡ c)
+pub content_again : (first : ℕ) (body : List ℕ) (c : Content) → IsFrame packet_rows first body c → (packet_type (packet_of (first / 16) c) ≡ first / 16) × (packet_content (packet_of (first / 16) c) ≡ c) × IsRead (packet_of (first / 16) c)
 content_again first body c h = row_each ComesBack packet_rows rows_again (first / 16) h.0 h.1 first (length body) body c h.3 h.4
 
 -- ---- whole frames
@@ -116,14 +124,14 @@ frames_read frame first body w = reads_like (reads_map (λ c. packet_of (first_o
     to p c h e =
         let again = content_again first body c h in
         let same : p ≡ packet_of (first / 16) c = e ∙ ap (λ n. packet_of n c) high in
-        (first, body, w, sym (ap packet_type same ∙ again.0), subst (λ d. IsFrame packet_rows first body d) (sym (ap packet_content same ∙ again.1)) h)
+        (first, body, w, sym (ap packet_type same ∙ again.0), subst IsRead (sym same) again.2, subst (λ d. IsFrame packet_rows first body d) (sym (ap packet_content same ∙ again.1)) h)
 
     from : (p : Packet) → IsFrameOf frame p → (c : Content) × IsFrame packet_rows first body c × (p ≡ packet_of (first_of frame / 16) c)
     from p h =
         let one = one_whole frame h.0 first h.1 body h.2 w in (
           packet_content p,
-          subst (λ f. IsFrame packet_rows f body (packet_content p)) one.0 (subst (λ b. IsFrame packet_rows h.0 b (packet_content p)) one.1 h.4),
-          sym (packet_back p) ∙ ap (λ n. packet_of n (packet_content p)) (sym h.3 ∙ ap (λ n. n / 16) one.0 ∙ sym high),
+          subst (λ f. IsFrame packet_rows f body (packet_content p)) one.0 (subst (λ b. IsFrame packet_rows h.0 b (packet_content p)) one.1 h.5),
+          sym (packet_back p h.4) ∙ ap (λ n. packet_of n (packet_content p)) (sym h.3 ∙ ap (λ n. n / 16) one.0 ∙ sym high),
         )
 
     fault : (e : Error) → IsFaultOf frame e → FrameFault packet_rows first body e

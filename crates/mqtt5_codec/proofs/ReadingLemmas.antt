@@ -7,7 +7,7 @@ use Rattle.mqtt5_base.specs.Headers.{IsHeader}
 use Rattle.mqtt5_base.specs.Reading.{◌>>=◌, Gives, frame_values}
 use Rattle.mqtt5_base.proofs.HeaderLemmas.{frame_at_header}
 use Rattle.mqtt5_codec.specs.declared.packet.Packet.{Packet}
-use Rattle.mqtt5_codec.specs.Packets.{packet_rows, packet_type, packet_content, packet_of, first_of, packet_in}
+use Rattle.mqtt5_codec.specs.Packets.{packet_rows, packet_type, packet_content, IsRead, packet_of, first_of, packet_in}
 use Rattle.mqtt5_codec.proofs.FrameLemmas.{first_of_header}
 use Rattle.mqtt5_codec.proofs.FrameLaws.{packet_back}
 
@@ -19,6 +19,6 @@ packet_in_header h frame is =
     ∙ ap (λ (b : ℕ). frame_values packet_rows h.byte1 (drop h.fixed_header_len frame) >>= λ c. Ok (packet_of (b / 16) c)) (first_of_header h frame is)
 
 -- what was read by its type's reader is the packet of the frame
-pub packet_read : (h : FixedHeader) (frame : List ℕ) → IsHeader h frame → (r : Result Packet Error) → Gives packet_content r (frame_values packet_rows h.byte1 (drop h.fixed_header_len frame)) → IfOk r (λ p. packet_type p ≡ h.byte1 / 16) → Gives (λ p. p) r (packet_in frame)
-packet_read h frame is (Ok p) g k = packet_in_header h frame is ∙ rw g (ap (λ (n : ℕ). Ok (packet_of n (packet_content p))) (sym k) ∙ ap (λ (q : Packet). Ok q) (packet_back p))
-packet_read h frame is (Err e) g k = λ none. packet_in_header h frame is ∙ rw (g none) refl
+pub packet_read : (h : FixedHeader) (frame : List ℕ) → IsHeader h frame → (r : Result Packet Error) → Gives packet_content r (frame_values packet_rows h.byte1 (drop h.fixed_header_len frame)) → IfOk r (λ p. packet_type p ≡ h.byte1 / 16) → IfOk r IsRead → Gives (λ p. p) r (packet_in frame)
+packet_read h frame is (Ok p) g k known = packet_in_header h frame is ∙ rw g (ap (λ (n : ℕ). Ok (packet_of n (packet_content p))) (sym k) ∙ ap (λ (q : Packet). Ok q) (packet_back p known))
+packet_read h frame is (Err e) g k known = λ none. packet_in_header h frame is ∙ rw (g none) refl

@@ -3,19 +3,31 @@ use Rattle.std.specs.Prelude.{◌≡◌, ℕ, ◌≤◌, List, ◌++◌, length,
 use Rattle.mqtt5_base.specs.Front.{Whole, front}
 use Rattle.mqtt5_base.specs.Layout.{body_bytes}
 use Rattle.mqtt5_flow.specs.Norms.{publish_norm, puback_norm, pubrec_norm, pubrel_norm, pubcomp_norm}
+use Rattle.mqtt5_subs.specs.Norms.{subscribe_norm, suback_norm, unsubscribe_norm, unsuback_norm}
+use Rattle.mqtt5_link.specs.ConnectNorms.{connect_norm, will_norm, login_norm}
+use Rattle.mqtt5_link.specs.AnswerNorms.{connack_norm, disconnect_norm, auth_norm}
 use Rattle.mqtt5_codec.specs.declared.packet.Packet.{Packet}
 use Rattle.mqtt5_codec.specs.declared.packet.Packet.TheVariants as packets
 use Rattle.mqtt5_codec.specs.Packets.{packet_row, written_packet, packet_writing, packet_in}
 
--- empty property sets are none, and a Publish of QoS 0 has identifier 0
+-- Empty property sets are none, a Publish of QoS 0 has identifier 0, a failure in a SubAck is unspecified, and a login of
+-- two empty texts is none.
 abbrev pub norm : Packet → Packet
+norm (packets.Connect c will login) = packets.Connect (connect_norm c) (will_norm will) (login_norm login)
+norm (packets.ConnAck p) = packets.ConnAck (connack_norm p)
 norm (packets.Publish p) = packets.Publish (publish_norm p)
 norm (packets.PubAck p) = packets.PubAck (puback_norm p)
 norm (packets.PubRec p) = packets.PubRec (pubrec_norm p)
 norm (packets.PubRel p) = packets.PubRel (pubrel_norm p)
 norm (packets.PubComp p) = packets.PubComp (pubcomp_norm p)
+norm (packets.Subscribe p) = packets.Subscribe (subscribe_norm p)
+norm (packets.SubAck p) = packets.SubAck (suback_norm p)
+norm (packets.Unsubscribe p) = packets.Unsubscribe (unsubscribe_norm p)
+norm (packets.UnsubAck p) = packets.UnsubAck (unsuback_norm p)
 norm (packets.PingReq p) = packets.PingReq p
 norm (packets.PingResp p) = packets.PingResp p
+norm (packets.Disconnect p) = packets.Disconnect (disconnect_norm p)
+norm (packets.Auth p) = packets.Auth (auth_norm p)
 
 -- a limit that admits a remaining length
 abbrev pub Admits : Option ℕ → ℕ → Type 0

@@ -4,18 +4,28 @@ use crate::reading::take_frame;
 use bytes::BytesMut;
 use mqtt5_base::{Error, check, frame_size};
 use mqtt5_flow::{PingReq, PingResp, PubAck, PubComp, PubRec, PubRel, Publish};
+use mqtt5_link::{Auth, ConnAck, Connect, Disconnect, LastWill, Login};
+use mqtt5_subs::{SubAck, Subscribe, UnsubAck, Unsubscribe};
 use std::alloc::Global;
 
 /// A packet.
 #[derive(Debug, Clone, PartialEq, Eq, Drop)]
 pub enum Packet {
+    Auth(Auth),
+    Connect(Connect, Option<LastWill>, Option<Login>),
+    ConnAck(ConnAck),
     Publish(Publish),
     PubAck(PubAck),
     PingReq(PingReq),
     PingResp(PingResp),
+    Subscribe(Subscribe),
+    SubAck(SubAck),
     PubRec(PubRec),
     PubRel(PubRel),
     PubComp(PubComp),
+    Unsubscribe(Unsubscribe),
+    UnsubAck(UnsubAck),
+    Disconnect(Disconnect),
 }
 
 impl Packet {
@@ -44,12 +54,20 @@ impl Packet {
         ensures { result ≡ min (packet_len self.now) usize.MAX }
     {
         match self {
+            Packet::Auth(auth) => auth.size(),
+            Packet::Connect(connect, will, login) => connect.size(will, login),
+            Packet::ConnAck(ack) => ack.size(),
             Packet::Publish(publish) => publish.size(),
             Packet::PubAck(ack) => ack.size(),
+            Packet::PingReq(_) | Packet::PingResp(_) => frame_size(0),
+            Packet::Subscribe(subscribe) => subscribe.size(),
+            Packet::SubAck(ack) => ack.size(),
             Packet::PubRec(ack) => ack.size(),
             Packet::PubRel(ack) => ack.size(),
             Packet::PubComp(ack) => ack.size(),
-            Packet::PingReq(_) | Packet::PingResp(_) => frame_size(0),
+            Packet::Unsubscribe(unsubscribe) => unsubscribe.size(),
+            Packet::UnsubAck(ack) => ack.size(),
+            Packet::Disconnect(disconnect) => disconnect.size(),
         }
     }
 
@@ -57,18 +75,26 @@ impl Packet {
         ensures { Writes (packet_writing self.now) result buffer.old.items buffer.new.items }
     {
         match self {
+            Packet::Auth(auth) => auth.write(buffer),
+            Packet::Connect(connect, will, login) => connect.write(will, login, buffer),
+            Packet::ConnAck(ack) => ack.write(buffer),
             Packet::Publish(publish) => publish.write(buffer),
             Packet::PubAck(ack) => ack.write(buffer),
+            Packet::PingReq(_) => PingReq::write(buffer),
+            Packet::PingResp(_) => PingResp::write(buffer),
+            Packet::Subscribe(subscribe) => subscribe.write(buffer),
+            Packet::SubAck(ack) => ack.write(buffer),
             Packet::PubRec(ack) => ack.write(buffer),
             Packet::PubRel(ack) => ack.write(buffer),
             Packet::PubComp(ack) => ack.write(buffer),
-            Packet::PingReq(_) => PingReq::write(buffer),
-            Packet::PingResp(_) => PingResp::write(buffer),
+            Packet::Unsubscribe(unsubscribe) => unsubscribe.write(buffer),
+            Packet::UnsubAck(ack) => ack.write(buffer),
+            Packet::Disconnect(disconnect) => disconnect.write(buffer),
         }
     }
 
     /// Appends the packet and answers its length. E20 where it is over the limit, with its size or the
-    /// greatest `u32`; E11, E9; E21. The buffer is then unchanged.
+    /// greatest `u32`; E11; E9, E10, E16 or E1 of the packet; E21. The buffer is then unchanged.
     pub fn write(&self, buffer: &mut BytesMut, max_size: Option<u32>) -> Result<usize, Error>
         ensures { Writes (writing_under max_size self.now) result buffer.old.items buffer.new.items }
     {

@@ -3,13 +3,15 @@
 ghost use Rattle.std.specs.Prelude.{◌≡◌, ◌/◌, ◌<◌, ◌≤◌, length, take, drop, IfOk, MatchResult};
 ghost use Rattle.mqtt5_base.specs.Headers.{IsHeader, frame_len};
 ghost use Rattle.mqtt5_base.specs.Reading.{Gives, frame_values};
-ghost use Rattle.mqtt5_codec.specs.Packets.{packet_rows, packet_type, packet_content, packet_in};
+ghost use Rattle.mqtt5_codec.specs.Packets.{packet_rows, packet_type, packet_content, packet_in, IsRead};
 ghost use Rattle.mqtt5_codec.specs.Codecs.{TakesFrame};
 
 use crate::packet::Packet;
 use bytes::{Bytes, BytesMut};
 use mqtt5_base::{Error, FixedHeader, PacketType, check};
 use mqtt5_flow::{PingReq, PingResp, PubAck, PubComp, PubRec, PubRel, Publish};
+use mqtt5_link::{Auth, ConnAck, Connect, Disconnect, LastWill, Login};
+use mqtt5_subs::{SubAck, Subscribe, UnsubAck, Unsubscribe};
 use std::alloc::Global;
 
 /// E13 of a frame without a body.
@@ -22,45 +24,103 @@ fn needs_body(header: FixedHeader) -> Result<(), Error>
     Ok(())
 }
 
-fn as_publish(publish: Publish) -> Packet
-    ensures { result ≡ Packet.Publish publish }
+fn as_connect(parts: (Connect, Option<LastWill>, Option<Login>)) -> Packet
+    ensures { result ≡ Packet.Connect parts.0 parts.1 parts.2 }
 {
-    Packet::Publish(publish)
+    let (connect, will, login) = parts;
+    Packet::Connect(connect, will, login)
 }
 
-fn as_puback(ack: PubAck) -> Packet
-    ensures { result ≡ Packet.PubAck ack }
+fn as_connack(packet: ConnAck) -> Packet
+    ensures { result ≡ Packet.ConnAck packet }
 {
-    Packet::PubAck(ack)
+    Packet::ConnAck(packet)
 }
 
-fn as_pubrec(ack: PubRec) -> Packet
-    ensures { result ≡ Packet.PubRec ack }
+fn as_publish(packet: Publish) -> Packet
+    ensures { result ≡ Packet.Publish packet }
 {
-    Packet::PubRec(ack)
+    Packet::Publish(packet)
 }
 
-fn as_pubrel(ack: PubRel) -> Packet
-    ensures { result ≡ Packet.PubRel ack }
+fn as_puback(packet: PubAck) -> Packet
+    ensures { result ≡ Packet.PubAck packet }
 {
-    Packet::PubRel(ack)
+    Packet::PubAck(packet)
 }
 
-fn as_pubcomp(ack: PubComp) -> Packet
-    ensures { result ≡ Packet.PubComp ack }
+fn as_pubrec(packet: PubRec) -> Packet
+    ensures { result ≡ Packet.PubRec packet }
 {
-    Packet::PubComp(ack)
+    Packet::PubRec(packet)
 }
 
-/// The packet of a whole frame. E5 of a type that isn't read, E13 of one without the body that it
-/// needs, else the first fault of its fields.
+fn as_pubrel(packet: PubRel) -> Packet
+    ensures { result ≡ Packet.PubRel packet }
+{
+    Packet::PubRel(packet)
+}
+
+fn as_pubcomp(packet: PubComp) -> Packet
+    ensures { result ≡ Packet.PubComp packet }
+{
+    Packet::PubComp(packet)
+}
+
+fn as_subscribe(packet: Subscribe) -> Packet
+    ensures { result ≡ Packet.Subscribe packet }
+{
+    Packet::Subscribe(packet)
+}
+
+fn as_suback(packet: SubAck) -> Packet
+    ensures { result ≡ Packet.SubAck packet }
+{
+    Packet::SubAck(packet)
+}
+
+fn as_unsubscribe(packet: Unsubscribe) -> Packet
+    ensures { result ≡ Packet.Unsubscribe packet }
+{
+    Packet::Unsubscribe(packet)
+}
+
+fn as_unsuback(packet: UnsubAck) -> Packet
+    ensures { result ≡ Packet.UnsubAck packet }
+{
+    Packet::UnsubAck(packet)
+}
+
+fn as_disconnect(packet: Disconnect) -> Packet
+    ensures { result ≡ Packet.Disconnect packet }
+{
+    Packet::Disconnect(packet)
+}
+
+fn as_auth(packet: Auth) -> Packet
+    ensures { result ≡ Packet.Auth packet }
+{
+    Packet::Auth(packet)
+}
+
+/// The packet of a whole frame. E5 of type 0, E13 of a type without the body that it needs, else the
+/// first fault of its fields.
 #[tactic(auto, unfolding(mqtt5_base::specs::Reading::frame_values))]
 fn read_body(alloc: Global, header: FixedHeader, frame: Bytes) -> Result<Packet, Error>
     requires { IsHeader header frame }
     ensures value { Gives packet_content result (frame_values packet_rows header.byte1 (drop header.fixed_header_len frame)) }
     ensures kind { IfOk result (λ p. packet_type p ≡ header.byte1 / 16) }
+    ensures known { IfOk result IsRead }
 {
     match header.packet_type()? {
+        PacketType::Connect => {
+            needs_body(header)?;
+            Ok(as_connect(Connect::read(alloc, header, frame)?))
+        }
+        PacketType::ConnAck => {
+            needs_body(header)?;
+            Ok(as_connack(ConnAck::read(alloc, header, frame)?))
+        }
         PacketType::Publish => {
             needs_body(header)?;
             Ok(as_publish(Publish::read(alloc, header, frame)?))
@@ -81,9 +141,26 @@ fn read_body(alloc: Global, header: FixedHeader, frame: Bytes) -> Result<Packet,
             needs_body(header)?;
             Ok(as_pubcomp(PubComp::read(alloc, header, frame)?))
         }
+        PacketType::Subscribe => {
+            needs_body(header)?;
+            Ok(as_subscribe(Subscribe::read(alloc, header, frame)?))
+        }
+        PacketType::SubAck => {
+            needs_body(header)?;
+            Ok(as_suback(SubAck::read(alloc, header, frame)?))
+        }
+        PacketType::Unsubscribe => {
+            needs_body(header)?;
+            Ok(as_unsubscribe(Unsubscribe::read(alloc, header, frame)?))
+        }
+        PacketType::UnsubAck => {
+            needs_body(header)?;
+            Ok(as_unsuback(UnsubAck::read(alloc, header, frame)?))
+        }
         PacketType::PingReq => Ok(Packet::PingReq(PingReq)),
         PacketType::PingResp => Ok(Packet::PingResp(PingResp)),
-        _other => Err(Error::InvalidPacketType(header.byte1 / 16)),
+        PacketType::Disconnect => Ok(as_disconnect(Disconnect::read(alloc, header, frame)?)),
+        PacketType::Auth => Ok(as_auth(Auth::read(alloc, header, frame)?)),
     }
 }
 

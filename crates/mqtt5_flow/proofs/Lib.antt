@@ -1,5 +1,4 @@
 pub mod AckLemmas
-pub mod Bits
 pub mod PacketsBack
 pub mod RowsBack
 pub mod AcksAgain

@@ -10,7 +10,7 @@ use Rattle.mqtt5_base.proofs.FieldShapes.{one_back, remainder_back, properties_b
 use Rattle.mqtt5_flow.specs.Rows.{publish_table, publish_row, ack_table, ack_row, puback_codes, pubrel_codes, puback_row, pubrel_row, ping_row}
 use Rattle.mqtt5_flow.specs.Acks.{ack_found, ack_set, puback_code, puback_reason, pubrel_code, pubrel_reason, puback_packet, puback_of, pubrec_packet, pubrec_of, pubrel_packet, pubrel_of, pubcomp_packet, pubcomp_of}
 use Rattle.mqtt5_flow.specs.Publishes.{publish_found, publish_packet, publish_set, publish_of}
-use Rattle.mqtt5_flow.proofs.Bits.{bit_of_mod}
+use Rattle.mqtt5_base.proofs.Bits.{bit_of_mod}
 
 -- ---- Publish
 

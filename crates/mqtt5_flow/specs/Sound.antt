@@ -1,7 +1,6 @@
 -- This file serves the logic alone: the derived `==` of each type finds equal values alone.
 use Rattle.std.proofs.Common.{rules}
-use Rattle.mqtt5_base.specs.Sound.{Sound, both, bool_sound, number_sound, option_sound, list_sound, bytes_sound, text_sound, pair_sound}
-use Rattle.mqtt5_base.specs.contracts.quality.QoSPartialEq.TheImpl as qos
+use Rattle.mqtt5_base.specs.Sound.{Sound, both, bool_sound, number_sound, option_sound, list_sound, bytes_sound, text_sound, pair_sound, qos_sound}
 use Rattle.mqtt5_flow.specs.contracts.puback.PubAckReasonPartialEq.TheImpl as puback_reason
 use Rattle.mqtt5_flow.specs.contracts.pubrel.PubRelReasonPartialEq.TheImpl as pubrel_reason
 use Rattle.mqtt5_flow.specs.contracts.properties.AckPropertiesPartialEq.TheImpl as ack_properties
@@ -13,9 +12,6 @@ use Rattle.mqtt5_flow.specs.contracts.ping.PingReqPartialEq.TheImpl as pingreq
 use Rattle.mqtt5_flow.specs.contracts.ping.PingRespPartialEq.TheImpl as pingresp
 use Rattle.mqtt5_flow.specs.contracts.publish.PublishPropertiesPartialEq.TheImpl as publish_properties
 use Rattle.mqtt5_flow.specs.contracts.publish.PublishPartialEq.TheImpl as publish
-
-qos_sound : Sound qos.eq-value.it
-qos_sound = search rules
 
 pub puback_reason_sound : Sound puback_reason.eq-value.it
 puback_reason_sound = search rules

@@ -189,7 +189,7 @@ impl Publish {
 
     /// The Publish of a frame's bytes. E7 of a QoS of 3, E9 of a packet identifier 0 where the QoS is
     /// 1 or 2, E14 to E18 of a field that can't be read; E21.
-    #[tactic(auto, using(crate::proofs::Bits::bit_of_mod))]
+    #[tactic(auto, using(mqtt5_base::proofs::Bits::bit_of_mod))]
     pub fn read(alloc: Global, header: FixedHeader, bytes: Bytes) -> Result<Publish, Error>
         requires { length bytes ≡ header.fixed_header_len + header.remaining_len }
         ensures { Gives (λ p. content_of_packet (publish_packet p)) result (values_in publish_row header.byte1 header.remaining_len (drop header.fixed_header_len bytes)) }

@@ -1,6 +1,8 @@
-//! The program `mqtt5`: it runs a script of incoming bytes and requests, and prints what came of it.
+//! The program `mqtt5`: it runs a script of incoming bytes and requests and prints what came of it, or
+//! tries the vectors.
 #![tactic(auto)]
 
+mod bench;
 mod outcome;
 mod report;
 pub mod run;

@@ -61,13 +61,21 @@ fn write_named<W: Write>(
 /// A packet's name, and its id where it has one.
 fn got(packet: &Packet) -> (&'static str, Option<u16>) {
     match packet {
+        Packet::Auth(_) => ("Auth", None),
+        Packet::Connect(_, _, _) => ("Connect", None),
+        Packet::ConnAck(_) => ("ConnAck", None),
         Packet::Publish(publish) => ("Publish", Some(publish.pkid)),
         Packet::PubAck(ack) => ("PubAck", Some(ack.pkid)),
+        Packet::PingReq(_) => ("PingReq", None),
+        Packet::PingResp(_) => ("PingResp", None),
+        Packet::Subscribe(subscribe) => ("Subscribe", Some(subscribe.pkid)),
+        Packet::SubAck(ack) => ("SubAck", Some(ack.pkid)),
         Packet::PubRec(ack) => ("PubRec", Some(ack.pkid)),
         Packet::PubRel(ack) => ("PubRel", Some(ack.pkid)),
         Packet::PubComp(ack) => ("PubComp", Some(ack.pkid)),
-        Packet::PingReq(_) => ("PingReq", None),
-        Packet::PingResp(_) => ("PingResp", None),
+        Packet::Unsubscribe(unsubscribe) => ("Unsubscribe", Some(unsubscribe.pkid)),
+        Packet::UnsubAck(ack) => ("UnsubAck", Some(ack.pkid)),
+        Packet::Disconnect(_) => ("Disconnect", None),
     }
 }
 

@@ -2,6 +2,7 @@
 
 ghost use Rattle.std.specs.Prelude.{◌<◌};
 
+use crate::bench::{FRAMES, try_vectors};
 use crate::outcome::run_steps;
 use crate::report::{write_fault, write_outcome};
 use crate::script::{ScriptError, parse_number, read_script};
@@ -24,9 +25,13 @@ enum Status {
 pub fn run<R: Read, W: Write>(alloc: Global, words: &[String], input: &mut R, output: &mut W) -> u8
     ensures { result < 3 }
 {
-    let printed = match drive_limit(words) {
-        Some(limit) => run_script(alloc, limit, input, output),
-        None => write_usage(output),
+    let printed = if is_bench(words) {
+        run_bench(alloc, output)
+    } else {
+        match drive_limit(words) {
+            Some(limit) => run_script(alloc, limit, input, output),
+            None => write_usage(output),
+        }
     };
     printed.unwrap_or(Status::Fault) as u8
 }
@@ -40,6 +45,21 @@ pub fn refuse_words<W: Write>(error: &io::Error, output: &mut W) -> u8
         _ => write_usage(output),
     };
     printed.unwrap_or(Status::Fault) as u8
+}
+
+fn is_bench(words: &[String]) -> bool {
+    match words {
+        [word] => word.as_str() == "bench",
+        _ => false,
+    }
+}
+
+fn run_bench<W: Write>(alloc: Global, output: &mut W) -> io::Result<Status> {
+    Ok(if try_vectors(alloc, &FRAMES, output)? {
+        Status::Done
+    } else {
+        Status::Fault
+    })
 }
 
 /// The limit of `drive LIMIT`, which is 1 to 65535; none of other words.

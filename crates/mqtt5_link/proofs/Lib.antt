@@ -1,0 +1,10 @@
+pub mod ThirdsLemmas
+pub mod AnswersBack
+pub mod AnswerRowsBack
+pub mod AnswersAgain
+pub mod ConnectStarts
+pub mod ConnectFits
+pub mod ConnectsBack
+pub mod ConnectRowsBack
+pub mod ConnectFlags
+pub mod ConnectsAgain

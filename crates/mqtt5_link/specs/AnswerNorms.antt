@@ -1,0 +1,20 @@
+-- What ConnAck, Disconnect and Auth are read as after they were written.
+use Rattle.mqtt5_base.specs.Tidy.{tidy}
+use Rattle.mqtt5_link.specs.declared.connack.ConnAck.{ConnAck}
+use Rattle.mqtt5_link.specs.declared.disconnect.Disconnect.{Disconnect}
+use Rattle.mqtt5_link.specs.declared.auth.Auth.{Auth}
+use Rattle.mqtt5_link.specs.ConnAcks.{connack_found}
+use Rattle.mqtt5_link.specs.Disconnects.{disconnect_found}
+use Rattle.mqtt5_link.specs.Auths.{auth_found}
+
+-- an empty property set is none
+abbrev pub connack_norm : ConnAck → ConnAck
+connack_norm a = record { session_present = a.session_present; code = a.code; properties = tidy connack_found a.properties }
+
+-- the same
+abbrev pub disconnect_norm : Disconnect → Disconnect
+disconnect_norm d = record { reason_code = d.reason_code; properties = tidy disconnect_found d.properties }
+
+-- the same
+abbrev pub auth_norm : Auth → Auth
+auth_norm a = record { code = a.code; properties = tidy auth_found a.properties }

@@ -1,0 +1,89 @@
+-- The rows of ConnAck, Disconnect and Auth (MQTT 5.0 sections 3.2, 3.14 and 3.15).
+use Rattle.std.specs.Prelude.{◌≡◌, ℕ, true, false, List, [], ◌∷◌, ◌++◌, None, Result, Ok, Err}
+use Rattle.mqtt5_base.specs.declared.error.Error.{Error}
+use Rattle.mqtt5_base.specs.Grammar.{u8, number, Entry, single, several_of, Test, any_of, bad_reason, bad_type, malformed, plain, properties, one, checked, block, given, read, whole, bits, always, longer, field, raw, note, judge, Row, there, bit_of, is, steps_row}
+
+-- What a function that takes no memory answered, seen by view, is what reading gives.
+abbrev pub Finds : {X Y : Type 0} → (X → Y) → Result X Error → Result Y Error → Type 0
+Finds view (Ok x) r = r ≡ Ok (view x)
+Finds view (Err e) r = r ≡ Err e
+
+-- ---- ConnAck (3.2)
+
+-- the properties of a ConnAck in three parts, which together are in the order of writing (3.2.2.3)
+abbrev pub connack_first_table : List Entry
+connack_first_table = single 17 ∷ single 33 ∷ single 36 ∷ single 37 ∷ single 39 ∷ single 18 ∷ []
+
+abbrev pub connack_second_table : List Entry
+connack_second_table = single 34 ∷ single 31 ∷ several_of 38 ∷ single 40 ∷ single 41 ∷ single 42 ∷ []
+
+abbrev pub connack_third_table : List Entry
+connack_third_table = single 19 ∷ single 26 ∷ single 28 ∷ single 21 ∷ single 22 ∷ []
+
+-- all of them
+abbrev pub connack_table : List Entry
+connack_table = connack_first_table ++ (connack_second_table ++ connack_third_table)
+
+-- the reason codes of a ConnAck (3.2.2.2)
+abbrev pub connack_numbers : List ℕ
+connack_numbers =
+    0 ∷ 128 ∷ 129 ∷ 130 ∷ 131 ∷ 132 ∷ 133 ∷ 134 ∷ 135 ∷ 136 ∷ 137 ∷ 138 ∷ 140 ∷ 144 ∷ 149 ∷ 151 ∷ 153 ∷ 154 ∷ 155 ∷ 156 ∷ 157 ∷ 159 ∷ []
+
+abbrev pub connack_codes : Test
+connack_codes = any_of connack_numbers
+
+-- the flags, of which the session present flag is kept (3.2.2.1.1), the reason code and the properties; the reason code
+-- is judged last
+abbrev pub connack_row : Row
+connack_row = steps_row (raw u8 ∷ note (bit_of (read 0) 1) ∷ there (one u8) ∷ there (block connack_table) ∷ judge always (whole (read 2)) connack_codes bad_reason ∷ [])
+
+-- ---- Disconnect (3.14)
+
+-- the properties of a Disconnect, in the order of writing (3.14.2.2)
+abbrev pub disconnect_table : List Entry
+disconnect_table = single 17 ∷ single 31 ∷ several_of 38 ∷ single 28 ∷ []
+
+-- the reason codes of a Disconnect (3.14.2.1)
+abbrev pub disconnect_numbers : List ℕ
+disconnect_numbers =
+    0 ∷ 4 ∷ 128 ∷ 129 ∷ 130 ∷ 131 ∷ 135 ∷ 137 ∷ 139 ∷ 141 ∷ 142 ∷ 143 ∷ 144 ∷ 147 ∷ 148 ∷ 149 ∷ 150 ∷ 151 ∷ 152 ∷ 153 ∷ 154 ∷ 155 ∷ 156 ∷ 157 ∷ 158 ∷ 159 ∷ 160 ∷ 161 ∷ 162 ∷ []
+
+abbrev pub disconnect_codes : Test
+disconnect_codes = any_of disconnect_numbers
+
+-- the type and the flags, which are 0 (3.14.1); an empty body is a normal disconnection; the reason code; a body of one
+-- byte ends there; the properties
+abbrev pub disconnect_row : Row
+disconnect_row = record {
+  steps =
+      judge always (bits given 16 16) (is 14) bad_type
+      ∷ judge always (bits given 1 16) (is 0) malformed
+      ∷ field (longer 0) (checked u8 disconnect_codes bad_reason) (plain (number 0))
+      ∷ field (longer 1) (block disconnect_table) (properties None)
+      ∷ [];
+  parts = [];
+  bare = true;
+  brief = true;
+}
+
+-- ---- Auth (3.15)
+
+-- the properties of an Auth, in the order of writing (3.15.2.2)
+abbrev pub auth_table : List Entry
+auth_table = single 21 ∷ single 22 ∷ single 31 ∷ several_of 38 ∷ []
+
+-- the reason codes of an Auth (3.15.2.1)
+abbrev pub auth_numbers : List ℕ
+auth_numbers = 0 ∷ 24 ∷ 25 ∷ []
+
+abbrev pub auth_codes : Test
+auth_codes = any_of auth_numbers
+
+-- an empty body is success; the reason code and the properties
+abbrev pub auth_row : Row
+auth_row = record {
+  steps = field (longer 0) (checked u8 auth_codes malformed) (plain (number 0)) ∷ field (longer 0) (block auth_table) (properties None) ∷ [];
+  parts = [];
+  bare = true;
+  brief = false;
+}

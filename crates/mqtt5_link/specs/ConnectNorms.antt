@@ -1,0 +1,22 @@
+-- What a Connect, its will and its login are read as after they were written.
+use Rattle.std.specs.Prelude.{Option, Some, None, option_map, if◌then◌else◌}
+use Rattle.mqtt5_base.specs.Grammar.{all_empty}
+use Rattle.mqtt5_base.specs.Tidy.{tidy}
+use Rattle.mqtt5_link.specs.declared.connect.Connect.{Connect}
+use Rattle.mqtt5_link.specs.declared.will.LastWill.{LastWill}
+use Rattle.mqtt5_link.specs.declared.login.Login.{Login}
+use Rattle.mqtt5_link.specs.Connects.{connect_found, will_found, login_values}
+
+abbrev pub connect_norm : Connect → Connect
+connect_norm c = record { keep_alive = c.keep_alive; client_id = c.client_id; clean_start = c.clean_start; properties = tidy connect_found c.properties }
+
+abbrev pub tidy_will : LastWill → LastWill
+tidy_will w = record { topic = w.topic; message = w.message; qos = w.qos; retain = w.retain; properties = tidy will_found w.properties }
+
+abbrev pub will_norm : Option LastWill → Option LastWill
+will_norm will = option_map tidy_will will
+
+-- a login of two empty texts is none
+abbrev pub login_norm : Option Login → Option Login
+login_norm None = None
+login_norm (Some l) = if all_empty (login_values l) then None else Some l

@@ -1,0 +1,121 @@
+//! The user name and the password of a client.
+
+ghost use Rattle.std.specs.Prelude.{◌≡◌, ◌≤◌, [], IfOk, IfErr, OnErr};
+ghost use Rattle.mqtt5_base.specs.Grammar.{plain, content, one, text};
+ghost use Rattle.mqtt5_base.specs.Reading.{Gives, optional_at, part_at};
+ghost use Rattle.mqtt5_base.specs.Layout.{group_of};
+ghost use Rattle.mqtt5_link.specs.ConnectRows.{login_steps, login_part};
+ghost use Rattle.mqtt5_link.specs.Connects.{login_values, text_flag, login_flags, login_group, under_flags, part_writing, WritesPart};
+ghost use Rattle.mqtt5_link.specs.ConnectShort.{login_short};
+
+use crate::connect_part::{ConnectPart, write_part};
+use bytes::{Bytes, BytesMut};
+use mqtt5_base::{Error, FieldValue, Text, read_text};
+use std::alloc::Global;
+
+/// The user name and the password of a client (MQTT 5.0 sections 3.1.3.5 and 3.1.3.6).
+#[derive(Debug, Clone, PartialEq, Eq, Drop)]
+pub struct Login {
+    pub username: Text,
+    pub password: Text,
+}
+
+/// A text, where it is there; else an empty one.
+fn read_optional(alloc: Global, is_there: bool, bytes: &mut Bytes) -> Result<Text, Error>
+    ensures { Gives (λ t. (plain (content t.bytes), bytes.new)) result (optional_at is_there (one text) (plain (content [])) bytes.old) }
+{
+    if is_there {
+        read_text(alloc, bytes)
+    } else {
+        Ok(Text::from(String::new(alloc)))
+    }
+}
+
+impl Login {
+    /// A login of these texts. E21.
+    pub fn new(alloc: Global, u: &str, p: &str) -> Result<Login, Error>
+        ensures ok { IfOk result (λ l. (l.username.bytes ≡ u.now) × (l.password.bytes ≡ p.now)) }
+        ensures err { IfErr result (λ e. e ≡ Error.OutOfMemory) }
+    {
+        Ok(Login {
+            username: Text::from(String::from_str(alloc, u)?),
+            password: Text::from(String::from_str(alloc, p)?),
+        })
+    }
+
+    /// The login at the front of the bytes, under the connect flags: a user name where 0x80 is set, a
+    /// password where 0x40 is; none where both are empty. E14 to E16 of a text that can't be read;
+    /// E21. After a refusal the bytes are unchanged.
+    pub fn read(alloc: Global, flags: u8, bytes: &mut Bytes) -> Result<Option<Login>, Error>
+        ensures read { Gives (λ l. (group_of (login_group l), bytes.new)) result (part_at (login_part 0) (under_flags flags) bytes.old) }
+        ensures kept { OnErr result (bytes.new ≡ bytes.old) }
+    {
+        let mut rest = bytes.clone()?;
+        let username = read_optional(alloc, flags / 128 % 2 > 0, &mut rest)?;
+        let password = read_optional(alloc, flags / 64 % 2 > 0, &mut rest)?;
+        *bytes = rest;
+        if username.as_bytes().is_empty() && password.as_bytes().is_empty() {
+            return Ok(None);
+        }
+        Ok(Some(Login { username, password }))
+    }
+
+    /// Appends the user name and the password, each unless it is empty, and answers the connect
+    /// flags: 0x80 for a user name, 0x40 for a password. E11, E21; then the buffer is unchanged.
+    pub fn write(&self, buffer: &mut BytesMut) -> Result<u8, Error>
+        ensures { WritesPart (part_writing login_steps (login_flags self.now) (login_values self.now)) (login_flags self.now) result buffer.old.items buffer.new.items }
+    {
+        write_part(self, buffer)
+    }
+}
+
+/// The flag of a text, which an empty one doesn't have.
+fn flag_of(text: &Text, worth: u8) -> u8
+    ensures value { result ≡ text_flag worth text.now }
+    ensures small { result ≤ worth }
+{
+    if text.as_bytes().is_empty() { 0 } else { worth }
+}
+
+impl ConnectPart for Login {
+    ghost steps = { login_steps };
+
+    ghost values = { login_values };
+
+    ghost own_flags = { login_flags };
+
+    ghost most = { 192 };
+
+    ghost short = { login_short };
+
+    fn own_flags(&self) -> u8 {
+        flag_of(&self.username, 128) + flag_of(&self.password, 64)
+    }
+
+    fn part_fits(&self) -> bool {
+        self.username.fits() && self.password.fits()
+    }
+
+    fn part_len(&self, flags: u8) -> usize {
+        let username = if flags / 128 % 2 > 0 {
+            self.username.field_len()
+        } else {
+            0
+        };
+        let password = if flags / 64 % 2 > 0 {
+            self.password.field_len()
+        } else {
+            0
+        };
+        username.saturating_add(password)
+    }
+
+    fn put_part(&self, flags: u8, out: &mut BytesMut) {
+        if flags / 128 % 2 > 0 {
+            self.username.put_field(out);
+        }
+        if flags / 64 % 2 > 0 {
+            self.password.put_field(out);
+        }
+    }
+}

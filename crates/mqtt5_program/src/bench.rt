@@ -1,0 +1,227 @@
+//! The vectors: packets with the frames that they are written as and read from, and frames that are refused.
+
+use bytes::{Bytes, BytesMut};
+use mqtt5_base::{Error, QoS, Sequence, Text, same};
+use mqtt5_codec::Packet;
+use mqtt5_flow::{PingReq, PingResp, PubAck, PubComp, PubCompReason, Publish};
+use mqtt5_link::{
+    Auth, AuthReasonCode, ConnAck, ConnAckProperties, Connect, ConnectReturnCode, LastWill, Login,
+};
+use mqtt5_subs::{
+    Filter, SubAck, Subscribe, SubscribeReasonCode, UnsubAck, UnsubAckReason, Unsubscribe,
+};
+use std::alloc::Global;
+use std::io;
+use std::io::Write;
+
+/// The frames of the vectors, in their order: the first 13 are of packets, the others are refused.
+pub const FRAMES: [&[u8]; 24] = [
+    &[
+        0x10, 0x0E, 0x00, 0x04, 0x4D, 0x51, 0x54, 0x54, 0x05, 0x02, 0x00, 0x3C, 0x00, 0x00, 0x01,
+        0x63,
+    ],
+    &[
+        0x10, 0x1B, 0x00, 0x04, 0x4D, 0x51, 0x54, 0x54, 0x05, 0xEE, 0x00, 0x3C, 0x00, 0x00, 0x01,
+        0x63, 0x00, 0x00, 0x01, 0x77, 0x00, 0x01, 0x6D, 0x00, 0x01, 0x75, 0x00, 0x01, 0x70,
+    ],
+    &[0x20, 0x06, 0x00, 0x00, 0x03, 0x21, 0x00, 0x02],
+    &[
+        0x32, 0x0A, 0x00, 0x03, 0x61, 0x2F, 0x62, 0x00, 0x01, 0x00, 0x68, 0x69,
+    ],
+    &[0x40, 0x02, 0x00, 0x01],
+    &[0x70, 0x04, 0x00, 0x07, 0x92, 0x00],
+    &[
+        0x82, 0x09, 0x00, 0x02, 0x00, 0x00, 0x03, 0x61, 0x2F, 0x62, 0x01,
+    ],
+    &[0x90, 0x04, 0x00, 0x02, 0x00, 0x01],
+    &[0xA2, 0x08, 0x00, 0x03, 0x00, 0x00, 0x03, 0x61, 0x2F, 0x62],
+    &[0xB0, 0x04, 0x00, 0x03, 0x00, 0x00],
+    &[0xC0, 0x00],
+    &[0xD0, 0x00],
+    &[0xF0, 0x02, 0x18, 0x00],
+    &[0x00, 0x01, 0x00],
+    &[0x20, 0x03, 0x00, 0x01, 0x00],
+    &[0x36, 0x03, 0x00, 0x01, 0x61],
+    &[0x32, 0x06, 0x00, 0x01, 0x61, 0x00, 0x00, 0x00],
+    &[0x82, 0x03, 0x00, 0x01, 0x00],
+    &[0x82, 0x06, 0x00, 0x01, 0x00, 0x00, 0x00, 0x33],
+    &[0x82, 0x06, 0x00, 0x01, 0x00, 0x00, 0x00, 0x03],
+    &[0x90, 0x03, 0x00, 0x02, 0x00],
+    &[0xF0, 0x01, 0x00],
+    &[0x40, 0x05, 0x00, 0x01, 0x00, 0x01, 0x03],
+    &[0xE0, 0x01, 0x01],
+];
+
+/// Tries each frame as the vector of its place, and prints whether it is what the vector says.
+/// Answers whether all are.
+pub fn try_vectors<W: Write>(alloc: Global, frames: &[&[u8]], output: &mut W) -> io::Result<bool> {
+    let mut all = true;
+    for (place, frame) in frames.iter().enumerate() {
+        let good = is_good(alloc, place, frame);
+        let verdict = if good { "ok" } else { "bad" };
+        writeln!(output, "V{} {verdict}", place.saturating_add(1))?;
+        all = all && good;
+    }
+    Ok(all)
+}
+
+/// Whether a frame is what the vector of this place says: want of memory is no.
+fn is_good(alloc: Global, place: usize, frame: &[u8]) -> bool {
+    match fault(place) {
+        Some(fault) => is_refused(alloc, frame, &fault).unwrap_or(false),
+        None => goes_both_ways(alloc, place, frame).unwrap_or(false),
+    }
+}
+
+/// Why the frame of this place, counted from 0, is refused; none of one that isn't.
+fn fault(place: usize) -> Option<Error> {
+    Some(match place {
+        13 => Error::InvalidPacketType(0),
+        14 => Error::InvalidConnectReturnCode(1),
+        15 => Error::InvalidQoS(3),
+        16 => Error::PacketIdZero,
+        17 => Error::EmptySubscription,
+        18 => Error::InvalidRetainForwardRule(3),
+        19 => Error::InvalidQoS(3),
+        20 | 21 => Error::MalformedPacket,
+        22 => Error::InvalidPropertyType(3),
+        23 => Error::InvalidConnectReturnCode(1),
+        _ => return None,
+    })
+}
+
+/// Whether the frame is refused with this fault and taken out of its stream.
+fn is_refused(alloc: Global, frame: &[u8], fault: &Error) -> Result<bool, Error> {
+    let mut stream = BytesMut::new(alloc);
+    stream.extend_from_slice(frame)?;
+    let refused = match Packet::read(alloc, &mut stream, None) {
+        Ok(_) => false,
+        Err(error) => error == *fault,
+    };
+    Ok(refused && stream.is_empty())
+}
+
+/// Whether the packet of this place is written as the frame, and read back from it.
+fn goes_both_ways(alloc: Global, place: usize, frame: &[u8]) -> Result<bool, Error> {
+    let packet = packet(alloc, place)?;
+    let mut stream = BytesMut::new(alloc);
+    packet.write(&mut stream, None)?;
+    if stream.as_slice() != frame {
+        return Ok(false);
+    }
+    let read = Packet::read(alloc, &mut stream, None)?;
+    Ok(same(&read, &packet) && stream.is_empty())
+}
+
+/// The packet of this place, counted from 0.
+fn packet(alloc: Global, place: usize) -> Result<Packet, Error> {
+    match place {
+        0 => Ok(Packet::Connect(connect(alloc)?, None, None)),
+        1 => connect_with_will(alloc),
+        2 => Ok(Packet::ConnAck(connack(alloc))),
+        3 => publish(alloc),
+        4 => Ok(Packet::PubAck(PubAck::new(1, None))),
+        5 => Ok(Packet::PubComp(pubcomp())),
+        6 => subscribe(alloc),
+        7 => suback(alloc),
+        8 => unsubscribe(alloc),
+        9 => unsuback(alloc),
+        10 => Ok(Packet::PingReq(PingReq)),
+        11 => Ok(Packet::PingResp(PingResp)),
+        _ => Ok(Packet::Auth(Auth::new(AuthReasonCode::Continue, None))),
+    }
+}
+
+fn text(alloc: Global, text: &str) -> Result<Text, Error> {
+    Ok(Text::from(String::from_str(alloc, text)?))
+}
+
+fn connect(alloc: Global) -> Result<Connect, Error> {
+    Ok(Connect {
+        keep_alive: 60,
+        client_id: text(alloc, "c")?,
+        clean_start: true,
+        properties: None,
+    })
+}
+
+fn connect_with_will(alloc: Global) -> Result<Packet, Error> {
+    let message = Bytes::copy_from_slice(alloc, b"m")?;
+    let will = LastWill::new(alloc, "w", message, QoS::AtLeastOnce, true, None)?;
+    let login = Login::new(alloc, "u", "p")?;
+    Ok(Packet::Connect(connect(alloc)?, Some(will), Some(login)))
+}
+
+fn connack(alloc: Global) -> ConnAck {
+    ConnAck {
+        session_present: false,
+        code: ConnectReturnCode::Success,
+        properties: Some(ConnAckProperties {
+            session_expiry_interval: None,
+            receive_max: Some(2),
+            max_qos: None,
+            retain_available: None,
+            max_packet_size: None,
+            assigned_client_identifier: None,
+            topic_alias_max: None,
+            reason_string: None,
+            user_properties: Sequence::new(alloc),
+            wildcard_subscription_available: None,
+            subscription_identifiers_available: None,
+            shared_subscription_available: None,
+            server_keep_alive: None,
+            response_information: None,
+            server_reference: None,
+            authentication_method: None,
+            authentication_data: None,
+        }),
+    }
+}
+
+fn publish(alloc: Global) -> Result<Packet, Error> {
+    let payload = Bytes::copy_from_slice(alloc, b"hi")?;
+    let mut publish = Publish::new(alloc, "a/b", QoS::AtLeastOnce, payload, None)?;
+    publish.pkid = 1;
+    Ok(Packet::Publish(publish))
+}
+
+fn pubcomp() -> PubComp {
+    PubComp {
+        pkid: 7,
+        reason: PubCompReason::PacketIdentifierNotFound,
+        properties: None,
+    }
+}
+
+fn subscribe(alloc: Global) -> Result<Packet, Error> {
+    let filter = Filter::new(alloc, "a/b", QoS::AtLeastOnce)?;
+    let mut subscribe = Subscribe::new(alloc, filter, None)?;
+    subscribe.pkid = 2;
+    Ok(Packet::Subscribe(subscribe))
+}
+
+fn suback(alloc: Global) -> Result<Packet, Error> {
+    let mut return_codes = Sequence::new(alloc);
+    return_codes.push(SubscribeReasonCode::Success(QoS::AtLeastOnce))?;
+    Ok(Packet::SubAck(SubAck {
+        pkid: 2,
+        return_codes,
+        properties: None,
+    }))
+}
+
+fn unsubscribe(alloc: Global) -> Result<Packet, Error> {
+    let mut unsubscribe = Unsubscribe::new(alloc, "a/b", None)?;
+    unsubscribe.pkid = 3;
+    Ok(Packet::Unsubscribe(unsubscribe))
+}
+
+fn unsuback(alloc: Global) -> Result<Packet, Error> {
+    let mut reasons = Sequence::new(alloc);
+    reasons.push(UnsubAckReason::Success)?;
+    Ok(Packet::UnsubAck(UnsubAck {
+        pkid: 3,
+        reasons,
+        properties: None,
+    }))
+}

@@ -1,0 +1,9 @@
+pub mod Rows
+pub mod Lists
+pub mod ListBody
+pub mod Subscribes
+pub mod SubAcks
+pub mod Unsubscribes
+pub mod UnsubAcks
+pub mod Norms
+pub mod Sound

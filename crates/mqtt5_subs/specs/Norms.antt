@@ -1,0 +1,24 @@
+-- What Subscribe, SubAck, Unsubscribe and UnsubAck are read as after they were written.
+use Rattle.std.specs.Prelude.{map}
+use Rattle.mqtt5_base.specs.Tidy.{tidy}
+use Rattle.mqtt5_flow.specs.Acks.{ack_found}
+use Rattle.mqtt5_subs.specs.declared.subscribe.Subscribe.{Subscribe}
+use Rattle.mqtt5_subs.specs.declared.suback.SubAck.{SubAck}
+use Rattle.mqtt5_subs.specs.declared.unsubscribe.Unsubscribe.{Unsubscribe}
+use Rattle.mqtt5_subs.specs.declared.unsuback.UnsubAck.{UnsubAck}
+use Rattle.mqtt5_subs.specs.Subscribes.{subscribe_found}
+use Rattle.mqtt5_subs.specs.SubAcks.{suback_settled}
+use Rattle.mqtt5_subs.specs.Unsubscribes.{unsubscribe_found}
+
+abbrev pub subscribe_norm : Subscribe → Subscribe
+subscribe_norm p = record { pkid = p.pkid; filters = p.filters; properties = tidy subscribe_found p.properties }
+
+-- a failure is read as unspecified
+abbrev pub suback_norm : SubAck → SubAck
+suback_norm p = record { pkid = p.pkid; return_codes = map suback_settled p.return_codes; properties = tidy ack_found p.properties }
+
+abbrev pub unsubscribe_norm : Unsubscribe → Unsubscribe
+unsubscribe_norm p = record { pkid = p.pkid; filters = p.filters; properties = tidy unsubscribe_found p.properties }
+
+abbrev pub unsuback_norm : UnsubAck → UnsubAck
+unsuback_norm p = record { pkid = p.pkid; reasons = p.reasons; properties = tidy ack_found p.properties }

@@ -1,0 +1,77 @@
+-- The rows of Subscribe, SubAck, Unsubscribe and UnsubAck (MQTT 5.0 sections 3.8 to 3.11).
+use Rattle.std.specs.Prelude.{false, List, [], ◌∷◌, Option, Some, None}
+use Rattle.mqtt5_base.specs.Grammar.{u8, u16, text, Entry, single, several_of, Test, any_of, Wrong, bad_rule, bad_qos, bad_subscribe_reason, no_filters, malformed, Field, one, checked, block, read, bits, always, Step, raw, note, judge, more, each, Row, there, bit_of, is_qos}
+use Rattle.mqtt5_flow.specs.Rows.{ack_table}
+
+-- ---- what they share
+
+-- an item at least, where a list without items is wrong
+abbrev pub wanted : Option Wrong → List Step
+wanted None = []
+wanted (Some w) = more w ∷ []
+
+-- the identifier, the properties, and a field and steps again and again to the end
+abbrev pub listed_row : List Entry → Option Wrong → Field → List Step → Row
+listed_row table lack first others = record {
+  steps = there (one u16) ∷ there (block table) ∷ wanted lack;
+  parts = each first others ∷ [];
+  bare = false;
+  brief = false;
+}
+
+-- ---- Subscribe (3.8)
+
+-- the properties of a Subscribe, in the order of writing (3.8.2.1)
+abbrev pub subscribe_table : List Entry
+subscribe_table = single 11 ∷ several_of 38 ∷ []
+
+-- a retain handling option (3.8.3.1)
+abbrev pub is_rule : Test
+is_rule = any_of (0 ∷ 1 ∷ 2 ∷ [])
+
+-- The options behind a filter's path: retain handling and then the QoS are judged; QoS, no local, retain as published and
+-- retain handling are kept. The two reserved bits are ignored (3.8.3.1).
+abbrev pub option_steps : List Step
+option_steps =
+    raw u8
+    ∷ judge always (bits (read 1) 16 4) is_rule bad_rule
+    ∷ judge always (bits (read 1) 1 4) is_qos bad_qos
+    ∷ note (bits (read 1) 1 4)
+    ∷ note (bit_of (read 1) 4)
+    ∷ note (bit_of (read 1) 8)
+    ∷ note (bits (read 1) 16 4)
+    ∷ []
+
+-- one filter at least (3.8.3)
+abbrev pub subscribe_row : Row
+subscribe_row = listed_row subscribe_table (Some no_filters) (one text) option_steps
+
+-- ---- SubAck (3.9) and UnsubAck (3.11)
+
+-- one reason code at least, each of which is judged
+abbrev pub codes_row : Test → Row
+codes_row codes = listed_row ack_table (Some malformed) (checked u8 codes bad_subscribe_reason) []
+
+-- the reason codes of a SubAck (3.9.3)
+abbrev pub suback_codes : Test
+suback_codes = any_of (0 ∷ 1 ∷ 2 ∷ 128 ∷ 131 ∷ 135 ∷ 143 ∷ 145 ∷ 151 ∷ 158 ∷ 161 ∷ 162 ∷ [])
+
+abbrev pub suback_row : Row
+suback_row = codes_row suback_codes
+
+-- those of an UnsubAck (3.11.3)
+abbrev pub unsuback_codes : Test
+unsuback_codes = any_of (0 ∷ 17 ∷ 128 ∷ 131 ∷ 135 ∷ 143 ∷ 145 ∷ [])
+
+abbrev pub unsuback_row : Row
+unsuback_row = codes_row unsuback_codes
+
+-- ---- Unsubscribe (3.10)
+
+-- the properties of an Unsubscribe (3.10.2.1)
+abbrev pub unsubscribe_table : List Entry
+unsubscribe_table = several_of 38 ∷ []
+
+-- filters, also none
+abbrev pub unsubscribe_row : Row
+unsubscribe_row = listed_row unsubscribe_table None (one text) []

@@ -1,0 +1,142 @@
+//! The answer to an Unsubscribe.
+
+ghost use Rattle.std.specs.Prelude.{◌≡◌, ◌+◌, [], drop, length, min};
+ghost use Rattle.mqtt5_base.specs.Grammar.{checked, u8, number, bad_subscribe_reason};
+ghost use Rattle.mqtt5_base.specs.Reading.{Gives, judged, values_in};
+ghost use Rattle.mqtt5_base.specs.Puts.{Writes};
+ghost use Rattle.mqtt5_base.specs.Layout.{layout, writing, content_of_packet};
+ghost use Rattle.mqtt5_subs.specs.Rows.{unsuback_codes, unsuback_row};
+ghost use Rattle.mqtt5_subs.specs.UnsubAcks.{unsuback_code, unsuback_item, unsuback_packet};
+
+use crate::list_body::{body_fits, listed_size, write_listed};
+use crate::listed::{Listed, read_list};
+use bytes::{Bytes, BytesMut};
+use mqtt5_base::{Error, FieldValue, FixedHeader, Sequence, read_block, read_u8, read_u16};
+use mqtt5_flow::AckProperties;
+use std::alloc::Global;
+
+/// What became of one filter of an Unsubscribe (MQTT 5.0 section 3.11.3).
+#[derive(Debug, Clone, Copy, PartialEq, Eq)]
+pub enum UnsubAckReason {
+    Success,
+    NoSubscriptionExisted,
+    UnspecifiedError,
+    ImplementationSpecificError,
+    NotAuthorized,
+    TopicFilterInvalid,
+    PacketIdentifierInUse,
+}
+
+/// The reason of a code, or E8.
+fn reason(num: u8) -> Result<UnsubAckReason, Error>
+    ensures { Gives (λ r. number (unsuback_code r)) result (judged unsuback_codes bad_subscribe_reason (number num)) }
+{
+    Ok(match num {
+        0 => UnsubAckReason::Success,
+        17 => UnsubAckReason::NoSubscriptionExisted,
+        128 => UnsubAckReason::UnspecifiedError,
+        131 => UnsubAckReason::ImplementationSpecificError,
+        135 => UnsubAckReason::NotAuthorized,
+        143 => UnsubAckReason::TopicFilterInvalid,
+        145 => UnsubAckReason::PacketIdentifierInUse,
+        _ => return Err(Error::InvalidSubscribeReasonCode(num)),
+    })
+}
+
+fn code(reason: UnsubAckReason) -> u8
+    ensures { result ≡ unsuback_code reason }
+{
+    match reason {
+        UnsubAckReason::Success => 0,
+        UnsubAckReason::NoSubscriptionExisted => 17,
+        UnsubAckReason::UnspecifiedError => 128,
+        UnsubAckReason::ImplementationSpecificError => 131,
+        UnsubAckReason::NotAuthorized => 135,
+        UnsubAckReason::TopicFilterInvalid => 143,
+        UnsubAckReason::PacketIdentifierInUse => 145,
+    }
+}
+
+impl Listed for UnsubAckReason {
+    ghost first = { checked u8 unsuback_codes bad_subscribe_reason };
+
+    ghost others = { [] };
+
+    ghost written = { unsuback_item };
+
+    ghost settled = { λ r. r };
+
+    fn read_item(_alloc: Global, stream: &mut Bytes) -> Result<UnsubAckReason, Error> {
+        let num = read_u8(stream)?;
+        reason(num)
+    }
+
+    fn item_fits(&self) -> bool {
+        true
+    }
+
+    #[tactic(auto, using(crate::proofs::Codes::unsuback_known))]
+    fn item_len(&self) -> usize {
+        1
+    }
+
+    #[tactic(auto, using(crate::proofs::Codes::unsuback_known))]
+    fn put_item(&self, out: &mut BytesMut) {
+        code(*self).put_field(out);
+    }
+}
+
+/// The properties of an UnsubAck (MQTT 5.0 section 3.11.2.1).
+pub type UnsubAckProperties = AckProperties;
+
+/// An UnsubAck (MQTT 5.0 section 3.11).
+#[derive(Debug, Clone, PartialEq, Eq, Drop)]
+pub struct UnsubAck {
+    pub pkid: u16,
+    pub reasons: Sequence<UnsubAckReason>,
+    pub properties: Option<UnsubAckProperties>,
+}
+
+impl UnsubAck {
+    /// The UnsubAck of a frame's bytes. E16 without reason codes, E8 of a reason code that an UnsubAck
+    /// doesn't have, E14 to E18 of a field that can't be read; E21.
+    pub fn read(alloc: Global, header: FixedHeader, bytes: Bytes) -> Result<UnsubAck, Error>
+        requires { length bytes ≡ header.fixed_header_len + header.remaining_len }
+        ensures { Gives (λ p. content_of_packet (unsuback_packet p)) result (values_in unsuback_row header.byte1 header.remaining_len (drop header.fixed_header_len bytes)) }
+    {
+        let mut stream = bytes;
+        stream.advance(header.fixed_header_len);
+        let pkid = read_u16(&mut stream)?;
+        let properties = read_block(alloc, &mut stream)?;
+        if stream.is_empty() {
+            return Err(Error::MalformedPacket);
+        }
+        let reasons = read_list(alloc, stream)?;
+        Ok(UnsubAck {
+            pkid,
+            reasons,
+            properties,
+        })
+    }
+
+    /// Appends the UnsubAck and answers its length. E11, E16 without reason codes, E21; then the
+    /// buffer is unchanged.
+    pub fn write(&self, buffer: &mut BytesMut) -> Result<usize, Error>
+        ensures { Writes (writing unsuback_row (unsuback_packet self.now)) result buffer.old.items buffer.new.items }
+    {
+        if !body_fits(&self.properties, &self.reasons) {
+            return Err(Error::PayloadTooLong);
+        }
+        if self.reasons.is_empty() {
+            return Err(Error::MalformedPacket);
+        }
+        write_listed(0xB0, self.pkid, &self.properties, &self.reasons, buffer)
+    }
+
+    /// How many bytes it takes, or the greatest `usize` where they are more. Takes no memory.
+    pub fn size(&self) -> usize
+        ensures { result ≡ min (length (layout unsuback_row (unsuback_packet self.now))) usize.MAX }
+    {
+        listed_size(&self.properties, &self.reasons)
+    }
+}
