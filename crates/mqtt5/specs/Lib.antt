@@ -7,3 +7,4 @@ pub mod Session
 pub mod Course
 pub mod Run
 pub mod Sound
+pub mod Release

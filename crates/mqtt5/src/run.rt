@@ -1,6 +1,6 @@
 //! The loop: bytes in pieces and requests go in, frames and events come out.
 
-ghost use Rattle.std.specs.Prelude.{◌≡◌, ℕ, List, [], ◌∷◌, ◌++◌, IfErr, OnOk, IsOk};
+ghost use Rattle.std.specs.Prelude.{◌≡◌, ℕ, Some, List, [], ◌∷◌, ◌++◌, IfErr, OnOk, IsOk};
 ghost use Rattle.mqtt5_base.specs.Front.{front};
 ghost use Rattle.mqtt5_codec.specs.declared.codec.Codec.{Codec};
 ghost use Rattle.mqtt5.specs.Session.{Session, out, inc};
@@ -29,14 +29,20 @@ pub struct Step {
     pub input: Input,
 }
 
-fn answer(codec: &Codec, output: &mut BytesMut, reply: Option<Packet>) -> Result<(), StateError>
-    ensures { Replies result (reply_bytes codec.now reply) output.old.items output.new.items }
+fn encode(codec: &Codec, output: &mut BytesMut, packet: &Packet) -> Result<(), StateError>
+    ensures { Replies result (reply_bytes codec.now (Some packet.now)) output.old.items output.new.items }
+{
+    match codec.encode(packet, output) {
+        Ok(()) => Ok(()),
+        Err(error) => Err(StateError::from(error)),
+    }
+}
+
+fn answer(codec: &Codec, output: &mut BytesMut, reply: &Option<Packet>) -> Result<(), StateError>
+    ensures { Replies result (reply_bytes codec.now reply.now) output.old.items output.new.items }
 {
     match reply {
-        Some(packet) => match codec.encode(&packet, output) {
-            Ok(()) => Ok(()),
-            Err(error) => Err(StateError::from(error)),
-        },
+        Some(packet) => encode(codec, output, packet),
         None => Ok(()),
     }
 }
@@ -51,7 +57,7 @@ fn deliver(
     ensures { Goes result codec.now (inc state.old packet at) state.old output.old.items state.new output.new.items }
 {
     match state.handle_incoming_packet(packet, at) {
-        Ok(reply) => answer(codec, output, reply),
+        Ok(reply) => answer(codec, output, &reply),
         Err(error) => Err(error),
     }
 }
@@ -69,7 +75,7 @@ fn ask(
         return Err(StateError::OutOfMemory);
     };
     match state.handle_outgoing_packet(request, at) {
-        Ok(reply) => answer(codec, output, reply),
+        Ok(reply) => answer(codec, output, &reply),
         Err(error) => Err(error),
     }
 }

@@ -5,8 +5,9 @@ ghost use Rattle.std.specs.FinMap as map;
 ghost use Rattle.std.specs.FinSet as set;
 ghost use Rattle.std.specs.Option.{option_copied};
 ghost use Rattle.mqtt5_base.specs.declared.quality.QoS.TheVariants.{AtMostOnce};
+ghost use Rattle.mqtt5.specs.Release.{sent_for, held_after, waiting_after};
 ghost use Rattle.mqtt5.specs.Held.{IsWithin, publish_of, is_released};
-ghost use Rattle.mqtt5.specs.Session.{Takes, Hears, fresh, id_for, last_after, out, out_once, out_acked, out_publish, stored, inc, hears, heard, freed_for, on_acked};
+ghost use Rattle.mqtt5.specs.Session.{Takes, Hears, fresh, id_for, last_after, out, out_once, out_acked, out_publish, stored, inc, hears, heard, freed_for, on_acked, IsCounted};
 
 use crate::aliases::Aliases;
 use crate::error::StateError;
@@ -370,25 +371,15 @@ impl MqttState {
         ensures { Hears result self.old self.new (freed_for self.old.core.waiting (hears self.old packet) id at) }
     {
         self.events.reserve(2)?;
-        match &self.waiting {
-            Some(publish) if publish.pkid == id => {
-                let sent = copied(publish)?;
-                self.slots.insert(id, Slot::Sent(sent))?;
-                let reply = let_go(&mut self.waiting);
-                self.events.push_back_reserved(Event::Incoming(packet));
-                self.events
-                    .push_back_reserved(Event::Outgoing(Outgoing::Publish(id)));
-                self.collision_pings = 0;
-                self.last_incoming = at;
-                Ok(reply)
-            }
-            _ => {
-                self.slots.remove(id);
-                self.events.push_back_reserved(Event::Incoming(packet));
-                self.last_incoming = at;
-                Ok(None)
-            }
+        let sent = release(&mut self.slots, &mut self.waiting, id)?;
+        self.events.push_back_reserved(Event::Incoming(packet));
+        self.last_incoming = at;
+        if sent.is_some() {
+            self.events
+                .push_back_reserved(Event::Outgoing(Outgoing::Publish(id)));
+            self.collision_pings = 0;
         }
+        Ok(as_reply(sent))
     }
 
     fn hear_publish(&mut self, publish: Publish, at: u64) -> Result<Option<Packet>, StateError>
@@ -431,12 +422,39 @@ impl MqttState {
     }
 }
 
-/// Takes the waiting publish out, as a packet.
-fn let_go(waiting: &mut Option<Publish>) -> Option<Packet>
-    ensures reply { result ≡ option_map Packet.Publish waiting.old }
-    ensures none { waiting.new ≡ None }
+/// Makes an id free, or stores the publish that waits for it and answers that.
+fn release(
+    slots: &mut Slots,
+    waiting: &mut Option<Publish>,
+    id: u16,
+) -> Result<Option<Publish>, AllocError>
+    requires low { 0 < id }
+    requires high { id ≤ slots.old.limit }
+    requires counted { IsCounted waiting.old }
+    ensures sent { IfOk result (λ sent. sent ≡ sent_for waiting.old id) }
+    ensures slots { OnOk result (slots.new ≡ record slots.old { held = held_after waiting.old slots.old.held id }) }
+    ensures waiting { OnOk result (waiting.new ≡ waiting_after waiting.old id) }
+    ensures kept { OnErr result (slots.new ≡ slots.old) }
+    ensures waits { OnErr result (waiting.new ≡ waiting.old) }
 {
-    match waiting.take() {
+    match waiting {
+        Some(publish) if publish.pkid == id => {
+            let sent = copied(publish)?;
+            slots.insert(id, Slot::Sent(sent))?;
+            Ok(waiting.take())
+        }
+        _ => {
+            slots.remove(id);
+            Ok(None)
+        }
+    }
+}
+
+/// A publish to send, as a packet.
+fn as_reply(sent: Option<Publish>) -> Option<Packet>
+    ensures { result ≡ option_map Packet.Publish sent }
+{
+    match sent {
         Some(publish) => Some(as_publish(publish)),
         None => None,
     }

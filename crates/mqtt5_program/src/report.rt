@@ -46,11 +46,7 @@ fn write_event<W: Write>(output: &mut W, event: &Event) -> io::Result<()> {
 }
 
 /// Prints a name, with its id where it has one.
-fn write_named<W: Write>(
-    output: &mut W,
-    verb: &str,
-    named: (&str, Option<u16>),
-) -> io::Result<()> {
+fn write_named<W: Write>(output: &mut W, verb: &str, named: (&str, Option<u16>)) -> io::Result<()> {
     let (name, id) = named;
     match id {
         Some(id) => writeln!(output, "{verb} {name} {id}"),

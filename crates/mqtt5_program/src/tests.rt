@@ -1,5 +1,6 @@
 //! Words and scripts, and what is printed.
 
+use crate::bench::{FRAMES, try_vectors};
 use crate::run::run;
 use std::alloc::{AllocError, Global};
 use std::io;
@@ -8,6 +9,11 @@ use std::test::Fail;
 
 /// The lines of a publish of QoS 1 and its ack.
 const ACKED: &str = "out 320a0003612f620001006869\nsent Publish 1\ngot PubAck 1\ninflight 0\n";
+
+/// The vectors, where each is what it says.
+const VECTORS: &str = "V1 ok\nV2 ok\nV3 ok\nV4 ok\nV5 ok\nV6 ok\nV7 ok\nV8 ok\nV9 ok\nV10 ok\n\
+    V11 ok\nV12 ok\nV13 ok\nV14 ok\nV15 ok\nV16 ok\nV17 ok\nV18 ok\nV19 ok\nV20 ok\n\
+    V21 ok\nV22 ok\nV23 ok\nV24 ok\n";
 
 const USAGE: &str = "usage: mqtt5 drive LIMIT | mqtt5 world LIMIT | mqtt5 bench\n";
 
@@ -74,7 +80,7 @@ const SCRIPTS: [(&str, &str, u8); 34] = [
 ];
 
 /// Words, and what the program prints on them where each read fails.
-const WORDS: [(&str, &str, u8); 13] = [
+const WORDS: [(&str, &str, u8); 14] = [
     ("drive 0", USAGE, 2),
     ("drive 65536", USAGE, 2),
     ("drive +1", USAGE, 2),
@@ -84,7 +90,8 @@ const WORDS: [(&str, &str, u8); 13] = [
     ("drive ", USAGE, 2),
     ("drive 10 10", USAGE, 2),
     ("world 10", USAGE, 2),
-    ("bench", USAGE, 2),
+    ("bench", VECTORS, 0),
+    ("bench 1", USAGE, 2),
     ("drive 1", "fault stdin\n", 1),
     ("drive 00010", "fault stdin\n", 1),
     ("drive 65535", "fault stdin\n", 1),
@@ -192,6 +199,46 @@ fn failing_writes(rt: HostRuntime) -> Result<(), Fail> {
             let want = if room < lines.len() { 1 } else { done };
             assert_eq!(rt; status, want, "with room for {room} bytes");
         }
+    }
+    Ok(())
+}
+
+/// A vector's place, counted from 0, its frame with one byte bent, and the line that is printed then.
+const BENT: [(usize, &[u8], &str); 4] = [
+    (
+        0,
+        &[
+            0x10, 0x0E, 0x00, 0x04, 0x4D, 0x51, 0x54, 0x54, 0x05, 0x02, 0x00, 0x3C, 0x00, 0x00,
+            0x01, 0x64,
+        ],
+        "V1 bad",
+    ),
+    (4, &[0x40, 0x02, 0x00, 0x02], "V5 bad"),
+    (13, &[0xC0, 0x01, 0x00], "V14 bad"),
+    (23, &[0xE0, 0x01, 0x00], "V24 bad"),
+];
+
+/// What is printed of the vectors with this frame in the place of another.
+fn with_frame(alloc: Global, place: usize, frame: &'static [u8]) -> Result<(String, bool), Fail> {
+    let mut frames = FRAMES;
+    if let Some(old) = frames.get_mut(place) {
+        *old = frame;
+    }
+    let mut output = Vec::new(alloc);
+    let all = try_vectors(alloc, &frames, &mut output).map_err(|_| "not written")?;
+    match String::from_utf8(output) {
+        Ok(text) => Ok((text, all)),
+        Err(_) => Err(Fail::from("not UTF-8")),
+    }
+}
+
+#[test]
+fn bent_vectors(rt: HostRuntime) -> Result<(), Fail> {
+    for (place, frame, line) in BENT {
+        let (text, all) = with_frame(rt.alloc(), place, frame)?;
+        assert!(rt; !all, "of {line}");
+        assert_eq!(rt; text.lines().filter(|l| l.ends_with(" bad")).count(), 1, "of {line}");
+        assert!(rt; text.lines().any(|l| l == line), "of {line}");
     }
     Ok(())
 }
