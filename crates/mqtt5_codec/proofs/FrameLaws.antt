@@ -85,22 +85,52 @@ ComesBack kind row = (first len : ℕ) (body : List ℕ) (c : Content) (rest : L
 
 -- the values of each row come back
 rows_again : EachRow ComesBack packet_rows
-rows_again = (λ first len body c rest h. (refl, connect_row_again first len body c rest h, tt),
-  (λ first len body c rest h. (refl, connack_row_again first len body c rest h, tt),
-  (λ first len body c rest h. (refl, publish_row_again first len body c rest h, tt),
-  (λ first len body c rest h. (refl, puback_row_again first len body c rest h, tt),
-  (λ first len body c rest h. (refl, pubrec_row_again first len body c rest h, tt),
-  (λ first len body c rest h. (refl, pubrel_row_again first len body c rest h, tt),
-  (λ first len body c rest h. (refl, pubcomp_row_again first len body c rest h, tt),
-  (λ first len body c rest h. (refl, subscribe_row_again first len body c rest h, tt),
-  (λ first len body c rest h. (refl, suback_row_again first len body c rest h, suback_of_settled c),
-  (λ first len body c rest h. (refl, unsubscribe_row_again first len body c rest h, tt),
-  (λ first len body c rest h. (refl, unsuback_row_again first len body c rest h, tt),
-  (λ first len body c rest h. (refl, ping_row_again first len body c rest h, tt),
-  (λ first len body c rest h. (refl, ping_row_again first len body c rest h, tt),
-  (λ first len body c rest h. (refl, disconnect_row_again first len body c rest h, tt),
-  (λ first len body c rest h. (refl, auth_row_again first len body c rest h, tt),
-  tt)))))))))))))))
+rows_again = (
+  λ first len body c rest h. (refl, connect_row_again first len body c rest h, tt),
+  (
+    λ first len body c rest h. (refl, connack_row_again first len body c rest h, tt),
+    (
+      λ first len body c rest h. (refl, publish_row_again first len body c rest h, tt),
+      (
+        λ first len body c rest h. (refl, puback_row_again first len body c rest h, tt),
+        (
+          λ first len body c rest h. (refl, pubrec_row_again first len body c rest h, tt),
+          (
+            λ first len body c rest h. (refl, pubrel_row_again first len body c rest h, tt),
+            (
+              λ first len body c rest h. (refl, pubcomp_row_again first len body c rest h, tt),
+              (
+                λ first len body c rest h. (refl, subscribe_row_again first len body c rest h, tt),
+                (
+                  λ first len body c rest h. (refl, suback_row_again first len body c rest h, suback_of_settled c),
+                  (
+                    λ first len body c rest h. (refl, unsubscribe_row_again first len body c rest h, tt),
+                    (
+                      λ first len body c rest h. (refl, unsuback_row_again first len body c rest h, tt),
+                      (
+                        λ first len body c rest h. (refl, ping_row_again first len body c rest h, tt),
+                        (
+                          λ first len body c rest h. (refl, ping_row_again first len body c rest h, tt),
+                          (
+                            λ first len body c rest h. (refl, disconnect_row_again first len body c rest h, tt),
+                            (
+                              λ first len body c rest h. (refl, auth_row_again first len body c rest h, tt),
+                              tt,
+                            ),
+                          ),
+                        ),
+                      ),
+                    ),
+                  ),
+                ),
+              ),
+            ),
+          ),
+        ),
+      ),
+    ),
+  ),
+)
 
 -- The values of a frame come back from the packet that is made of them.
 pub content_again : (first : ℕ) (body : List ℕ) (c : Content) → IsFrame packet_rows first body c → (packet_type (packet_of (first / 16) c) ≡ first / 16) × (packet_content (packet_of (first / 16) c) ≡ c) × IsRead (packet_of (first / 16) c)

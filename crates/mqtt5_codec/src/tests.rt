@@ -6,11 +6,36 @@ use crate::packet::Packet;
 use bytes::{Bytes, BytesMut};
 use mqtt5_base::{Error, PropertyBlock, QoS, Sequence, Text, copied, same};
 use mqtt5_flow::{
-    AckProperties, PingReq, PingResp, PubAck, PubAckReason, PubComp, PubCompReason, PubRec,
-    PubRecReason, PubRel, PubRelReason, Publish, PublishProperties,
+    AckProperties, PingReq, PingResp, PubAck, PubComp, PubCompReason, PubRec, PubRecReason, PubRel,
+    PubRelReason, Publish, PublishProperties,
 };
+use mqtt5_link::{Auth, AuthReasonCode, Disconnect, DisconnectReasonCode};
 use std::alloc::Global;
 use std::test::Fail;
+
+/// A frame of each packet type, from Connect on.
+const FRAMES: [&[u8]; 15] = [
+    &[
+        0x10, 0x1B, 0x00, 0x04, 0x4D, 0x51, 0x54, 0x54, 0x05, 0xEE, 0x00, 0x3C, 0x00, 0x00, 0x01,
+        0x63, 0x00, 0x00, 0x01, 0x77, 0x00, 0x01, 0x6D, 0x00, 0x01, 0x75, 0x00, 0x01, 0x70,
+    ],
+    &[0x20, 0x06, 0x00, 0x00, 0x03, 0x21, 0x00, 0x02],
+    PUBLISH,
+    PUBACK,
+    &[0x50, 0x02, 0x00, 0x07],
+    &[0x62, 0x02, 0x00, 0x07],
+    &[0x70, 0x04, 0x00, 0x07, 0x92, 0x00],
+    &[
+        0x82, 0x09, 0x00, 0x02, 0x00, 0x00, 0x03, 0x61, 0x2F, 0x62, 0x01,
+    ],
+    &[0x90, 0x04, 0x00, 0x02, 0x00, 0x01],
+    &[0xA2, 0x08, 0x00, 0x03, 0x00, 0x00, 0x03, 0x61, 0x2F, 0x62],
+    &[0xB0, 0x04, 0x00, 0x03, 0x00, 0x00],
+    &[0xC0, 0x00],
+    &[0xD0, 0x00],
+    &[0xE0, 0x02, 0x82, 0x00],
+    &[0xF0, 0x02, 0x18, 0x00],
+];
 
 /// V4: a publish of "hi" to "a/b", QoS 1, packet identifier 1.
 const PUBLISH: &[u8] = &[
@@ -45,11 +70,8 @@ fn publish_both_ways(alloc: Global) -> Result<bool, Error> {
 fn lost_both_ways(alloc: Global) -> Result<bool, Error> {
     let mut lost = PubComp::new(7, None);
     lost.reason = PubCompReason::PacketIdentifierNotFound;
-    goes_both_ways(
-        alloc,
-        &Packet::PubComp(lost),
-        &[0x70, 0x04, 0x00, 0x07, 0x92, 0x00],
-    )
+    let bytes: &[u8] = &[0x70, 0x04, 0x00, 0x07, 0x92, 0x00];
+    goes_both_ways(alloc, &Packet::PubComp(lost), bytes)
 }
 
 #[test]
@@ -76,13 +98,6 @@ fn acks_written_and_read_back(rt: HostRuntime) -> Result<(), Fail> {
             &[0x62, 2, 0, 7]
         )?
     );
-    assert!(rt;
-        goes_both_ways(
-            alloc,
-            &Packet::PubComp(PubComp::new(7, None)),
-            &[0x70, 2, 0, 7]
-        )?
-    );
     assert!(rt; lost_both_ways(alloc)?);
     Ok(())
 }
@@ -95,11 +110,70 @@ fn pings_written_and_read_back(rt: HostRuntime) -> Result<(), Fail> {
     Ok(())
 }
 
+/// What is written for the packet at the front of a stream, which is then taken out; nothing where
+/// bytes are left.
+fn written_again(alloc: Global, stream: &[u8]) -> Result<BytesMut, Error> {
+    let mut bytes = BytesMut::new(alloc);
+    bytes.extend_from_slice(stream)?;
+    let packet = Packet::read(alloc, &mut bytes, None)?;
+    if bytes.is_empty() {
+        packet.write(&mut bytes, None)?;
+    } else {
+        bytes.clear();
+    }
+    Ok(bytes)
+}
+
+#[test]
+fn frames_written_again(rt: HostRuntime) -> Result<(), Fail> {
+    frame_laws();
+    for frame in FRAMES {
+        assert_eq!(rt; written_again(rt.alloc(), frame)?.as_slice(), frame);
+    }
+    Ok(())
+}
+
+#[test]
+fn lenient_frames(rt: HostRuntime) -> Result<(), Fail> {
+    let table: [(&[u8], &[u8]); 8] = [
+        (&[0xC0, 0x01, 0xFF], &[0xC0, 0x00]),
+        (&[0xD0, 0x01, 0xFF], &[0xD0, 0x00]),
+        (&[0xC1, 0x00], &[0xC0, 0x00]),
+        (&[0xF0, 0x00], &[0xF0, 0x02, 0x00, 0x00]),
+        (&[0xE0, 0x01, 0x82], &[0xE0, 0x02, 0x82, 0x00]),
+        (&[0xE0, 0x81, 0x00, 0x82], &[0xE0, 0x02, 0x82, 0x00]),
+        (&[0xE0, 0x80, 0x00], &[0xE0, 0x00]),
+        (&[0xE0, 0x02, 0x00, 0x00], &[0xE0, 0x00]),
+    ];
+    for (frame, written) in table {
+        assert_eq!(rt;
+            written_again(rt.alloc(), frame)?.as_slice(),
+            written,
+            "of {frame:?}"
+        );
+    }
+    Ok(())
+}
+
+/// Why a frame is refused, where just it was taken out of its stream.
+fn refusal(alloc: Global, frame: &[u8]) -> Result<Option<Error>, Error> {
+    let mut stream = BytesMut::new(alloc);
+    stream.extend_from_slice(frame)?;
+    stream.extend_from_slice(&[0xAA])?;
+    let refused = Packet::read(alloc, &mut stream, None).err();
+    Ok(if stream.as_slice() == [0xAA].as_slice() {
+        refused
+    } else {
+        None
+    })
+}
+
 #[test]
 fn refused_frames(rt: HostRuntime) -> Result<(), Fail> {
-    let table: [(&[u8], Error); 9] = [
+    let table: [(&[u8], Error); 16] = [
         (&[0x00, 0x01, 0x00], Error::InvalidPacketType(0)),
-        (&[0x10, 0x00], Error::InvalidPacketType(1)),
+        (&[0x00, 0x00], Error::InvalidPacketType(0)),
+        (&[0x10, 0x00], Error::PayloadRequired),
         (&[0x30, 0x00], Error::PayloadRequired),
         (&[0x36, 0x03, 0x00, 0x01, 0x61], Error::InvalidQoS(3)),
         (
@@ -122,19 +196,46 @@ fn refused_frames(rt: HostRuntime) -> Result<(), Fail> {
             &[0x30, 0x05, 0x00, 0x01, 0x61, 0x09, 0x78],
             Error::BoundaryCrossed(9),
         ),
+        (&[0x82, 0x03, 0x00, 0x01, 0x00], Error::EmptySubscription),
+        (&[0x90, 0x03, 0x00, 0x02, 0x00], Error::MalformedPacket),
+        (
+            &[0xB0, 0x04, 0x00, 0x03, 0x00, 0x01],
+            Error::InvalidSubscribeReasonCode(1),
+        ),
+        (&[0xE1, 0x00], Error::MalformedPacket),
+        (&[0xE0, 0x01, 0x01], Error::InvalidConnectReturnCode(1)),
+        (&[0xF0, 0x01, 0x00], Error::MalformedPacket),
     ];
     for (frame, why) in table {
-        let mut stream = BytesMut::new(rt.alloc());
-        stream.extend_from_slice(frame)?;
-        stream.extend_from_slice(&[0xAA])?;
-        assert_eq!(rt;
-            Packet::read(rt.alloc(), &mut stream, None),
-            Err(why),
-            "of {frame:?}"
-        );
-        assert_eq!(rt; stream.as_slice(), [0xAA].as_slice(), "of {frame:?}");
+        assert_eq!(rt; refusal(rt.alloc(), frame)?, Some(why), "of {frame:?}");
     }
     Ok(())
+}
+
+/// The subscription identifiers and the payload of a publish of QoS 0 to "a", each as its bytes; none
+/// of another packet.
+fn identifiers_and_payload(alloc: Global, frame: &[u8]) -> Result<(usize, usize, usize), Error> {
+    let mut stream = BytesMut::new(alloc);
+    stream.extend_from_slice(frame)?;
+    let packet = Packet::read(alloc, &mut stream, None)?;
+    Ok(match &packet {
+        Packet::Publish(publish) if publish.topic.as_slice() == b"a".as_slice() => {
+            let (count, last) = identifiers(&publish.properties);
+            (count, last, publish.payload.len())
+        }
+        _other => (0, 0, 0),
+    })
+}
+
+/// How many subscription identifiers there are, and the last one.
+fn identifiers(properties: &Option<PublishProperties>) -> (usize, usize) {
+    match properties {
+        Some(set) => {
+            let all = set.subscription_identifiers.as_slice();
+            (all.len(), all.last().copied().unwrap_or(0))
+        }
+        None => (0, 0),
+    }
 }
 
 #[test]
@@ -142,96 +243,124 @@ fn properties_are_read(rt: HostRuntime) -> Result<(), Fail> {
     let bytes: &[u8] = &[
         0x30, 0x0B, 0x00, 0x01, 0x61, 0x06, 0x0B, 0x01, 0x0B, 0x02, 0x0B, 0x03, 0x78,
     ];
-    let mut stream = BytesMut::new(rt.alloc());
-    stream.extend_from_slice(bytes)?;
-    let Packet::Publish(publish) = Packet::read(rt.alloc(), &mut stream, None)? else {
-        return Err(Fail::from("no publish"));
-    };
-    assert_eq!(rt; publish.qos, QoS::AtMostOnce);
-    assert_eq!(rt; publish.topic.as_slice(), b"a".as_slice());
-    assert_eq!(rt; publish.payload.as_slice(), b"x".as_slice());
-    let properties = publish.properties.ok_or("no properties")?;
-    assert_eq!(rt;
-        properties.subscription_identifiers.as_slice(),
-        [1, 2, 3].as_slice()
-    );
+    assert_eq!(rt; identifiers_and_payload(rt.alloc(), bytes)?, (3, 3, 1));
     Ok(())
+}
+
+/// The length of a publish that is written behind `AA`, or why it isn't; E16 where that left more than
+/// `AA`.
+fn behind_another(alloc: Global, publish: &Publish) -> Result<usize, Error> {
+    let mut buffer = BytesMut::new(alloc);
+    buffer.extend_from_slice(&[0xAA])?;
+    let written = publish.write(&mut buffer);
+    if written.is_err() && buffer.as_slice() != [0xAA].as_slice() {
+        return Err(Error::MalformedPacket);
+    }
+    written
+}
+
+/// A topic of 65,536 bytes.
+fn long_topic(alloc: Global) -> Result<Bytes, Error> {
+    Ok(Bytes::from_vec(vec![in alloc; 0x61; 65_536]?)?)
+}
+
+fn written_with(alloc: Global, qos: QoS, pkid: u16, long: bool) -> Result<usize, Error> {
+    let mut publish = publish_hi(alloc)?;
+    publish.qos = qos;
+    publish.pkid = pkid;
+    if long {
+        publish.topic = long_topic(alloc)?;
+    }
+    behind_another(alloc, &publish)
 }
 
 #[test]
 fn refused_writes(rt: HostRuntime) -> Result<(), Fail> {
-    let long = Bytes::from_vec(vec![in rt.alloc(); 0x61; 65_536]?).map_err(|_| "memory")?;
-    let mut both = publish_hi(rt.alloc())?;
-    both.topic = long.clone()?;
-    both.pkid = 0;
-    let mut topic = copied(&both)?;
-    topic.qos = QoS::AtMostOnce;
-    let mut id = publish_hi(rt.alloc())?;
-    id.pkid = 0;
+    let alloc = rt.alloc();
     let table = [
-        (topic, Error::PayloadTooLong),
-        (id, Error::PacketIdZero),
-        (both, Error::PayloadTooLong),
+        (QoS::AtMostOnce, 0, true, Err(Error::PayloadTooLong)),
+        (QoS::AtLeastOnce, 0, false, Err(Error::PacketIdZero)),
+        (QoS::AtLeastOnce, 0, true, Err(Error::PayloadTooLong)),
+        (QoS::AtLeastOnce, 1, false, Ok(12)),
     ];
-    for (publish, why) in table {
-        let mut buffer = BytesMut::new(rt.alloc());
-        buffer.extend_from_slice(&[0xAA])?;
-        assert_eq!(rt; publish.write(&mut buffer), Err(why));
-        assert_eq!(rt; buffer.as_slice(), [0xAA].as_slice());
+    for (qos, pkid, long, want) in table {
+        assert_eq!(rt; written_with(alloc, qos, pkid, long), want);
     }
-    let ack = Packet::PubAck(PubAck::new(1, None));
-    let mut buffer = BytesMut::new(rt.alloc());
-    let too_large = Error::OutgoingPacketTooLarge {
-        pkt_size: 4,
-        max: 3,
-    };
-    assert_eq!(rt; ack.write(&mut buffer, Some(3)), Err(too_large));
-    assert!(rt; buffer.is_empty());
     Ok(())
 }
 
+/// The length of V4 under a limit on outgoing frames, or why it isn't written.
+fn under(alloc: Global, max: u32) -> Result<usize, Error> {
+    let mut buffer = BytesMut::new(alloc);
+    let packet = Packet::Publish(publish_hi(alloc)?);
+    let written = packet.write(&mut buffer, Some(max));
+    if written.is_err() && !buffer.is_empty() {
+        return Err(Error::MalformedPacket);
+    }
+    written
+}
+
+/// Why a stream isn't read under a limit on remaining lengths.
+fn unread_under(alloc: Global, stream: &[u8], max: u32) -> Result<Option<Error>, Error> {
+    let mut bytes = BytesMut::new(alloc);
+    bytes.extend_from_slice(stream)?;
+    Ok(Packet::read(alloc, &mut bytes, Some(max)).err())
+}
+
 #[test]
-fn codec_in_pieces(rt: HostRuntime) -> Result<(), Fail> {
-    frame_laws();
+fn limits(rt: HostRuntime) -> Result<(), Fail> {
+    let alloc = rt.alloc();
+    let too_large = Error::OutgoingPacketTooLarge {
+        pkt_size: 12,
+        max: 11,
+    };
+    assert_eq!(rt; under(alloc, 11), Err(too_large));
+    assert_eq!(rt; under(alloc, 12), Ok(12));
+    let too_long = Error::PayloadSizeLimitExceeded {
+        pkt_size: 10,
+        max: 9,
+    };
+    assert_eq!(rt; unread_under(alloc, &[0x32, 0x0A], 9)?, Some(too_long));
+    assert_eq!(rt;
+        unread_under(alloc, &[0x32, 0x0A], 10)?,
+        Some(Error::InsufficientBytes(10))
+    );
+    Ok(())
+}
+
+/// How often a codec needs more where it is given a frame byte by byte; 0 where bytes are left.
+fn pieces(alloc: Global, frame: &[u8]) -> Result<usize, Error> {
     let codec = Codec {
         max_incoming_size: None,
         max_outgoing_size: None,
     };
-    let mut stream = BytesMut::new(rt.alloc());
-    for piece in [[0x40], [0x02], [0x00]] {
-        stream.extend_from_slice(&piece)?;
-        assert_eq!(rt; codec.decode(rt.alloc(), &mut stream), Ok(None));
+    let mut stream = BytesMut::new(alloc);
+    let mut waits: usize = 0;
+    for byte in frame {
+        stream.extend_from_slice(&[*byte])?;
+        if codec.decode(alloc, &mut stream)?.is_none() {
+            waits = waits.saturating_add(1);
+        }
     }
-    stream.extend_from_slice(&[0x01])?;
-    let ack = Packet::PubAck(PubAck {
-        pkid: 1,
-        reason: PubAckReason::Success,
-        properties: None,
-    });
-    assert_eq!(rt; codec.decode(rt.alloc(), &mut stream)?.ok_or("none")?, ack);
-    assert!(rt; stream.is_empty());
-    let mut buffer = BytesMut::new(rt.alloc());
-    codec.encode(&ack, &mut buffer)?;
-    assert_eq!(rt; buffer.as_slice(), PUBACK);
-    Ok(())
+    Ok(if stream.is_empty() { waits } else { 0 })
 }
 
-/// The first byte of what is written for the packet of a frame, which is all of the stream.
-fn type_of_frame(alloc: Global, frame: &[u8]) -> Result<u8, Error> {
-    let mut stream = BytesMut::new(alloc);
-    stream.extend_from_slice(frame)?;
-    let packet = Packet::read(alloc, &mut stream, None)?;
-    if !stream.is_empty() {
-        return Ok(0);
-    }
-    packet.write(&mut stream, None)?;
-    Ok(stream.as_slice().first().copied().unwrap_or(0))
+/// What a codec without limits writes for a PubAck of packet identifier 1.
+fn encoded(alloc: Global) -> Result<BytesMut, Error> {
+    let codec = Codec {
+        max_incoming_size: None,
+        max_outgoing_size: None,
+    };
+    let mut buffer = BytesMut::new(alloc);
+    codec.encode(&Packet::PubAck(PubAck::new(1, None)), &mut buffer)?;
+    Ok(buffer)
 }
 
 #[test]
-fn pings_ignore_a_body(rt: HostRuntime) -> Result<(), Fail> {
-    assert_eq!(rt; type_of_frame(rt.alloc(), &[0xC0, 0x01, 0xFF])?, 0xC0);
-    assert_eq!(rt; type_of_frame(rt.alloc(), &[0xD0, 0x01, 0xFF])?, 0xD0);
+fn codec_in_pieces(rt: HostRuntime) -> Result<(), Fail> {
+    assert_eq!(rt; pieces(rt.alloc(), PUBACK)?, 3);
+    assert_eq!(rt; pieces(rt.alloc(), PUBLISH)?, 11);
+    assert_eq!(rt; encoded(rt.alloc())?.as_slice(), PUBACK);
     Ok(())
 }
 
@@ -368,14 +497,28 @@ fn acks_by_their_reason(rt: HostRuntime) -> Result<(), Fail> {
 }
 
 #[test]
-fn sets_as_blocks(rt: HostRuntime) -> Result<(), Fail> {
+fn connections_end(rt: HostRuntime) -> Result<(), Fail> {
+    let normal = Disconnect::new(DisconnectReasonCode::NormalDisconnection);
+    let auth = Auth::new(AuthReasonCode::Continue, None);
     let alloc = rt.alloc();
-    let block: &[u8] = &[0x09, 0x1F, 0x00, 0x01, 0x61, 0x26, 0x00, 0x00, 0x00, 0x00];
+    assert!(rt; goes_both_ways(alloc, &Packet::Disconnect(normal), &[0xE0, 0x00])?);
+    assert!(rt; goes_both_ways(alloc, &Packet::Auth(auth), &[0xF0, 0x02, 0x18, 0x00])?);
+    Ok(())
+}
+
+/// A block that is read as a set and written again.
+fn set_again(alloc: Global, block: &[u8]) -> Result<BytesMut, Error> {
     let mut stream = Bytes::copy_from_slice(alloc, block)?;
-    let set = AckProperties::read(alloc, &mut stream)?.ok_or("no set")?;
-    assert!(rt; stream.is_empty());
     let mut buffer = BytesMut::new(alloc);
-    set.write(&mut buffer)?;
-    assert_eq!(rt; buffer.as_slice(), block);
+    if let Some(set) = AckProperties::read(alloc, &mut stream)? {
+        set.write(&mut buffer)?;
+    }
+    Ok(buffer)
+}
+
+#[test]
+fn sets_as_blocks(rt: HostRuntime) -> Result<(), Fail> {
+    let block: &[u8] = &[0x09, 0x1F, 0x00, 0x01, 0x61, 0x26, 0x00, 0x00, 0x00, 0x00];
+    assert_eq!(rt; set_again(rt.alloc(), block)?.as_slice(), block);
     Ok(())
 }
