@@ -6,6 +6,7 @@ mod error;
 mod event;
 mod exact;
 mod ids;
+pub mod mqttbytes;
 mod run;
 mod slot;
 mod slots;

@@ -14,12 +14,12 @@ use std::io::Write;
 const CHUNK: usize = 256;
 
 /// Prints the bytes written, the events in order, how many ids are in use, and the fault.
-pub fn write_outcome<W: Write>(output: &mut W, outcome: &mut Outcome) -> io::Result<()> {
+pub fn write_outcome<W: Write>(output: &mut W, outcome: &Outcome) -> io::Result<()> {
     output.write_all(b"out ")?;
     write_hex(output, outcome.written.as_slice())?;
     output.write_all(b"\n")?;
-    while let Some(event) = outcome.state.pop_event() {
-        write_event(output, &event)?;
+    for event in outcome.state.events().iter() {
+        write_event(output, event)?;
     }
     writeln!(output, "inflight {}", outcome.state.inflight())?;
     match &outcome.fault {

@@ -84,8 +84,8 @@ fn run_script<R: Read, W: Write>(
         Err(error) => return write_refusal(output, &error),
     };
     match run_steps(alloc, limit, steps.as_slice()) {
-        Ok(mut outcome) => {
-            write_outcome(output, &mut outcome)?;
+        Ok(outcome) => {
+            write_outcome(output, &outcome)?;
             Ok(if outcome.fault.is_none() {
                 Status::Done
             } else {

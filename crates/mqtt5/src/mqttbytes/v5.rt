@@ -1,0 +1,19 @@
+//! Packets, their properties and reason codes, frames and the codec.
+
+pub use mqtt5_base::{FixedHeader, PacketType, Sequence, Text, check};
+pub use mqtt5_codec::{Codec, Packet};
+pub use mqtt5_flow::{
+    PingReq, PingResp, PubAck, PubAckProperties, PubAckReason, PubComp, PubCompProperties,
+    PubCompReason, PubRec, PubRecProperties, PubRecReason, PubRel, PubRelProperties, PubRelReason,
+    Publish, PublishProperties,
+};
+pub use mqtt5_link::{
+    Auth, AuthProperties, AuthReasonCode, ConnAck, ConnAckProperties, Connect, ConnectProperties,
+    ConnectReturnCode, Disconnect, DisconnectProperties, DisconnectReasonCode, LastWill,
+    LastWillProperties, Login,
+};
+pub use mqtt5_subs::{
+    Filter, RetainForwardRule, SubAck, SubAckProperties, Subscribe, SubscribeProperties,
+    SubscribeReasonCode, UnsubAck, UnsubAckProperties, UnsubAckReason, Unsubscribe,
+    UnsubscribeProperties,
+};
