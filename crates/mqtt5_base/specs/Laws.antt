@@ -1,11 +1,17 @@
 -- What the grammar promises, for every row, first byte, length and body.
 use Rattle.std.specs.Prelude.{◌≡◌, ◌↔◌, ℕ, List, length, Result, Ok, Err, ◌⊎◌, ◌≤◌, ◌<◌}
+use Rattle.std.specs.Ordering.{nat_cmp}
 use Rattle.mqtt5_base.specs.declared.error.Error.{Error}
+use Rattle.mqtt5_base.specs.declared.quality.QoS.{QoS}
+use Rattle.mqtt5_base.specs.declared.quality.QoS.TheVariants.{AtMostOnce}
+use Rattle.mqtt5_base.specs.contracts.quality.QoSOrd.TheImpl as order
+use Rattle.mqtt5_base.specs.contracts.quality.QoSDefault.TheImpl as default
 use Rattle.mqtt5_base.specs.VarInt.{VarInt, var_int}
 use Rattle.mqtt5_base.specs.Grammar.{Kind, Entry, Row}
 use Rattle.mqtt5_base.specs.Fields.{Takes, IsKind, IsBlock, IsRow}
 use Rattle.mqtt5_base.specs.Faults.{KindFault, BlockFault, RowFault}
 use Rattle.mqtt5_base.specs.Frames.{Rows, IsFrame, FrameFault}
+use Rattle.mqtt5_base.specs.Views.{qos_number}
 use Rattle.mqtt5_base.specs.Reading.{atom_at, block_at, read_row, frame_values}
 
 -- reading answers a value exactly where it holds of it, and a fault exactly where that is the first
@@ -30,3 +36,8 @@ pub record IsGrammar : Type 0 where
 pub record IsShortest : Type 0 where
   pub stands : (n : ℕ) → n < 268435456 → VarInt (var_int n) n
   pub shortest : (n : ℕ) (bs : List ℕ) → VarInt bs n → length (var_int n) ≤ length bs
+
+-- A QoS is ordered as its number, and where none is said it is 0 (4.3).
+pub record IsQos : Type 0 where
+  pub ordered : (q r : QoS) → order.cmp-value.it q r ≡ nat_cmp (qos_number q) (qos_number r)
+  pub unsaid : (q : QoS) → default.is_default-value.it q → q ≡ AtMostOnce

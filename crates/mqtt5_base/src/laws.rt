@@ -1,6 +1,6 @@
 //! What the definitions promise, as contracts of functions with empty bodies.
 
-ghost use Rattle.mqtt5_base.specs.Laws.{IsGrammar, IsShortest};
+ghost use Rattle.mqtt5_base.specs.Laws.{IsGrammar, IsQos, IsShortest};
 
 /// Reading answers values exactly where the grammar's relation holds of them, and a fault exactly where it is the
 /// first; of every frame exactly one of the two.
@@ -11,4 +11,9 @@ pub fn grammar_laws()
 /// The shortest form of a variable byte integer stands for its number, and no shorter bytes do.
 pub fn shortest_form()
     ensures { IsShortest }
+{}
+
+/// A QoS is ordered as its number, and the default is the least.
+pub fn qos_laws()
+    ensures { IsQos }
 {}

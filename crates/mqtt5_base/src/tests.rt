@@ -5,7 +5,7 @@ use crate::exact::{copied, same};
 use crate::fields::{read_bytes, read_text, read_u8, read_u16, read_u32, read_varint};
 use crate::frame::{frame_size, start_frame};
 use crate::header::{FixedHeader, PacketType};
-use crate::laws::{grammar_laws, shortest_form};
+use crate::laws::{grammar_laws, qos_laws, shortest_form};
 use crate::mqttbytes::{has_wildcards, matches, matching_laws, qos, valid_filter, valid_topic};
 use crate::quality::QoS;
 use crate::sequence::Sequence;
@@ -101,6 +101,7 @@ fn headers(rt: HostRuntime) -> Result<(), Fail> {
         FixedHeader::new(0x0F, 1, 2).packet_type(),
         Err(Error::InvalidPacketType(0))
     );
+    qos_laws();
     assert_eq!(rt; qos(2), Some(QoS::ExactlyOnce));
     assert_eq!(rt; qos(3), None);
     assert_eq!(rt; QoS::default(), QoS::AtMostOnce);

@@ -7,3 +7,4 @@ pub mod Unsubscribes
 pub mod UnsubAcks
 pub mod Norms
 pub mod Sound
+pub mod Laws

@@ -3,6 +3,7 @@
 
 mod exact;
 mod filter;
+mod laws;
 mod list_body;
 mod listed;
 mod suback;
@@ -13,6 +14,7 @@ mod unsuback;
 mod unsubscribe;
 
 pub use filter::{Filter, RetainForwardRule};
+pub use laws::default_rule;
 pub use suback::{SubAck, SubAckProperties, SubscribeReasonCode};
 pub use subscribe::{Subscribe, SubscribeProperties};
 pub use unsuback::{UnsubAck, UnsubAckProperties, UnsubAckReason};

@@ -3,6 +3,7 @@
 ghost use Rattle.std.specs.Prelude.{◌≡◌, ◌+◌, length, IfOk};
 
 use crate::filter::{Filter, RetainForwardRule};
+use crate::laws::default_rule;
 use crate::suback::{SubAck, SubAckProperties, SubscribeReasonCode};
 use crate::subscribe::{Subscribe, SubscribeProperties};
 use crate::unsuback::{UnsubAck, UnsubAckProperties, UnsubAckReason};
@@ -456,5 +457,15 @@ fn filters(rt: HostRuntime) -> Result<(), Fail> {
     assert_eq!(rt; count_many(rt.alloc(), Vec::new(rt.alloc()))?, 0);
     assert_eq!(rt; count_read(rt.alloc(), TWO)?, Some(2));
     assert_eq!(rt; count_read(rt.alloc(), &[])?, Some(0));
+    Ok(())
+}
+
+#[test]
+fn rule_unsaid(rt: HostRuntime) -> Result<(), Fail> {
+    default_rule();
+    assert_eq!(rt;
+        RetainForwardRule::default(),
+        RetainForwardRule::OnEverySubscribe
+    );
     Ok(())
 }
