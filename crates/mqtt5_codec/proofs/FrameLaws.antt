@@ -14,10 +14,10 @@ use Rattle.mqtt5_flow.proofs.PacketsBack.{publish_back, puback_back, pubrec_back
 use Rattle.mqtt5_flow.proofs.RowsBack.{publish_row_again, puback_row_again, pubrec_row_again, pubrel_row_again, pubcomp_row_again, ping_row_again}
 use Rattle.mqtt5_subs.proofs.PacketsBack.{subscribe_back, suback_back, unsubscribe_back, unsuback_back}
 use Rattle.mqtt5_subs.proofs.RowsBack.{subscribe_row_again, suback_row_again, suback_of_settled, unsubscribe_row_again, unsuback_row_again}
-use Rattle.mqtt5_link.proofs.ConnectsBack.{connect_back, will_back, login_back}
-use Rattle.mqtt5_link.proofs.ConnectRowsBack.{connect_row_again}
-use Rattle.mqtt5_link.proofs.AnswersBack.{connack_back, disconnect_back, auth_back}
-use Rattle.mqtt5_link.proofs.AnswerRowsBack.{connack_row_again, disconnect_row_again, auth_row_again}
+use Rattle.mqtt5_connect.proofs.PacketsBack.{connect_back, will_back, login_back}
+use Rattle.mqtt5_connect.proofs.RowsBack.{connect_row_again}
+use Rattle.mqtt5_link.proofs.PacketsBack.{connack_back, disconnect_back, auth_back}
+use Rattle.mqtt5_link.proofs.RowsBack.{connack_row_again, disconnect_row_again, auth_row_again}
 use Rattle.mqtt5_codec.specs.declared.packet.Packet.{Packet}
 use Rattle.mqtt5_codec.specs.declared.packet.Packet.TheVariants as packets
 use Rattle.mqtt5_codec.specs.Packets.{packet_rows, packet_type, packet_content, IsRead, IsFrameOf, IsFaultOf, packet_of, first_of, packet_in}

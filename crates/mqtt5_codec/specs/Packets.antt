@@ -15,9 +15,9 @@ use Rattle.mqtt5_subs.specs.Subscribes.{subscribe_packet, subscribe_of}
 use Rattle.mqtt5_subs.specs.SubAcks.{suback_packet, suback_settled, suback_of}
 use Rattle.mqtt5_subs.specs.Unsubscribes.{unsubscribe_packet, unsubscribe_of}
 use Rattle.mqtt5_subs.specs.UnsubAcks.{unsuback_packet, unsuback_of}
-use Rattle.mqtt5_link.specs.ConnectRows.{connect_row}
-use Rattle.mqtt5_link.specs.AnswerRows.{connack_row, disconnect_row, auth_row}
-use Rattle.mqtt5_link.specs.Connects.{connect_packet, connect_of, connect_will, connect_login}
+use Rattle.mqtt5_connect.specs.Rows.{connect_row}
+use Rattle.mqtt5_link.specs.Rows.{connack_row, disconnect_row, auth_row}
+use Rattle.mqtt5_connect.specs.Connects.{connect_packet, connect_of, connect_will, connect_login}
 use Rattle.mqtt5_link.specs.ConnAcks.{connack_packet, connack_of}
 use Rattle.mqtt5_link.specs.Disconnects.{disconnect_packet, disconnect_of}
 use Rattle.mqtt5_link.specs.Auths.{auth_packet, auth_of}

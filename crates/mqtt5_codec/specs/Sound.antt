@@ -3,8 +3,8 @@ use Rattle.std.proofs.Common.{ap}
 use Rattle.mqtt5_base.specs.Sound.{Sound, both, option_sound}
 use Rattle.mqtt5_flow.specs.Sound.{publish_sound, puback_sound, pubrec_sound, pubrel_sound, pubcomp_sound, pingreq_sound, pingresp_sound}
 use Rattle.mqtt5_subs.specs.Sound.{subscribe_sound, suback_sound, unsubscribe_sound, unsuback_sound}
-use Rattle.mqtt5_link.specs.ConnectSound.{connect_sound, will_sound, login_sound}
-use Rattle.mqtt5_link.specs.AnswerSound.{connack_sound, disconnect_sound, auth_sound}
+use Rattle.mqtt5_connect.specs.Sound.{connect_sound, will_sound, login_sound}
+use Rattle.mqtt5_link.specs.Sound.{connack_sound, disconnect_sound, auth_sound}
 use Rattle.mqtt5_codec.specs.declared.packet.Packet.TheVariants as packets
 use Rattle.mqtt5_codec.specs.contracts.packet.PacketPartialEq.TheImpl as packet
 

@@ -1,14 +1,15 @@
 //! What is written is read again.
 
 ghost use Rattle.mqtt5_base.specs.Sets.{IsBlockOf};
-ghost use Rattle.mqtt5_link.specs.ConnectRows.{will_table};
-ghost use Rattle.mqtt5_link.specs.Connects.{will_block};
+ghost use Rattle.mqtt5_connect.specs.Rows.{will_table};
+ghost use Rattle.mqtt5_connect.specs.Connects.{will_block};
 ghost use Rattle.mqtt5_codec.specs.Norms.{IsReadBack};
 
 use crate::packet::Packet;
 use mqtt5_base::block_known;
 use mqtt5_flow::{PubAck, PubComp, PubRec, PubRel, Publish};
-use mqtt5_link::{Auth, ConnAck, Connect, Disconnect, LastWill, Login};
+use mqtt5_connect::{Connect, LastWill, Login};
+use mqtt5_link::{Auth, ConnAck, Disconnect};
 use mqtt5_subs::{SubAck, Subscribe, UnsubAck, Unsubscribe};
 
 /// Says of a will's properties what the types of their fields do.

@@ -1,10 +1,4 @@
 pub mod ThirdsLemmas
-pub mod AnswersBack
-pub mod AnswerRowsBack
-pub mod AnswersAgain
-pub mod ConnectStarts
-pub mod ConnectFits
-pub mod ConnectsBack
-pub mod ConnectRowsBack
-pub mod ConnectFlags
-pub mod ConnectsAgain
+pub mod PacketsBack
+pub mod RowsBack
+pub mod PacketsAgain

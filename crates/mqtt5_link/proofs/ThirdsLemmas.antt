@@ -4,7 +4,7 @@ use Rattle.std.proofs.Common.{◌≡◌, Bool, true, false, cond, List, [], ◌�
 use Rattle.mqtt5_base.specs.Grammar.{Entry, Found, kinds, kind_among}
 use Rattle.mqtt5_base.specs.Layout.{all_fit_by, items_fit}
 use Rattle.mqtt5_link.specs.declared.connack.ConnAckProperties.{ConnAckProperties}
-use Rattle.mqtt5_link.specs.AnswerRows.{connack_first_table, connack_second_table, connack_third_table, connack_table}
+use Rattle.mqtt5_link.specs.Rows.{connack_first_table, connack_second_table, connack_third_table, connack_table}
 use Rattle.mqtt5_link.specs.ConnAcks.{connack_first, connack_second, connack_third, connack_found}
 
 -- a test within a test

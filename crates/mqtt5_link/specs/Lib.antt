@@ -1,12 +1,6 @@
-pub mod AnswerRows
+pub mod Rows
 pub mod ConnAcks
 pub mod Disconnects
 pub mod Auths
-pub mod AnswerSound
-pub mod AnswerNorms
-pub mod ConnectRows
-pub mod Connects
-pub mod ConnectReading
-pub mod ConnectShort
-pub mod ConnectSound
-pub mod ConnectNorms
+pub mod Sound
+pub mod Norms

@@ -5,7 +5,7 @@ ghost use Rattle.mqtt5_base.specs.Grammar.{u8, number, plain, checked, malformed
 ghost use Rattle.mqtt5_base.specs.Reading.{Gives, judged, optional_at, values_in};
 ghost use Rattle.mqtt5_base.specs.Puts.{Puts, Writes};
 ghost use Rattle.mqtt5_base.specs.Layout.{block_fits, body_bytes, layout, writing, content_of_packet};
-ghost use Rattle.mqtt5_link.specs.AnswerRows.{auth_table, auth_codes, auth_row};
+ghost use Rattle.mqtt5_link.specs.Rows.{auth_table, auth_codes, auth_row};
 ghost use Rattle.mqtt5_link.specs.Auths.{auth_code, auth_found, auth_packet};
 
 use crate::optional::read_block_if;

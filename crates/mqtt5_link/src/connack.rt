@@ -6,7 +6,7 @@ ghost use Rattle.mqtt5_base.specs.Reading.{Gives, judged, values_in};
 ghost use Rattle.mqtt5_base.specs.Sets.{IsSetOf};
 ghost use Rattle.mqtt5_base.specs.Puts.{Puts, Writes};
 ghost use Rattle.mqtt5_base.specs.Layout.{items_fit, items_bytes, block_fits, body_bytes, layout, writing, content_of_packet};
-ghost use Rattle.mqtt5_link.specs.AnswerRows.{Finds, connack_first_table, connack_second_table, connack_third_table, connack_table, connack_codes, connack_row};
+ghost use Rattle.mqtt5_link.specs.Rows.{Finds, connack_first_table, connack_second_table, connack_third_table, connack_table, connack_codes, connack_row};
 ghost use Rattle.mqtt5_link.specs.ConnAcks.{connack_code, connack_first, connack_second, connack_third, connack_found, connack_packet};
 
 use bytes::{Bytes, BytesMut};

@@ -7,7 +7,7 @@ use mqtt5_base::Exact;
 
 impl Exact for DisconnectReasonCode {
     ghost use Rattle.std.proofs.Common.{rules};
-    ghost use Rattle.mqtt5_link.specs.AnswerSound.{disconnect_reason_sound};
+    ghost use Rattle.mqtt5_link.specs.Sound.{disconnect_reason_sound};
 
     ghost same = { Prim.search rules };
 
@@ -16,7 +16,7 @@ impl Exact for DisconnectReasonCode {
 
 impl Exact for DisconnectProperties {
     ghost use Rattle.std.proofs.Common.{rules};
-    ghost use Rattle.mqtt5_link.specs.AnswerSound.{disconnect_properties_sound};
+    ghost use Rattle.mqtt5_link.specs.Sound.{disconnect_properties_sound};
 
     ghost same = { Prim.search rules };
 
@@ -25,7 +25,7 @@ impl Exact for DisconnectProperties {
 
 impl Exact for Disconnect {
     ghost use Rattle.std.proofs.Common.{rules};
-    ghost use Rattle.mqtt5_link.specs.AnswerSound.{disconnect_sound};
+    ghost use Rattle.mqtt5_link.specs.Sound.{disconnect_sound};
 
     ghost same = { Prim.search rules };
 
@@ -34,7 +34,7 @@ impl Exact for Disconnect {
 
 impl Exact for AuthReasonCode {
     ghost use Rattle.std.proofs.Common.{rules};
-    ghost use Rattle.mqtt5_link.specs.AnswerSound.{auth_reason_sound};
+    ghost use Rattle.mqtt5_link.specs.Sound.{auth_reason_sound};
 
     ghost same = { Prim.search rules };
 
@@ -43,7 +43,7 @@ impl Exact for AuthReasonCode {
 
 impl Exact for AuthProperties {
     ghost use Rattle.std.proofs.Common.{rules};
-    ghost use Rattle.mqtt5_link.specs.AnswerSound.{auth_properties_sound};
+    ghost use Rattle.mqtt5_link.specs.Sound.{auth_properties_sound};
 
     ghost same = { Prim.search rules };
 
@@ -52,7 +52,7 @@ impl Exact for AuthProperties {
 
 impl Exact for Auth {
     ghost use Rattle.std.proofs.Common.{rules};
-    ghost use Rattle.mqtt5_link.specs.AnswerSound.{auth_sound};
+    ghost use Rattle.mqtt5_link.specs.Sound.{auth_sound};
 
     ghost same = { Prim.search rules };
 
@@ -61,7 +61,7 @@ impl Exact for Auth {
 
 impl Exact for ConnectReturnCode {
     ghost use Rattle.std.proofs.Common.{rules};
-    ghost use Rattle.mqtt5_link.specs.AnswerSound.{connack_reason_sound};
+    ghost use Rattle.mqtt5_link.specs.Sound.{connack_reason_sound};
 
     ghost same = { Prim.search rules };
 
@@ -70,7 +70,7 @@ impl Exact for ConnectReturnCode {
 
 impl Exact for ConnAckProperties {
     ghost use Rattle.std.proofs.Common.{rules};
-    ghost use Rattle.mqtt5_link.specs.AnswerSound.{connack_properties_sound};
+    ghost use Rattle.mqtt5_link.specs.Sound.{connack_properties_sound};
 
     ghost same = { Prim.search rules };
 
@@ -79,7 +79,7 @@ impl Exact for ConnAckProperties {
 
 impl Exact for ConnAck {
     ghost use Rattle.std.proofs.Common.{rules};
-    ghost use Rattle.mqtt5_link.specs.AnswerSound.{connack_sound};
+    ghost use Rattle.mqtt5_link.specs.Sound.{connack_sound};
 
     ghost same = { Prim.search rules };
 

@@ -7,11 +7,8 @@ pub use mqtt5_flow::{
     PubCompReason, PubRec, PubRecProperties, PubRecReason, PubRel, PubRelProperties, PubRelReason,
     Publish, PublishProperties,
 };
-pub use mqtt5_link::{
-    Auth, AuthProperties, AuthReasonCode, ConnAck, ConnAckProperties, Connect, ConnectProperties,
-    ConnectReturnCode, Disconnect, DisconnectProperties, DisconnectReasonCode, LastWill,
-    LastWillProperties, Login,
-};
+pub use mqtt5_connect::{Connect, ConnectProperties, LastWill, LastWillProperties, Login};
+pub use mqtt5_link::{Auth, AuthProperties, AuthReasonCode, ConnAck, ConnAckProperties, ConnectReturnCode, Disconnect, DisconnectProperties, DisconnectReasonCode};
 pub use mqtt5_subs::{
     Filter, RetainForwardRule, SubAck, SubAckProperties, Subscribe, SubscribeProperties,
     SubscribeReasonCode, UnsubAck, UnsubAckProperties, UnsubAckReason, Unsubscribe,

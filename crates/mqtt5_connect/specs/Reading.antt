@@ -3,7 +3,7 @@ use Rattle.std.specs.Prelude.{ℕ, List, [], ◌∷◌, Result, Ok}
 use Rattle.mqtt5_base.specs.declared.error.Error.{Error}
 use Rattle.mqtt5_base.specs.Grammar.{number, content, plain, Value, Group, Content, Known}
 use Rattle.mqtt5_base.specs.Reading.{◌>>=◌, read_steps, parts_at}
-use Rattle.mqtt5_link.specs.ConnectRows.{protocol, connect_fields, connect_parts}
+use Rattle.mqtt5_connect.specs.Rows.{protocol, connect_fields, connect_parts}
 
 -- what is known once the flags were read; neither the frame's first byte nor its length is used
 abbrev pub known_flags : ℕ → Known

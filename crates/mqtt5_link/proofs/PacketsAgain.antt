@@ -11,7 +11,7 @@ use Rattle.mqtt5_base.proofs.ViewsBack.{bit_small}
 use Rattle.mqtt5_base.proofs.KindsAgain.{both_hold}
 use Rattle.mqtt5_base.proofs.BlocksAgain.{some_block, tidy_found, tidy_values, tidy_twice}
 use Rattle.mqtt5_base.proofs.FramesAgain.{has_body, body_of, IsReadable, content_read, written_again}
-use Rattle.mqtt5_link.specs.AnswerRows.{connack_table, connack_row, disconnect_table, disconnect_codes, disconnect_row, auth_table, auth_codes, auth_row}
+use Rattle.mqtt5_link.specs.Rows.{connack_table, connack_row, disconnect_table, disconnect_codes, disconnect_row, auth_table, auth_codes, auth_row}
 use Rattle.mqtt5_link.specs.declared.connack.ConnAck.{ConnAck}
 use Rattle.mqtt5_link.specs.declared.disconnect.DisconnectReasonCode.{DisconnectReasonCode}
 use Rattle.mqtt5_link.specs.declared.disconnect.Disconnect.{Disconnect}
@@ -20,7 +20,7 @@ use Rattle.mqtt5_link.specs.declared.auth.Auth.{Auth}
 use Rattle.mqtt5_link.specs.ConnAcks.{connack_code, connack_found, connack_written, connack_packet}
 use Rattle.mqtt5_link.specs.Disconnects.{disconnect_code, disconnect_found, disconnect_written, disconnect_packet}
 use Rattle.mqtt5_link.specs.Auths.{auth_code, auth_found, auth_written, auth_packet}
-use Rattle.mqtt5_link.specs.AnswerNorms.{connack_norm, disconnect_norm, auth_norm}
+use Rattle.mqtt5_link.specs.Norms.{connack_norm, disconnect_norm, auth_norm}
 
 -- a code and properties as they are read again
 abbrev reason_content : ℕ → Option Found → Content

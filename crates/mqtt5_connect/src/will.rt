@@ -5,9 +5,9 @@ ghost use Rattle.mqtt5_base.specs.Grammar.{number, is_qos, bad_qos};
 ghost use Rattle.mqtt5_base.specs.Reading.{Gives, judged, kept_at, part_at};
 ghost use Rattle.mqtt5_base.specs.Views.{qos_number};
 ghost use Rattle.mqtt5_base.specs.Layout.{group_of};
-ghost use Rattle.mqtt5_link.specs.ConnectRows.{will_table, will_steps, will_part};
-ghost use Rattle.mqtt5_link.specs.Connects.{will_found, will_values, will_flags, will_group, under_flags, part_writing, WritesPart};
-ghost use Rattle.mqtt5_link.specs.ConnectShort.{will_short};
+ghost use Rattle.mqtt5_connect.specs.Rows.{will_table, will_steps, will_part};
+ghost use Rattle.mqtt5_connect.specs.Connects.{will_found, will_values, will_flags, will_group, under_flags, part_writing, WritesPart};
+ghost use Rattle.mqtt5_connect.specs.Short.{will_short};
 
 use crate::connect_part::{ConnectPart, write_part};
 use bytes::{Bytes, BytesMut};

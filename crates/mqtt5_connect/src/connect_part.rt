@@ -4,7 +4,7 @@ ghost use Rattle.std.specs.Prelude.{◌≡◌, ℕ, ◌≤◌, ◌<◌, List, le
 ghost use Rattle.mqtt5_base.specs.Grammar.{Step, Value};
 ghost use Rattle.mqtt5_base.specs.Layout.{just, written_bytes, written_fits, optional_bytes, optional_fits};
 ghost use Rattle.mqtt5_base.specs.Puts.{Puts};
-ghost use Rattle.mqtt5_link.specs.Connects.{flags_or_none, part_writing, WritesPart};
+ghost use Rattle.mqtt5_connect.specs.Connects.{flags_or_none, part_writing, WritesPart};
 
 use bytes::BytesMut;
 use mqtt5_base::Error;

@@ -2,10 +2,10 @@
 use Rattle.std.specs.Prelude.{Option, Some, None, option_map, if◌then◌else◌}
 use Rattle.mqtt5_base.specs.Grammar.{all_empty}
 use Rattle.mqtt5_base.specs.Tidy.{tidy}
-use Rattle.mqtt5_link.specs.declared.connect.Connect.{Connect}
-use Rattle.mqtt5_link.specs.declared.will.LastWill.{LastWill}
-use Rattle.mqtt5_link.specs.declared.login.Login.{Login}
-use Rattle.mqtt5_link.specs.Connects.{connect_found, will_found, login_values}
+use Rattle.mqtt5_connect.specs.declared.connect.Connect.{Connect}
+use Rattle.mqtt5_connect.specs.declared.will.LastWill.{LastWill}
+use Rattle.mqtt5_connect.specs.declared.login.Login.{Login}
+use Rattle.mqtt5_connect.specs.Connects.{connect_found, will_found, login_values}
 
 abbrev pub connect_norm : Connect → Connect
 connect_norm c = record { keep_alive = c.keep_alive; client_id = c.client_id; clean_start = c.clean_start; properties = tidy connect_found c.properties }

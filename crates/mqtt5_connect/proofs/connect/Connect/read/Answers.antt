@@ -1,9 +1,9 @@
 use Rattle.std.proofs.Common.{rules, ◌≡◌, eqb, true, drop, Ok}
 use Rattle.std.specs.Str.{bytes_eq}
 use Rattle.mqtt5_base.specs.Reading.{text_at}
-use Rattle.mqtt5_link.specs.ConnectRows.{protocol}
-use Rattle.mqtt5_link.proofs.ConnectStarts.{connect_rest}
-use Rattle.mqtt5_link.proofs.connect.Connect.read.Goals as goal
+use Rattle.mqtt5_connect.specs.Rows.{protocol}
+use Rattle.mqtt5_connect.proofs.Starts.{connect_rest}
+use Rattle.mqtt5_connect.proofs.connect.Connect.read.Goals as goal
 
 pub returns : goal.returns
 returns c =

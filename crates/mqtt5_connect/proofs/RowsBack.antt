@@ -7,8 +7,8 @@ use Rattle.mqtt5_base.specs.Fields.{props, Kept, Choice, number_at_place, IsRow}
 use Rattle.mqtt5_base.specs.Layout.{group_of, content_of_packet}
 use Rattle.mqtt5_base.proofs.SetShapes.{kept_by, ComeBack, numbers_again, contents_again, texts_again, pairs_again, set_again}
 use Rattle.mqtt5_base.proofs.FieldShapes.{one_back, properties_back, maybe_one, qos_again}
-use Rattle.mqtt5_link.specs.ConnectRows.{connect_table, will_table, has_will, no_will, will_steps, login_steps, connect_row}
-use Rattle.mqtt5_link.specs.Connects.{connect_found, will_found, will_values, login_values, will_group, login_group, connect_packet, connect_set, will_set, will_from, login_from, connect_of, connect_will, connect_login}
+use Rattle.mqtt5_connect.specs.Rows.{connect_table, will_table, has_will, no_will, will_steps, login_steps, connect_row}
+use Rattle.mqtt5_connect.specs.Connects.{connect_found, will_found, will_values, login_values, will_group, login_group, connect_packet, connect_set, will_set, will_from, login_from, connect_of, connect_will, connect_login}
 use Rattle.mqtt5_base.proofs.Bits.{bit_of_mod}
 
 -- the properties of a Connect

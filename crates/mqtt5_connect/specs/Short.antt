@@ -7,10 +7,10 @@ use Rattle.mqtt5_base.specs.Grammar.{Entry, Found}
 use Rattle.mqtt5_base.specs.Layout.{just, with_length, items_bytes, items_fit, block_bytes, block_fits, fits_two_bytes, written_bytes, written_fits}
 use Rattle.mqtt5_base.proofs.Saturated.{length_small}
 use Rattle.mqtt5_base.proofs.KindsAgain.{both_hold}
-use Rattle.mqtt5_link.specs.ConnectRows.{will_table, will_steps, login_steps}
-use Rattle.mqtt5_link.specs.Connects.{will_found, will_values, login_values}
-use Rattle.mqtt5_link.specs.declared.will.LastWill.{LastWill}
-use Rattle.mqtt5_link.specs.declared.login.Login.{Login}
+use Rattle.mqtt5_connect.specs.Rows.{will_table, will_steps, login_steps}
+use Rattle.mqtt5_connect.specs.Connects.{will_found, will_values, login_values}
+use Rattle.mqtt5_connect.specs.declared.will.LastWill.{LastWill}
+use Rattle.mqtt5_connect.specs.declared.login.Login.{Login}
 
 -- a block that can be written has its length in four bytes at most
 block_short : (table : List Entry) (p : Option Found) → block_fits table p ≡ true → length (block_bytes table p) < 268435460

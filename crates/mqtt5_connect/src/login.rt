@@ -4,9 +4,9 @@ ghost use Rattle.std.specs.Prelude.{◌≡◌, ◌≤◌, [], IfOk, IfErr, OnErr
 ghost use Rattle.mqtt5_base.specs.Grammar.{plain, content, one, text};
 ghost use Rattle.mqtt5_base.specs.Reading.{Gives, optional_at, part_at};
 ghost use Rattle.mqtt5_base.specs.Layout.{group_of};
-ghost use Rattle.mqtt5_link.specs.ConnectRows.{login_steps, login_part};
-ghost use Rattle.mqtt5_link.specs.Connects.{login_values, text_flag, login_flags, login_group, under_flags, part_writing, WritesPart};
-ghost use Rattle.mqtt5_link.specs.ConnectShort.{login_short};
+ghost use Rattle.mqtt5_connect.specs.Rows.{login_steps, login_part};
+ghost use Rattle.mqtt5_connect.specs.Connects.{login_values, text_flag, login_flags, login_group, under_flags, part_writing, WritesPart};
+ghost use Rattle.mqtt5_connect.specs.Short.{login_short};
 
 use crate::connect_part::{ConnectPart, write_part};
 use bytes::{Bytes, BytesMut};

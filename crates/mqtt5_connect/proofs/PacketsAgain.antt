@@ -14,13 +14,13 @@ use Rattle.mqtt5_base.proofs.BlockLaws.{some_bytes}
 use Rattle.mqtt5_base.proofs.BlocksAgain.{tidy_found, tidy_values, tidy_twice}
 use Rattle.mqtt5_base.proofs.PartsAgain.{IsOwn, PartIs}
 use Rattle.mqtt5_base.proofs.FramesAgain.{has_body, body_of, IsReadable, content_read, written_again}
-use Rattle.mqtt5_link.specs.declared.connect.Connect.{Connect}
-use Rattle.mqtt5_link.specs.declared.will.LastWill.{LastWill}
-use Rattle.mqtt5_link.specs.declared.login.Login.{Login}
-use Rattle.mqtt5_link.specs.ConnectRows.{protocol, connect_table, will_table, will_steps, will_part, login_part, connect_row}
-use Rattle.mqtt5_link.specs.Connects.{connect_found, will_found, will_block, connect_values, will_values, login_values, connect_flags, will_group, login_group, connect_packet}
-use Rattle.mqtt5_link.specs.ConnectNorms.{connect_norm, will_norm, login_norm}
-use Rattle.mqtt5_link.proofs.ConnectFlags.{AreFlags, flags_found}
+use Rattle.mqtt5_connect.specs.declared.connect.Connect.{Connect}
+use Rattle.mqtt5_connect.specs.declared.will.LastWill.{LastWill}
+use Rattle.mqtt5_connect.specs.declared.login.Login.{Login}
+use Rattle.mqtt5_connect.specs.Rows.{protocol, connect_table, will_table, will_steps, will_part, login_part, connect_row}
+use Rattle.mqtt5_connect.specs.Connects.{connect_found, will_found, will_block, connect_values, will_values, login_values, connect_flags, will_group, login_group, connect_packet}
+use Rattle.mqtt5_connect.specs.Norms.{connect_norm, will_norm, login_norm}
+use Rattle.mqtt5_connect.proofs.Flags.{AreFlags, flags_found}
 
 -- the values of the row's steps, with these flags
 abbrev with_flags : ℕ → List Value → List Value

@@ -5,8 +5,8 @@ use Rattle.std.specs.Str.{bytes_eq}
 use Rattle.mqtt5_base.specs.declared.error.Error.{Error}
 use Rattle.mqtt5_base.specs.Grammar.{u16, text, number, content, Value, plain, one, block, Step, there, Group, Content, Known, with_value, cut_in, read, bit_of}
 use Rattle.mqtt5_base.specs.Reading.{◌>>=◌, number_at, text_at, field_at, read_steps, parts_at, values_in}
-use Rattle.mqtt5_link.specs.ConnectRows.{protocol, connect_table, connect_fields, connect_parts, connect_row}
-use Rattle.mqtt5_link.specs.ConnectReading.{known_flags, groups_at, after_flags}
+use Rattle.mqtt5_connect.specs.Rows.{protocol, connect_table, connect_fields, connect_parts, connect_row}
+use Rattle.mqtt5_connect.specs.Reading.{known_flags, groups_at, after_flags}
 
 -- what a row keeps and its groups, and the bytes after them
 abbrev with_rest : List Value → List Group → List ℕ → Result (Content × List ℕ) Error

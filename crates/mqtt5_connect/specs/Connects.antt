@@ -6,12 +6,12 @@ use Rattle.mqtt5_base.specs.Texts.{Utf8, text_of}
 use Rattle.mqtt5_base.specs.Grammar.{number, content, Found, Value, plain, properties, Step, Group, optional, several, Content}
 use Rattle.mqtt5_base.specs.Views.{qos_number, qos_of, bit, numbers, contents, texts, pairs, one_number, one_content, one_text, all_pairs, here_in, number_in, content_in, found_in}
 use Rattle.mqtt5_base.specs.Layout.{Written, WrittenGroup, one_or_none, WrittenPacket, just, written_bytes, written_fits}
-use Rattle.mqtt5_link.specs.ConnectRows.{protocol}
-use Rattle.mqtt5_link.specs.declared.connect.ConnectProperties.{ConnectProperties}
-use Rattle.mqtt5_link.specs.declared.connect.Connect.{Connect}
-use Rattle.mqtt5_link.specs.declared.will.LastWillProperties.{LastWillProperties}
-use Rattle.mqtt5_link.specs.declared.will.LastWill.{LastWill}
-use Rattle.mqtt5_link.specs.declared.login.Login.{Login}
+use Rattle.mqtt5_connect.specs.Rows.{protocol}
+use Rattle.mqtt5_connect.specs.declared.connect.ConnectProperties.{ConnectProperties}
+use Rattle.mqtt5_connect.specs.declared.connect.Connect.{Connect}
+use Rattle.mqtt5_connect.specs.declared.will.LastWillProperties.{LastWillProperties}
+use Rattle.mqtt5_connect.specs.declared.will.LastWill.{LastWill}
+use Rattle.mqtt5_connect.specs.declared.login.Login.{Login}
 
 -- the properties of a Connect (3.1.2.11)
 abbrev pub connect_found : ConnectProperties → Found

@@ -7,7 +7,7 @@ use mqtt5_base::Exact;
 
 impl Exact for ConnectProperties {
     ghost use Rattle.std.proofs.Common.{rules};
-    ghost use Rattle.mqtt5_link.specs.ConnectSound.{connect_properties_sound};
+    ghost use Rattle.mqtt5_connect.specs.Sound.{connect_properties_sound};
 
     ghost same = { Prim.search rules };
 
@@ -16,7 +16,7 @@ impl Exact for ConnectProperties {
 
 impl Exact for Connect {
     ghost use Rattle.std.proofs.Common.{rules};
-    ghost use Rattle.mqtt5_link.specs.ConnectSound.{connect_sound};
+    ghost use Rattle.mqtt5_connect.specs.Sound.{connect_sound};
 
     ghost same = { Prim.search rules };
 
@@ -25,7 +25,7 @@ impl Exact for Connect {
 
 impl Exact for LastWillProperties {
     ghost use Rattle.std.proofs.Common.{rules};
-    ghost use Rattle.mqtt5_link.specs.ConnectSound.{will_properties_sound};
+    ghost use Rattle.mqtt5_connect.specs.Sound.{will_properties_sound};
 
     ghost same = { Prim.search rules };
 
@@ -34,7 +34,7 @@ impl Exact for LastWillProperties {
 
 impl Exact for LastWill {
     ghost use Rattle.std.proofs.Common.{rules};
-    ghost use Rattle.mqtt5_link.specs.ConnectSound.{will_sound};
+    ghost use Rattle.mqtt5_connect.specs.Sound.{will_sound};
 
     ghost same = { Prim.search rules };
 
@@ -43,7 +43,7 @@ impl Exact for LastWill {
 
 impl Exact for Login {
     ghost use Rattle.std.proofs.Common.{rules};
-    ghost use Rattle.mqtt5_link.specs.ConnectSound.{login_sound};
+    ghost use Rattle.mqtt5_connect.specs.Sound.{login_sound};
 
     ghost same = { Prim.search rules };
 

@@ -1,10 +1,10 @@
 -- This file serves the logic alone: the derived `==` of each type of a Connect finds equal values alone.
 use Rattle.mqtt5_base.specs.Sound.{Sound, both, bool_sound, number_sound, option_sound, list_sound, bytes_sound, text_sound, pair_sound, qos_sound}
-use Rattle.mqtt5_link.specs.contracts.connect.ConnectPropertiesPartialEq.TheImpl as connect_properties
-use Rattle.mqtt5_link.specs.contracts.connect.ConnectPartialEq.TheImpl as connect
-use Rattle.mqtt5_link.specs.contracts.will.LastWillPropertiesPartialEq.TheImpl as will_properties
-use Rattle.mqtt5_link.specs.contracts.will.LastWillPartialEq.TheImpl as will
-use Rattle.mqtt5_link.specs.contracts.login.LoginPartialEq.TheImpl as login
+use Rattle.mqtt5_connect.specs.contracts.connect.ConnectPropertiesPartialEq.TheImpl as connect_properties
+use Rattle.mqtt5_connect.specs.contracts.connect.ConnectPartialEq.TheImpl as connect
+use Rattle.mqtt5_connect.specs.contracts.will.LastWillPropertiesPartialEq.TheImpl as will_properties
+use Rattle.mqtt5_connect.specs.contracts.will.LastWillPartialEq.TheImpl as will
+use Rattle.mqtt5_connect.specs.contracts.login.LoginPartialEq.TheImpl as login
 
 pub connect_properties_sound : Sound connect_properties.eq-value.it
 connect_properties_sound x y h =

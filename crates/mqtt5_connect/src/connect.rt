@@ -4,9 +4,9 @@ ghost use Rattle.std.specs.Prelude.{◌≡◌, ◌+◌, ◌≤◌, true, [], ◌
 ghost use Rattle.mqtt5_base.specs.Reading.{Gives, values_in};
 ghost use Rattle.mqtt5_base.specs.Layout.{items_bytes, items_fit, written_bytes, written_fits, parts_fit, body_bytes, groups_of, content_of_packet, layout, writing};
 ghost use Rattle.mqtt5_base.specs.Puts.{Puts, Writes};
-ghost use Rattle.mqtt5_link.specs.ConnectRows.{connect_table, connect_parts, connect_row};
-ghost use Rattle.mqtt5_link.specs.ConnectReading.{fields_at, groups_at, after_flags};
-ghost use Rattle.mqtt5_link.specs.Connects.{connect_found, connect_values, connect_flags, connect_head, will_group, login_group, connect_packet};
+ghost use Rattle.mqtt5_connect.specs.Rows.{connect_table, connect_parts, connect_row};
+ghost use Rattle.mqtt5_connect.specs.Reading.{fields_at, groups_at, after_flags};
+ghost use Rattle.mqtt5_connect.specs.Connects.{connect_found, connect_values, connect_flags, connect_head, will_group, login_group, connect_packet};
 
 use crate::connect_part::{fits, flags_of, len_under, put_under};
 use crate::login::Login;

@@ -3,10 +3,10 @@ use Rattle.std.proofs.Common.{◌≡◌, ℕ, ◌+◌, ◌*◌, ◌/◌, ◌%◌
 use Rattle.mqtt5_base.specs.Texts.{Utf8}
 use Rattle.mqtt5_base.specs.Views.{qos_number, bit}
 use Rattle.mqtt5_base.proofs.ViewsBack.{bit_small, qos_small}
-use Rattle.mqtt5_link.specs.declared.connect.Connect.{Connect}
-use Rattle.mqtt5_link.specs.declared.will.LastWill.{LastWill}
-use Rattle.mqtt5_link.specs.declared.login.Login.{Login}
-use Rattle.mqtt5_link.specs.Connects.{text_flag, connect_flags}
+use Rattle.mqtt5_connect.specs.declared.connect.Connect.{Connect}
+use Rattle.mqtt5_connect.specs.declared.will.LastWill.{LastWill}
+use Rattle.mqtt5_connect.specs.declared.login.Login.{Login}
+use Rattle.mqtt5_connect.specs.Connects.{text_flag, connect_flags}
 
 -- a will, its QoS and its retain
 abbrev pub will_bit : Option LastWill → ℕ

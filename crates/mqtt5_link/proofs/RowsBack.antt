@@ -6,7 +6,7 @@ use Rattle.mqtt5_base.specs.Fields.{props, TakesField, IsRow}
 use Rattle.mqtt5_base.specs.Layout.{content_of_packet}
 use Rattle.mqtt5_base.proofs.SetShapes.{kept_by, ComeBack, numbers_again, contents_again, texts_again, pairs_again, set_again}
 use Rattle.mqtt5_base.proofs.FieldShapes.{IsTested, one_back, checked_back, properties_back, maybe_properties, Each, among_each}
-use Rattle.mqtt5_link.specs.AnswerRows.{connack_table, connack_numbers, connack_codes, connack_row, disconnect_table, disconnect_numbers, disconnect_codes, disconnect_row, auth_table, auth_numbers, auth_codes, auth_row}
+use Rattle.mqtt5_link.specs.Rows.{connack_table, connack_numbers, connack_codes, connack_row, disconnect_table, disconnect_numbers, disconnect_codes, disconnect_row, auth_table, auth_numbers, auth_codes, auth_row}
 use Rattle.mqtt5_link.specs.ConnAcks.{connack_code, connack_found, connack_packet, connack_reason, connack_set, connack_of}
 use Rattle.mqtt5_link.specs.Disconnects.{disconnect_code, disconnect_found, disconnect_packet, disconnect_reason, disconnect_set, disconnect_of}
 use Rattle.mqtt5_link.specs.Auths.{auth_code, auth_found, auth_packet, auth_reason, auth_set, auth_of}

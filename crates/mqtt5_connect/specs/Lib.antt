@@ -1,0 +1,6 @@
+pub mod Rows
+pub mod Connects
+pub mod Reading
+pub mod Short
+pub mod Sound
+pub mod Norms
