@@ -7,8 +7,8 @@ ghost use Rattle.mqtt5_codec.specs.Norms.{IsReadBack};
 
 use crate::packet::Packet;
 use mqtt5_base::block_known;
-use mqtt5_flow::{PubAck, PubComp, PubRec, PubRel, Publish};
 use mqtt5_connect::{Connect, LastWill, Login};
+use mqtt5_flow::{PubAck, PubComp, PubRec, PubRel, Publish};
 use mqtt5_link::{Auth, ConnAck, Disconnect};
 use mqtt5_subs::{SubAck, Subscribe, UnsubAck, Unsubscribe};
 

@@ -3,8 +3,8 @@
 use crate::reading::take_frame;
 use bytes::BytesMut;
 use mqtt5_base::{Error, check, frame_size};
-use mqtt5_flow::{PingReq, PingResp, PubAck, PubComp, PubRec, PubRel, Publish};
 use mqtt5_connect::{Connect, LastWill, Login};
+use mqtt5_flow::{PingReq, PingResp, PubAck, PubComp, PubRec, PubRel, Publish};
 use mqtt5_link::{Auth, ConnAck, Disconnect};
 use mqtt5_subs::{SubAck, Subscribe, UnsubAck, Unsubscribe};
 use std::alloc::Global;
