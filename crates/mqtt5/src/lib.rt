@@ -16,5 +16,6 @@ mod tests;
 
 pub use error::StateError;
 pub use event::{Event, Incoming, Outgoing, Request};
+pub use mqtt5_codec::MqttOptions;
 pub use run::{Input, Step, cutting, drive, twice};
 pub use state::MqttState;

@@ -3,3 +3,4 @@ pub mod Codecs
 pub mod Sound
 pub mod Norms
 pub mod Laws
+pub mod Options

@@ -1,10 +1,14 @@
-//! Packets of every type, and the codec of a stream of them.
+//! Packets of every type, the codec of a stream of them, and the settings of a client.
 #![tactic(auto)]
 
 mod codec;
+mod connect_options;
 mod exact;
 mod frames;
 mod laws;
+mod options;
+#[cfg(test)]
+mod options_tests;
 mod packet;
 mod reading;
 #[cfg(test)]
@@ -12,4 +16,5 @@ mod tests;
 
 pub use codec::Codec;
 pub use frames::frame_laws;
+pub use options::MqttOptions;
 pub use packet::Packet;

@@ -3,8 +3,8 @@
 use bytes::{Bytes, BytesMut};
 use mqtt5_base::{Error, QoS, Sequence, Text, same};
 use mqtt5_codec::Packet;
-use mqtt5_flow::{PingReq, PingResp, PubAck, PubComp, PubCompReason, Publish};
 use mqtt5_connect::{Connect, LastWill, Login};
+use mqtt5_flow::{PingReq, PingResp, PubAck, PubComp, PubCompReason, Publish};
 use mqtt5_link::{Auth, AuthReasonCode, ConnAck, ConnAckProperties, ConnectReturnCode};
 use mqtt5_subs::{
     Filter, SubAck, Subscribe, SubscribeReasonCode, UnsubAck, UnsubAckReason, Unsubscribe,

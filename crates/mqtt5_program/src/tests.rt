@@ -237,7 +237,11 @@ fn bent_vectors(rt: HostRuntime) -> Result<(), Fail> {
     for (place, frame, line) in BENT {
         let (text, all) = with_frame(rt.alloc(), place, frame)?;
         assert!(rt; !all, "of {line}");
-        assert_eq!(rt; text.lines().filter(|l| l.ends_with(" bad")).count(), 1, "of {line}");
+        assert_eq!(rt;
+            text.lines().filter(|l| l.ends_with(" bad")).count(),
+            1,
+            "of {line}"
+        );
         assert!(rt; text.lines().any(|l| l == line), "of {line}");
     }
     Ok(())
