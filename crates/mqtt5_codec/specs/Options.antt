@@ -32,7 +32,7 @@ pub record Settings : Type 0 where
   pub connection_timeout : ℕ
   -- whether the user sends the acks
   pub manual_acks : Bool
-  -- how many publishes may be without an ack
+  -- the most outgoing publishes that may be without an ack
   pub outgoing_inflight_upper_limit : Option ℕ
 
 -- a span of whole seconds
