@@ -401,7 +401,7 @@ impl MqttState {
         Ok(None)
     }
 
-    /// A packet that a broker doesn't send.
+    /// A packet of a type that the session doesn't take.
     fn refuse(&mut self, packet: Packet) -> Result<Option<Packet>, StateError>
         ensures { Hears result self.old self.new (Err StateError.WrongPacket, hears self.old packet) }
     {

@@ -26,29 +26,32 @@ match_levels (t ∷ ts) [] = false
 match_levels [] (f ∷ fs) = bytes_eq f hash
 match_levels (t ∷ ts) (f ∷ fs) = bytes_eq f hash || (covers f t && match_levels ts fs)
 
--- whether a text has one
+-- whether a text has one of them
 abbrev pub has_wildcards : List ℕ → Bool
 has_wildcards t = is_among t 43 || is_among t 35
 
+-- the topic of a publish has none (4.7.1)
 abbrev pub is_valid_topic : List ℕ → Bool
 is_valid_topic t = not (has_wildcards t)
 
--- a topic that starts with `$` matches no filter (4.7.2)
+-- a topic that starts with `$` (4.7.2)
 abbrev pub is_reserved : List ℕ → Bool
 is_reserved [] = false
 is_reserved (b ∷ bs) = b == 36
 
+-- a reserved topic matches no filter, another one where its levels do (4.7.1, 4.7.2)
 abbrev pub topic_matches : List ℕ → List ℕ → Bool
 topic_matches topic filter = if is_reserved topic then false else match_levels (levels topic) (levels filter)
 
--- a wildcard stands alone in its level
+-- a wildcard, if there is one, is all of the level (4.7.1.2, 4.7.1.3)
 abbrev pub stands_alone : List ℕ → Bool
 stands_alone l = not (has_wildcards l) || length l == 1
 
--- a level before the last has no `#`
+-- a level before the last has no `#` besides (4.7.1.2)
 abbrev pub is_inner : List ℕ → Bool
 is_inner l = not (is_among l 35) && stands_alone l
 
+-- each level before the last is an inner one, and in the last a wildcard stands alone
 abbrev pub are_valid : List (List ℕ) → Bool
 are_valid [] = true
 are_valid (l ∷ []) = stands_alone l
