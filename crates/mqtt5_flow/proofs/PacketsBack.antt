@@ -24,8 +24,8 @@ puback_reason_back = search rules
 pubrel_reason_back : (r : PubRelReason) → pubrel_reason (pubrel_code r) ≡ r
 pubrel_reason_back = search rules
 
--- the properties are those of their values
-ack_set_back : (s : AckProperties) → ack_set (ack_found s) ≡ s
+-- The properties of an ack are those of their values.
+pub ack_set_back : (s : AckProperties) → ack_set (ack_found s) ≡ s
 ack_set_back s = λ i. record { reason_string = texts_back s.reason_string i; user_properties = pairs_back s.user_properties i }
 
 -- A PubAck is the one of its values.

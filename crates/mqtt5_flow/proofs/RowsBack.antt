@@ -73,8 +73,8 @@ ack_row_again codes table first len body c rest h =
     let kept : h.0.kept ≡ (plain id.0 ∷ plain code.0 ∷ properties p.0 ∷ []) = ap (λ k. k.kept) j.1.0 ∙ (λ i. id.1 i ∷ code.1 i ∷ p.1 i ∷ []) in
     (id.0, code.0, p.0, h.5 ∙ (λ i. (kept i, h.4.0 i)), id.2, code.2, ap (λ v. passes codes (atom_of v)) (sym code.1) ∙ j.0 refl, p.2)
 
--- the properties of an ack
-ack_set_again : (items : List (ℕ × Atom)) → ComeBack items → ack_found (ack_set (props ack_table items)) ≡ props ack_table items
+-- The properties of an ack come back.
+pub ack_set_again : (items : List (ℕ × Atom)) → ComeBack items → ack_found (ack_set (props ack_table items)) ≡ props ack_table items
 ack_set_again items l = λ i. texts_again _ (l 31) i ∷ pairs_again _ (l 38) i ∷ []
 
 -- What the row of an ack gives comes back, where each code does.

@@ -3,9 +3,9 @@ use Rattle.std.proofs.Common.{◌≡◌, List, [], ◌∷◌, map, refl, ◌∙�
 use Rattle.mqtt5_base.specs.Texts.{Utf8, text_back}
 use Rattle.mqtt5_base.specs.Grammar.{Value}
 use Rattle.mqtt5_base.specs.Layout.{Written, content_of_packet, all_kept}
-use Rattle.mqtt5_base.proofs.ViewsBack.{qos_back, bit_back, numbers_back, texts_back, pairs_back, set_back}
+use Rattle.mqtt5_base.proofs.ViewsBack.{qos_back, bit_back, numbers_back, pairs_back, set_back}
 use Rattle.mqtt5_flow.specs.Acks.{ack_found, ack_set}
-use Rattle.mqtt5_flow.specs.declared.properties.AckProperties.{AckProperties}
+use Rattle.mqtt5_flow.proofs.PacketsBack.{ack_set_back}
 use Rattle.mqtt5_subs.specs.declared.filter.RetainForwardRule.{RetainForwardRule}
 use Rattle.mqtt5_subs.specs.declared.filter.Filter.{Filter}
 use Rattle.mqtt5_subs.specs.declared.subscribe.SubscribeProperties.{SubscribeProperties}
@@ -59,10 +59,6 @@ pub subscribe_back : (p : Subscribe) → subscribe_of (content_of_packet (subscr
 subscribe_back p = λ i. record { pkid = p.pkid; filters = items_back filter_written filter_of filter_back p.filters i; properties = set_back subscribe_found subscribe_set subscribe_set_back p.properties i }
 
 -- ---- SubAck
-
--- the properties are those of their values
-ack_set_back : (s : AckProperties) → ack_set (ack_found s) ≡ s
-ack_set_back s = λ i. record { reason_string = texts_back s.reason_string i; user_properties = pairs_back s.user_properties i }
 
 -- a reason is that of its code, but for a failure, which has the code of another
 suback_reason_back : (r : SubscribeReasonCode) → suback_reason (suback_code r) ≡ suback_settled r

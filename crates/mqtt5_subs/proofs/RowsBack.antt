@@ -4,11 +4,12 @@ use Rattle.mqtt5_base.specs.Grammar.{u8, u16, text, Atom, number, number_of, Ent
 use Rattle.mqtt5_base.specs.Fields.{props, Fields, Kept, Repeats, repeated, IsRow}
 use Rattle.mqtt5_base.specs.Views.{number_in, found_in}
 use Rattle.mqtt5_base.specs.Layout.{Written, content_of_packet, all_kept}
-use Rattle.mqtt5_base.proofs.SetShapes.{ComeBack, numbers_again, texts_again, pairs_again, set_again}
+use Rattle.mqtt5_base.proofs.SetShapes.{ComeBack, numbers_again, pairs_again, set_again}
 use Rattle.mqtt5_base.proofs.FieldShapes.{one_back, checked_back, properties_back, among_each, qos_again}
 use Rattle.mqtt5_flow.specs.Rows.{ack_table}
 use Rattle.mqtt5_flow.specs.Acks.{ack_found, ack_set}
 use Rattle.mqtt5_base.proofs.Bits.{bit_of_mod}
+use Rattle.mqtt5_flow.proofs.RowsBack.{ack_set_again}
 use Rattle.mqtt5_subs.specs.declared.suback.SubscribeReasonCode.{SubscribeReasonCode}
 use Rattle.mqtt5_subs.specs.Rows.{wanted, listed_row, option_steps, subscribe_table, subscribe_row, suback_codes, suback_row, unsubscribe_table, unsubscribe_row, unsuback_codes, unsuback_row}
 use Rattle.mqtt5_subs.specs.Lists.{items_in}
@@ -95,10 +96,6 @@ pub subscribe_row_again : (first len : ℕ) (body : List ℕ) (c : Content) (res
 subscribe_row_again first len body c rest h = listed_comes_back subscribe_table (Some no_filters) (one text) option_steps subscribe_found subscribe_set filter_written filter_of subscribe_set_again filter_again first len body c rest h
 
 -- ---- SubAck and UnsubAck
-
--- the properties of an ack
-ack_set_again : (items : List (ℕ × Atom)) → ComeBack items → ack_found (ack_set (props ack_table items)) ≡ props ack_table items
-ack_set_again items l = λ i. texts_again _ (l 31) i ∷ pairs_again _ (l 38) i ∷ []
 
 -- a reason code comes back, where each does
 code_again : (codes : Test) (back : ℕ → ℕ) → ((n : ℕ) → passes codes (number n) ≡ true → back n ≡ n)
