@@ -237,6 +237,10 @@ steps_fit steps raws kept = true
 abbrev pub written_fits : List Step → Written → Bool
 written_fits steps w = steps_fit steps w.raws w.kept
 
+-- the bytes of steps by themselves, or why they aren't writable
+abbrev pub steps_writing : List Step → ℕ → Written → Result (List ℕ) Error
+steps_writing steps n w = if written_fits steps w then Ok (written_bytes steps n w) else Err PayloadTooLong
+
 abbrev pub optional_fits : List Step → Option Written → Bool
 optional_fits steps None = true
 optional_fits steps (Some w) = written_fits steps w

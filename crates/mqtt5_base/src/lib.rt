@@ -25,7 +25,9 @@ pub use fields::{read_bytes, read_text, read_u8, read_u16, read_u32, read_varint
 pub use frame::{frame_size, start_frame};
 pub use header::{FixedHeader, PacketType};
 pub use laws::{grammar_laws, qos_laws, shortest_form};
-pub use mqttbytes::{has_wildcards, matches, matching_laws, qos, valid_filter, valid_topic};
+pub use mqttbytes::{
+    has_wildcards, matches, matching_laws, qos, read_qos, valid_filter, valid_topic,
+};
 pub use property::{
     Property, PropertyBlock, PropertySet, block_fits, block_known, block_len, put_block, read_block,
 };

@@ -1,10 +1,12 @@
 //! Rules that all packets share: the QoS of a number, topic names and topic filters.
 
 ghost use Rattle.std.specs.Prelude.{◌≡◌, ◌<◌, IsSome, IfSome, ◌↔◌};
-ghost use Rattle.mqtt5_base.specs.Grammar.{is_among};
+ghost use Rattle.mqtt5_base.specs.Grammar.{bad_qos, is_among, is_qos, number};
+ghost use Rattle.mqtt5_base.specs.Reading.{Gives, judged};
 ghost use Rattle.mqtt5_base.specs.Topics.{IsMatching, covers, has_wildcards, is_inner, is_reserved, is_valid_filter, is_valid_topic, levels, match_levels, stands_alone, topic_matches};
 ghost use Rattle.mqtt5_base.specs.Views.{qos_number};
 
+use crate::error::Error;
 use crate::quality::QoS;
 
 /// The QoS of a number, which is 0, 1 or 2.
@@ -18,6 +20,13 @@ pub fn qos(num: u8) -> Option<QoS>
         2 => Some(QoS::ExactlyOnce),
         _ => None,
     }
+}
+
+/// The QoS of a number that was read; E7 where it isn't 0, 1 or 2.
+pub fn read_qos(num: u8) -> Result<QoS, Error>
+    ensures { Gives (λ q. number (qos_number q)) result (judged is_qos bad_qos (number num)) }
+{
+    qos(num).ok_or(Error::InvalidQoS(num))
 }
 
 /// Whether a topic or a filter has a wildcard: a `+` or a `#` (MQTT 5.0 section 4.7.1). Takes no memory.

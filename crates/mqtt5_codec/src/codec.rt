@@ -1,5 +1,6 @@
 //! The codec of a stream of packets.
 
+ghost use Rattle.std.specs.Prelude.{◌<◌, length, IfOk, IfSome};
 ghost use Rattle.mqtt5_base.specs.Puts.{Appends};
 ghost use Rattle.mqtt5_codec.specs.Packets.{writing_under};
 ghost use Rattle.mqtt5_codec.specs.Codecs.{Decodes, Reserves};
@@ -25,6 +26,7 @@ impl Codec {
     pub fn decode(&self, alloc: Global, stream: &mut BytesMut) -> Result<Option<Packet>, Error>
         ensures decodes { Decodes result self.now.max_incoming_size stream.old.items stream.new.items }
         ensures reserves { Reserves result stream.old stream.new }
+        ensures shorter { IfOk result (λ m. IfSome m (λ _. length stream.new.items < length stream.old.items)) }
     {
         match check(stream.as_slice(), self.max_incoming_size) {
             Ok(header) => Ok(Some(take_frame(alloc, header, stream)?)),

@@ -30,7 +30,7 @@ pub enum Packet {
 }
 
 impl Packet {
-    ghost use Rattle.std.specs.Prelude.{◌≡◌, length, min};
+    ghost use Rattle.std.specs.Prelude.{◌≡◌, ◌<◌, length, min, IfOk};
     ghost use Rattle.mqtt5_base.specs.Puts.{Writes};
     ghost use Rattle.mqtt5_codec.specs.Packets.{packet_len, packet_writing, writing_under};
     ghost use Rattle.mqtt5_codec.specs.Codecs.{ReadsPacket};
@@ -44,7 +44,8 @@ impl Packet {
         stream: &mut BytesMut,
         max_size: Option<u32>,
     ) -> Result<Packet, Error>
-        ensures { ReadsPacket result max_size stream.old.items stream.new.items }
+        ensures reads { ReadsPacket result max_size stream.old.items stream.new.items }
+        ensures shorter { IfOk result (λ _. length stream.new.items < length stream.old.items) }
     {
         let header = check(stream.as_slice(), max_size)?;
         take_frame(alloc, header, stream)

@@ -1,11 +1,11 @@
 -- A Connect, its will and its login as the values of its row (MQTT 5.0 section 3.1).
 use Rattle.std.specs.Prelude.{◌≡◌, ℕ, zero, suc, ◌==◌, ◌+◌, ◌*◌, List, [], ◌∷◌, ◌++◌, length, Option, Some, None, option_map, Result, Ok, Err, MatchResult, if◌then◌else◌}
 use Rattle.mqtt5_base.specs.declared.error.Error.{Error}
-use Rattle.mqtt5_base.specs.declared.error.Error.TheVariants.{PayloadTooLong, OutOfMemory}
+use Rattle.mqtt5_base.specs.declared.error.Error.TheVariants.{OutOfMemory}
 use Rattle.mqtt5_base.specs.Texts.{Utf8, text_of}
-use Rattle.mqtt5_base.specs.Grammar.{number, content, Found, Value, plain, properties, Step, Group, optional, several, Content}
+use Rattle.mqtt5_base.specs.Grammar.{number, content, Found, Value, plain, properties, Group, optional, several, Content}
 use Rattle.mqtt5_base.specs.Views.{qos_number, qos_of, bit, numbers, contents, texts, pairs, one_number, one_content, one_text, all_pairs, here_in, number_in, content_in, found_in}
-use Rattle.mqtt5_base.specs.Layout.{Written, WrittenGroup, one_or_none, WrittenPacket, just, written_bytes, written_fits}
+use Rattle.mqtt5_base.specs.Layout.{Written, WrittenGroup, one_or_none, WrittenPacket, just}
 use Rattle.mqtt5_connect.specs.Rows.{protocol}
 use Rattle.mqtt5_connect.specs.declared.connect.ConnectProperties.{ConnectProperties}
 use Rattle.mqtt5_connect.specs.declared.connect.Connect.{Connect}
@@ -102,10 +102,6 @@ connect_packet c will login = record { first = 16; head = connect_head (connect_
 -- the flags that a part stands under
 abbrev pub under_flags : ℕ → List Value
 under_flags flags = plain (number flags) ∷ []
-
--- the bytes of a part's steps under these flags, or why it isn't writable
-abbrev pub part_writing : List Step → ℕ → List Value → Result (List ℕ) Error
-part_writing steps flags kept = if written_fits steps (just kept) then Ok (written_bytes steps flags (just kept)) else Err PayloadTooLong
 
 -- These bytes were appended and the flags answered, unless memory ran out, or else this is why not; a refusal left the
 -- buffer unchanged.

@@ -2,9 +2,9 @@
 
 ghost use Rattle.std.specs.Prelude.{◌≡◌, ℕ, ◌≤◌, ◌<◌, List, length, true, min, option_map};
 ghost use Rattle.mqtt5_base.specs.Grammar.{Step, Value};
-ghost use Rattle.mqtt5_base.specs.Layout.{just, written_bytes, written_fits, optional_bytes, optional_fits};
+ghost use Rattle.mqtt5_base.specs.Layout.{just, written_bytes, written_fits, optional_bytes, optional_fits, steps_writing};
 ghost use Rattle.mqtt5_base.specs.Puts.{Puts};
-ghost use Rattle.mqtt5_connect.specs.Connects.{flags_or_none, part_writing, WritesPart};
+ghost use Rattle.mqtt5_connect.specs.Connects.{flags_or_none, WritesPart};
 
 use bytes::BytesMut;
 use mqtt5_base::Error;
@@ -47,7 +47,7 @@ pub(crate) trait ConnectPart {
 
 /// Appends a part and answers its flags. E11, E21; then the buffer is unchanged.
 pub(crate) fn write_part<P: ConnectPart>(part: &P, buffer: &mut BytesMut) -> Result<u8, Error>
-    ensures { WritesPart (part_writing P.steps (P.own_flags part.now) (P.values part.now)) (P.own_flags part.now) result buffer.old.items buffer.new.items }
+    ensures { WritesPart (steps_writing P.steps (P.own_flags part.now) (just (P.values part.now))) (P.own_flags part.now) result buffer.old.items buffer.new.items }
 {
     if !part.part_fits() {
         return Err(Error::PayloadTooLong);

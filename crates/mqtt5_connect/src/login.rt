@@ -3,9 +3,9 @@
 ghost use Rattle.std.specs.Prelude.{◌≡◌, ◌≤◌, [], IfOk, IfErr, OnErr};
 ghost use Rattle.mqtt5_base.specs.Grammar.{plain, content, one, text};
 ghost use Rattle.mqtt5_base.specs.Reading.{Gives, optional_at, part_at};
-ghost use Rattle.mqtt5_base.specs.Layout.{group_of};
+ghost use Rattle.mqtt5_base.specs.Layout.{group_of, just, steps_writing};
 ghost use Rattle.mqtt5_connect.specs.Rows.{login_steps, login_part};
-ghost use Rattle.mqtt5_connect.specs.Connects.{login_values, text_flag, login_flags, login_group, under_flags, part_writing, WritesPart};
+ghost use Rattle.mqtt5_connect.specs.Connects.{login_values, text_flag, login_flags, login_group, under_flags, WritesPart};
 ghost use Rattle.mqtt5_connect.specs.Short.{login_short};
 
 use crate::connect_part::{ConnectPart, write_part};
@@ -63,7 +63,7 @@ impl Login {
     /// Appends the user name and the password, each unless it is empty, and answers the connect
     /// flags: 0x80 for a user name, 0x40 for a password. E11, E21; then the buffer is unchanged.
     pub fn write(&self, buffer: &mut BytesMut) -> Result<u8, Error>
-        ensures { WritesPart (part_writing login_steps (login_flags self.now) (login_values self.now)) (login_flags self.now) result buffer.old.items buffer.new.items }
+        ensures { WritesPart (steps_writing login_steps (login_flags self.now) (just (login_values self.now))) (login_flags self.now) result buffer.old.items buffer.new.items }
     {
         write_part(self, buffer)
     }

@@ -1,19 +1,17 @@
 //! What the server publishes for a client that is lost.
 
 ghost use Rattle.std.specs.Prelude.{◌≡◌, ◌/◌, ◌%◌, Some, IfOk, IfErr, OnErr};
-ghost use Rattle.mqtt5_base.specs.Grammar.{number, is_qos, bad_qos};
-ghost use Rattle.mqtt5_base.specs.Reading.{Gives, judged, kept_at, part_at};
-ghost use Rattle.mqtt5_base.specs.Views.{qos_number};
-ghost use Rattle.mqtt5_base.specs.Layout.{group_of};
+ghost use Rattle.mqtt5_base.specs.Reading.{Gives, kept_at, part_at};
+ghost use Rattle.mqtt5_base.specs.Layout.{group_of, just, steps_writing};
 ghost use Rattle.mqtt5_connect.specs.Rows.{will_table, will_steps, will_part};
-ghost use Rattle.mqtt5_connect.specs.Connects.{will_found, will_values, will_flags, will_group, under_flags, part_writing, WritesPart};
+ghost use Rattle.mqtt5_connect.specs.Connects.{will_found, will_values, will_flags, will_group, under_flags, WritesPart};
 ghost use Rattle.mqtt5_connect.specs.Short.{will_short};
 
 use crate::connect_part::{ConnectPart, write_part};
 use bytes::{Bytes, BytesMut};
 use mqtt5_base::{
     Error, FieldValue, Property, PropertySet, QoS, Sequence, Tagged, Text, block_fits, block_len,
-    put_block, qos, read_block, read_bytes,
+    put_block, read_block, read_bytes, read_qos,
 };
 use std::alloc::{AllocError, Global};
 
@@ -133,14 +131,6 @@ pub struct LastWill {
     pub properties: Option<LastWillProperties>,
 }
 
-/// The QoS of the connect flags.
-fn read_qos(flags: u8) -> Result<QoS, Error>
-    ensures { Gives (λ q. number (qos_number q)) result (judged is_qos bad_qos (number (flags / 8 % 4))) }
-{
-    let num = flags / 8 % 4;
-    qos(num).ok_or(Error::InvalidQoS(num))
-}
-
 /// The fields of a will, whose QoS and retain are of the connect flags.
 #[tactic(auto, using(mqtt5_base::proofs::Bits::bit_of_mod))]
 fn read_fields(alloc: Global, flags: u8, bytes: &mut Bytes) -> Result<LastWill, Error>
@@ -149,7 +139,7 @@ fn read_fields(alloc: Global, flags: u8, bytes: &mut Bytes) -> Result<LastWill, 
     let properties = read_block(alloc, bytes)?;
     let topic = read_bytes(bytes)?;
     let message = read_bytes(bytes)?;
-    let qos = read_qos(flags)?;
+    let qos = read_qos(flags / 8 % 4)?;
     Ok(LastWill {
         topic,
         message,
@@ -203,7 +193,7 @@ impl LastWill {
     /// Appends the properties, the topic and the message, and answers the connect flags: 0x04, the
     /// QoS in bits 3 and 4, and 0x20 for retain. E11, E21; then the buffer is unchanged.
     pub fn write(&self, buffer: &mut BytesMut) -> Result<u8, Error>
-        ensures { WritesPart (part_writing will_steps (will_flags self.now) (will_values self.now)) (will_flags self.now) result buffer.old.items buffer.new.items }
+        ensures { WritesPart (steps_writing will_steps (will_flags self.now) (just (will_values self.now))) (will_flags self.now) result buffer.old.items buffer.new.items }
     {
         write_part(self, buffer)
     }

@@ -1,8 +1,8 @@
 //! A message.
 
 ghost use Rattle.std.specs.Prelude.{◌≡◌, ◌+◌, ◌≤◌, ◌/◌, ◌%◌, ◌<◌, nat_lt, true, false, IfOk, IfErr, drop, length, min, option_map};
-ghost use Rattle.mqtt5_base.specs.Grammar.{plain, number, content, bytes, bad_qos, is_qos};
-ghost use Rattle.mqtt5_base.specs.Reading.{Gives, optional_at, judged, values_in};
+ghost use Rattle.mqtt5_base.specs.Grammar.{plain, number, content, bytes};
+ghost use Rattle.mqtt5_base.specs.Reading.{Gives, optional_at, values_in};
 ghost use Rattle.mqtt5_base.specs.Views.{bit, qos_number};
 ghost use Rattle.mqtt5_base.specs.Puts.{Puts, Writes};
 ghost use Rattle.mqtt5_base.specs.Layout.{atom_fits, block_fits, body_bytes, layout, writing, content_of_packet};
@@ -12,7 +12,7 @@ ghost use Rattle.mqtt5_flow.specs.Publishes.{publish_found, publish_first, publi
 use bytes::{Bytes, BytesMut};
 use mqtt5_base::{
     Error, FieldValue, FixedHeader, Property, PropertySet, QoS, Sequence, Tagged, Text, block_fits,
-    block_len, frame_size, put_block, qos, read_block, read_bytes, read_u16, start_frame,
+    block_len, frame_size, put_block, read_block, read_bytes, read_qos, read_u16, start_frame,
 };
 use std::alloc::{AllocError, Global};
 
@@ -155,14 +155,6 @@ fn read_pkid(qos: QoS, stream: &mut Bytes) -> Result<u16, Error>
     Ok(pkid)
 }
 
-/// The QoS of the first byte.
-fn read_qos(byte1: u8) -> Result<QoS, Error>
-    ensures { Gives (λ q. number (qos_number q)) result (judged is_qos bad_qos (number (byte1 / 2 % 4))) }
-{
-    let num = byte1 / 2 % 4;
-    qos(num).ok_or(Error::InvalidQoS(num))
-}
-
 impl Publish {
     /// A Publish of this topic, QoS, payload and properties, without dup and retain and with packet
     /// identifier 0. E21.
@@ -196,7 +188,7 @@ impl Publish {
     {
         let mut stream = bytes;
         stream.advance(header.fixed_header_len);
-        let qos = read_qos(header.byte1)?;
+        let qos = read_qos(header.byte1 / 2 % 4)?;
         let topic = read_bytes(&mut stream)?;
         let pkid = read_pkid(qos, &mut stream)?;
         let properties = read_block(alloc, &mut stream)?;

@@ -5,14 +5,14 @@ use Rattle.mqtt5_base.specs.Texts.{text_of}
 use Rattle.mqtt5_base.specs.Grammar.{text, number, Found, Value, plain, one, Group, several, Part, each, Content}
 use Rattle.mqtt5_base.specs.Fields.{repeated}
 use Rattle.mqtt5_base.specs.Views.{qos_number, qos_of, bit, numbers, pairs, text_atom, one_number, all_pairs, here_in, number_in, content_in, found_in}
-use Rattle.mqtt5_base.specs.Layout.{Written, WrittenPacket, all_kept}
+use Rattle.mqtt5_base.specs.Layout.{Written, WrittenPacket, all_kept, steps_writing}
 use Rattle.mqtt5_subs.specs.declared.filter.RetainForwardRule.{RetainForwardRule}
 use Rattle.mqtt5_subs.specs.declared.filter.RetainForwardRule.TheVariants.{OnEverySubscribe, OnNewSubscribe, Never}
 use Rattle.mqtt5_subs.specs.declared.filter.Filter.{Filter}
 use Rattle.mqtt5_subs.specs.declared.subscribe.SubscribeProperties.{SubscribeProperties}
 use Rattle.mqtt5_subs.specs.declared.subscribe.Subscribe.{Subscribe}
 use Rattle.mqtt5_subs.specs.Rows.{option_steps}
-use Rattle.mqtt5_subs.specs.Lists.{listed_packet, items_in, item_writing}
+use Rattle.mqtt5_subs.specs.Lists.{listed_packet, items_in}
 
 -- ---- a filter (3.8.3)
 
@@ -51,7 +51,7 @@ filters_group fs = several (all_kept (map filter_written fs))
 
 -- a filter's bytes, or why it isn't writable
 abbrev pub filter_writing : Filter → Result (List ℕ) Error
-filter_writing f = item_writing (repeated (one text) option_steps) (filter_written f)
+filter_writing f = steps_writing (repeated (one text) option_steps) 0 (filter_written f)
 
 -- ---- the packet
 

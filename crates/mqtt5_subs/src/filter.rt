@@ -1,8 +1,7 @@
 //! What a Subscribe asks for: a topic filter and its options.
 
 ghost use Rattle.std.specs.Prelude.{◌≡◌, ◌*◌, [], OnErr, IfOk, IfErr, false};
-ghost use Rattle.mqtt5_base.specs.Grammar.{one, text, number, is_qos, bad_qos, bad_rule};
-ghost use Rattle.mqtt5_base.specs.Views.{qos_number};
+ghost use Rattle.mqtt5_base.specs.Grammar.{one, text, number, bad_rule};
 ghost use Rattle.mqtt5_base.specs.Reading.{Gives, judged, part_at};
 ghost use Rattle.mqtt5_base.specs.Puts.{Appends};
 ghost use Rattle.mqtt5_subs.specs.Rows.{is_rule, option_steps};
@@ -10,7 +9,7 @@ ghost use Rattle.mqtt5_subs.specs.Subscribes.{rule_number, filter_options, filte
 
 use crate::listed::{Listed, read_list};
 use bytes::{Bytes, BytesMut};
-use mqtt5_base::{Error, FieldValue, QoS, Sequence, Text, qos, read_text, read_u8};
+use mqtt5_base::{Error, FieldValue, QoS, Sequence, Text, read_qos, read_text, read_u8};
 use std::alloc::Global;
 
 /// Which retained messages are sent when a subscription is made (MQTT 5.0 section 3.8.3.1).
@@ -45,12 +44,6 @@ fn read_rule(num: u8) -> Result<RetainForwardRule, Error>
 }
 
 /// The QoS of a number of two bits.
-fn read_qos(num: u8) -> Result<QoS, Error>
-    ensures { Gives (λ q. number (qos_number q)) result (judged is_qos bad_qos (number num)) }
-{
-    qos(num).ok_or(Error::InvalidQoS(num))
-}
-
 fn rule_bits(rule: RetainForwardRule) -> u8
     ensures { result ≡ 16 * rule_number rule }
 {
