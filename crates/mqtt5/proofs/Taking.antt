@@ -1,9 +1,8 @@
 -- What the codec and the session do with the front of a stream is what the run does.
 use Rattle.std.specs.Prelude.{OnOk, IfErr}
-use Rattle.std.proofs.Common.{◌≡◌, ◌<◌, ℕ, List, [], ◌∷◌, ◌++◌, length, Some, None, Result, Ok, Err, refl, sym, ap, ◌∙◌, inl, inr}
+use Rattle.std.proofs.Common.{◌≡◌, ℕ, List, [], ◌∷◌, ◌++◌, Some, None, Result, Ok, Err, refl, sym, ap, ◌∙◌, inl, inr}
 use Rattle.mqtt5_base.specs.Front.{Bad, More, Whole, front}
 use Rattle.mqtt5_base.specs.declared.error.Error.{Error}
-use Rattle.mqtt5_base.proofs.FrontLemmas.{front_is}
 use Rattle.mqtt5_codec.specs.declared.codec.Codec.{Codec}
 use Rattle.mqtt5_codec.specs.declared.packet.Packet.{Packet}
 use Rattle.mqtt5_codec.specs.Packets.{packet_in}
@@ -57,10 +56,6 @@ pub ends_at : (codec : Codec) (at : ℕ) (s0 : Session) (o0 h0 : List ℕ) (s : 
     → (rest : List Atom) → Stops (state_error e) s0 o0 (run codec (bytes_of at h0 ++ rest) s0 []) s o
 ends_at codec at s0 o0 h0 s o stream left e drained decoded rest =
     stops_on (state_error e) (drained rest) (faults_at codec at s o stream left e decoded rest)
-
--- the stream gets shorter
-pub falls : (codec : Codec) (stream left : List ℕ) (p : Packet) → Decodes (Ok (Some p)) codec.max_incoming_size stream left → length left < length stream
-falls codec stream left p decoded = (front_is codec.max_incoming_size).shorter stream decoded.0 left decoded.1
 
 -- a piece behind a stream that wants more
 pub extends : (codec : Codec) (at : ℕ) (rest : List Atom) (s : Session) (held bytes stream : List ℕ) → IsMore (front codec.max_incoming_size held) → stream ≡ held ++ bytes

@@ -1,14 +1,11 @@
 use Rattle.std.proofs.lemmas.Result.{err_from_is_err_and}
-use Rattle.mqtt5.proofs.Taking.{takes, stops_at, waits, ends_at, falls}
+use Rattle.mqtt5.proofs.Taking.{takes, stops_at, waits, ends_at}
 use Rattle.mqtt5.proofs.run.take_frames.Goals as goal
 
 pub returns-in_err-packet-clause-err : goal.returns-in_err-packet-clause-err
 returns-in_err-packet-clause-err c =
     let p = err_from_is_err_and c.from_residual.result c.from_residual.ensures.1 in
     rw (p.1, p.2) (ends_at _ _ _ _ _ _ _ _ _ _ c.loop-packet.invariant c.in_err-packet.ensures.decodes)
-
-pub loop-packet-smaller : goal.loop-packet-smaller
-loop-packet-smaller c = falls c.args.codec.now _ _ c.in-Some.packet (rw c.in-Some.is at c.in_ok-packet.ensures.decodes)
 
 pub loop-packet-preserved : goal.loop-packet-preserved
 loop-packet-preserved c =
