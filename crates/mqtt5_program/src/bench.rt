@@ -52,23 +52,34 @@ pub const FRAMES: [&[u8]; 24] = [
 ];
 
 /// Tries each frame as the vector of its place, and prints whether it is what the vector says.
-/// Answers whether all are.
-pub fn try_vectors<W: Write>(alloc: Global, frames: &[&[u8]], output: &mut W) -> io::Result<bool> {
+/// Answers whether all are; None, with nothing more printed, where memory ran out.
+pub fn try_vectors<W: Write>(
+    alloc: Global,
+    frames: &[&[u8]],
+    output: &mut W,
+) -> io::Result<Option<bool>> {
     let mut all = true;
     for (place, frame) in frames.iter().enumerate() {
-        let good = is_good(alloc, place, frame);
+        let Ok(good) = is_good(alloc, place, frame) else {
+            return Ok(None);
+        };
         let verdict = if good { "ok" } else { "bad" };
         writeln!(output, "V{} {verdict}", place.saturating_add(1))?;
         all = all && good;
     }
-    Ok(all)
+    Ok(Some(all))
 }
 
-/// Whether a frame is what the vector of this place says: want of memory is no.
-fn is_good(alloc: Global, place: usize, frame: &[u8]) -> bool {
-    match fault(place) {
-        Some(fault) => is_refused(alloc, frame, &fault).unwrap_or(false),
-        None => goes_both_ways(alloc, place, frame).unwrap_or(false),
+/// Whether a frame is what the vector of this place says. E21 alone.
+fn is_good(alloc: Global, place: usize, frame: &[u8]) -> Result<bool, Error> {
+    let judged = match fault(place) {
+        Some(fault) => is_refused(alloc, frame, &fault),
+        None => goes_both_ways(alloc, place, frame),
+    };
+    match judged {
+        Err(Error::OutOfMemory) => Err(Error::OutOfMemory),
+        Err(_) => Ok(false),
+        Ok(good) => Ok(good),
     }
 }
 
@@ -89,12 +100,13 @@ fn fault(place: usize) -> Option<Error> {
     })
 }
 
-/// Whether the frame is refused with this fault and taken out of its stream.
+/// Whether the frame is refused with this fault and taken out of its stream. E21.
 fn is_refused(alloc: Global, frame: &[u8], fault: &Error) -> Result<bool, Error> {
     let mut stream = BytesMut::new(alloc);
     stream.extend_from_slice(frame)?;
     let refused = match Packet::read(alloc, &mut stream, None) {
         Ok(_) => false,
+        Err(Error::OutOfMemory) => return Err(Error::OutOfMemory),
         Err(error) => error == *fault,
     };
     Ok(refused && stream.is_empty())

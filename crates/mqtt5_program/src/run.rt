@@ -55,11 +55,11 @@ fn is_bench(words: &[String]) -> bool {
 }
 
 fn run_bench<W: Write>(alloc: Global, output: &mut W) -> io::Result<Status> {
-    Ok(if try_vectors(alloc, &FRAMES, output)? {
-        Status::Done
-    } else {
-        Status::Fault
-    })
+    match try_vectors(alloc, &FRAMES, output)? {
+        Some(true) => Ok(Status::Done),
+        Some(false) => Ok(Status::Fault),
+        None => write_memory_fault(output),
+    }
 }
 
 /// The limit of `drive LIMIT`, which is 1 to 65535; none of other words.
