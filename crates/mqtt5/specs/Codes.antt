@@ -7,14 +7,18 @@ use Rattle.std.specs.FinSet as set
 use Rattle.mqtt5.specs.contracts.slot.Slot as slot
 use Rattle.mqtt5.specs.Held.{Held, IdMap}
 
+-- maps of ids
 abbrev pub coded_held : Coded Held
 coded_held = map.code coded_ℕ slot.the_row.coded
 
+-- the same with their limit
 abbrev pub coded_ids : Coded IdMap
 coded_ids = code_by (ℕ × Held) (coded× coded_ℕ coded_held) (λ m. (m.limit, m.held)) (λ p. record { limit = p.0; held = p.1 }) (λ _. refl)
 
+-- topics of aliases
 abbrev pub coded_aliases : Coded (map.FinMap nat_cmp (List ℕ))
 coded_aliases = map.code coded_ℕ (coded_list coded_ℕ)
 
+-- sets of ids
 abbrev pub coded_incoming : Coded (set.FinSet nat_cmp)
 coded_incoming = set.code coded_ℕ

@@ -11,6 +11,7 @@ pub data Course : Type 0 where
   Faults : (fault : StateError) → Course
   Moves : (session : Session) (reply : List ℕ) (then : Course) → Course
 
+-- how a run ends: with the bytes that are held, or with a fault
 pub data Ending : Type 0 where
   Holds : List ℕ → Ending
   Fault : StateError → Ending
@@ -39,7 +40,9 @@ abbrev pub Stops : StateError → Session → List ℕ → Course → Session �
 Stops e s output c t u =
     ((e ≡ faults.OutOfMemory) × Passes s output c t u) ⊎ (finish s output c ≡ record { session = t; output = u; ending = Fault e })
 
--- This word serves the logic alone: c, from s and o, goes on as d from t and u.
+-- ---- The rest of this file serves the logic alone.
+
+-- c, from s and o, goes on as d from t and u
 pub record LeadsTo (s : Session) (o : List ℕ) (c : Course) (t : Session) (u : List ℕ) (d : Course) : Type 0 where
   pub ends : finish s o c ≡ finish t u d
   pub points : (v : Session) (w : List ℕ) → Passes t u d v w → Passes s o c v w

@@ -1,4 +1,4 @@
--- What a session answers for an error of reading or writing.
+-- What a session answers for an error of reading or writing (MQTT 5.0 section 4.13).
 use Rattle.mqtt5_base.specs.declared.error.Error.{Error}
 use Rattle.mqtt5_base.specs.declared.error.Error.TheVariants as errors
 use Rattle.mqtt5.specs.declared.error.StateError.{StateError}

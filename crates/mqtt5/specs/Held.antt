@@ -7,28 +7,28 @@ use Rattle.mqtt5_flow.specs.declared.publish.Publish.{Publish}
 use Rattle.mqtt5.specs.declared.slot.Slot.{Slot}
 use Rattle.mqtt5.specs.declared.slot.Slot.TheVariants.{Sent, Released}
 
--- the ids in use, and what is known of each
+-- the ids in use, and what is known of each (2.2.1)
 abbrev pub Held : Type 0
 Held = map.FinMap nat_cmp Slot
 
--- the ids in use, and how high an id may be
+-- the ids in use, and how high an id may be (2.2.1)
 pub record IdMap : Type 0 where
   pub limit : ℕ
   pub held : Held
 
--- the publish that awaits its ack, where that is what is known
+-- the publish that awaits its ack, where that is what is known (4.3.2, 4.3.3)
 abbrev pub publish_of : Option Slot → Option Publish
 publish_of (Some (Sent p)) = Some p
 publish_of (Some Released) = None
 publish_of None = None
 
--- whether it is known to be released
+-- whether it is known to be released (4.3.3)
 abbrev pub is_released : Option Slot → Bool
 is_released (Some (Sent p)) = false
 is_released (Some Released) = true
 is_released None = false
 
--- a publish that awaits an ack under this id has it as its own id, and a QoS of 1 or 2
+-- a publish that awaits an ack under this id has it as its own id, and a QoS of 1 or 2 (2.2.1)
 abbrev pub HasId : ℕ → Slot → Type 0
 HasId id (Sent p) = (p.pkid ≡ id) × (p.qos ≢ AtMostOnce)
 HasId id Released = Unit {0}
@@ -38,7 +38,7 @@ abbrev pub OwnId : ℕ → Option Slot → Type 0
 OwnId id None = Unit {0}
 OwnId id (Some slot) = HasId id slot
 
--- ids in use lie in 1..=limit, and a publish stands under its own id
+-- ids in use lie in 1..=limit, and a publish stands under its own id (2.2.1)
 pub record IsWithin (limit : ℕ) (held : Held) : Type 0 where
   pub low : (id : ℕ) → IsTrue (map.contains_key held id) → 0 < id
   pub high : (id : ℕ) → IsTrue (map.contains_key held id) → id ≤ limit

@@ -5,14 +5,17 @@ use Rattle.mqtt5_flow.specs.declared.publish.Publish.{Publish}
 use Rattle.mqtt5.specs.declared.slot.Slot.TheVariants.{Sent}
 use Rattle.mqtt5.specs.Held.{Held}
 
+-- the publish that is sent then
 abbrev pub sent_for : Option Publish → ℕ → Option Publish
 sent_for None id = None
 sent_for (Some p) id = if p.pkid == id then Some p else None
 
+-- the ids in use then
 abbrev pub held_after : Option Publish → Held → ℕ → Held
 held_after None held id = map.remove held id
 held_after (Some p) held id = if p.pkid == id then map.insert held id (Sent p) else map.remove held id
 
+-- the publish that waits then
 abbrev pub waiting_after : Option Publish → ℕ → Option Publish
 waiting_after None id = None
 waiting_after (Some p) id = if p.pkid == id then None else Some p

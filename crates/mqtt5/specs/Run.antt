@@ -1,4 +1,5 @@
--- The run of a client over pieces of bytes and requests, a byte at a time.
+-- The run of a client over pieces of bytes and requests, a byte at a time: what comes in is an ordered stream of bytes
+-- (MQTT 5.0 section 4.2).
 use Rattle.std.specs.Prelude.{◌≡◌, ℕ, ◌⊎◌, List, [], ◌∷◌, ◌++◌, Option, Some, None, Result, Ok, Err}
 use Rattle.mqtt5_base.specs.declared.error.Error.{Error}
 use Rattle.mqtt5_base.specs.Front.{Front, Bad, More, Whole, front}
@@ -20,14 +21,17 @@ pub data Atom : Type 0 where
   Byte : (at b : ℕ) → Atom
   Ask : (at : ℕ) (request : Request) → Atom
 
+-- the bytes of a piece, each with its moment
 abbrev pub bytes_of : ℕ → List ℕ → List Atom
 bytes_of at [] = []
 bytes_of at (b ∷ bytes) = Byte at b ∷ bytes_of at bytes
 
+-- an input, with its moment
 abbrev pub of_input : ℕ → Input → List Atom
 of_input at (inputs.Bytes piece) = bytes_of at piece
 of_input at (inputs.Request request) = Ask at request ∷ []
 
+-- the inputs of all steps in order
 abbrev pub atoms : List Step → List Atom
 atoms [] = []
 atoms (step ∷ steps) = of_input step.at step.input ++ atoms steps
@@ -47,6 +51,7 @@ abbrev pub moved : Codec → Session → Result (Option Packet) StateError → (
 moved codec s (Ok reply) goes_on = answered s (reply_bytes codec reply) goes_on
 moved codec s (Err e) goes_on = Moves s [] (Faults e)
 
+-- an answer of the session, and the session after it
 abbrev pub stepped : Codec → Answer → (Session → Course) → Course
 stepped codec a goes_on = moved codec a.1 a.0 goes_on
 
@@ -72,10 +77,11 @@ run codec (Ask at request ∷ rest) s held = stepped codec (out s request at) (�
 abbrev pub IsMore : Front → Type 0
 IsMore f = (n : ℕ) × (f ≡ More n)
 
+-- a step that is a piece
 abbrev pub piece : ℕ → List ℕ → Step
 piece at bytes = record { at = at; input = inputs.Bytes bytes }
 
--- ---- The words from here on serve the logic alone.
+-- ---- The rest of this file serves the logic alone.
 
 -- one move, whatever comes after
 abbrev pub Goes : Result Unit StateError → Codec → Answer → Session → List ℕ → Session → List ℕ → Type 0

@@ -21,8 +21,8 @@ use Rattle.mqtt5.specs.declared.error.StateError.{StateError}
 use Rattle.mqtt5.specs.declared.error.StateError.TheVariants as errors
 use Rattle.mqtt5.specs.Held.{Held}
 
--- what decides the ids and the deliveries: the limit on ids in use, the current maximum, the last id that was given, the
--- ids in use, the publish that waits for its id, the topics of aliases, the broker's maximum of them, and whether the
+-- what decides the ids and the deliveries (4.1): the limit on ids in use, the current maximum, the last id that was given,
+-- the ids in use, the publish that waits for its id, the topics of aliases, the broker's maximum of them, and whether the
 -- user sends the acks
 pub record Core : Type 0 where
   pub limit : ℕ
@@ -34,8 +34,8 @@ pub record Core : Type 0 where
   pub alias_max : ℕ
   pub manual_acks : Bool
 
--- a core, the ids of publishes that the broker hasn't released, whether a ping isn't answered, how many pings were asked
--- for while a publish waits, what happened, and the moments of the last packet in and the last request out
+-- the session (4.1): a core, the ids of publishes that the broker hasn't released, whether a ping isn't answered, how many
+-- pings were asked for while a publish waits, what happened, and the moments of the last packet in and the last request out
 pub record Session : Type 0 where
   pub core : Core
   pub incoming : set.FinSet nat_cmp
@@ -45,7 +45,7 @@ pub record Session : Type 0 where
   pub last_incoming : ℕ
   pub last_outgoing : ℕ
 
--- the session of a client that has sent nothing
+-- the session of a client that has sent nothing (4.1)
 abbrev pub fresh : ℕ → Bool → Session
 fresh limit manual = record {
   core = record { limit = limit; current = limit; last = 0; held = map.empty; waiting = None; aliases = map.empty; alias_max = 0; manual_acks = manual };
@@ -63,11 +63,11 @@ Answer = Result (Option Packet) StateError × Session
 
 -- ---- requests
 
--- the id that a request with this id takes: 0 stands for the next one
+-- the id that a request with this id takes: 0 stands for the next one (2.2.1)
 abbrev pub id_for : Core → ℕ → ℕ
 id_for c id = if id == 0 then c.last + 1 else id
 
--- the last id after it, which goes back to 0 at the current maximum
+-- the last id after it, which goes back to 0 at the current maximum (2.2.1)
 abbrev pub last_after : Core → ℕ → ℕ
 last_after c id = if id == 0 then (if nat_le c.current (c.last + 1) then 0 else c.last + 1) else c.last
 
@@ -75,26 +75,26 @@ last_after c id = if id == 0 then (if nat_le c.current (c.last + 1) then 0 else 
 abbrev pub tells : Session → Outgoing → ℕ → Session
 tells s event at = record s { events = s.events ++ events.Outgoing event ∷ []; last_outgoing = at }
 
--- a publish of QoS 0 is sent and forgotten (section 4.3.1)
+-- a publish of QoS 0 is sent and forgotten (4.3.1)
 abbrev pub out_once : Session → Publish → ℕ → Answer
 out_once s p at = (Ok (Some (packets.Publish p)), tells s (outgoing.Publish p.pkid) at)
 
--- a publish is stored until its ack comes, under its id, which is the last one that was given
+-- a publish is stored under its id until its ack comes, and the last id is set (4.3.2)
 abbrev pub stored : Session → Publish → ℕ → ℕ → Session
 stored s p last at = record (tells s (outgoing.Publish p.pkid) at) { core = record s.core { held = map.insert s.core.held p.pkid (Sent p); last = last } }
 
--- a publish of QoS 1 is sent and stored under its id, which must be free (section 4.3.2)
+-- a publish of QoS 1 is sent and stored under its id, which must be free (4.3.2)
 abbrev pub out_free : Option Slot → Session → Publish → ℕ → ℕ → Answer
 out_free (Some slot) s p last at = (Err errors.InvalidState, s)
 out_free None s p last at = (Ok (Some (packets.Publish p)), stored s p last at)
 
--- the same, where its id is within the limit
+-- the same, where its id is within the limit (2.2.1)
 abbrev pub out_acked : Session → Publish → ℕ → ℕ → Answer
 out_acked s p last at =
     if nat_lt s.core.limit p.pkid then (Err (errors.Unsolicited p.pkid), s)
     else out_free (map.get s.core.held p.pkid) s p last at
 
--- a publish by its QoS
+-- a publish by its QoS (4.3); one of QoS 2 is refused for now
 abbrev pub out_publish : QoS → Session → Publish → ℕ → Answer
 out_publish AtMostOnce s p at = out_once s p at
 out_publish AtLeastOnce s p at = out_acked s (record p { pkid = id_for s.core p.pkid }) (last_after s.core p.pkid) at
@@ -110,7 +110,7 @@ out s (requests.Publish p) at = out_publish p.qos s p at
 abbrev pub hears : Session → Packet → Session
 hears s packet = record s { events = s.events ++ events.Incoming packet ∷ [] }
 
--- an id is made free, and the publish that waits for that id is sent
+-- an id is made free, and the publish that waits for that id is sent (2.2.1)
 abbrev pub freed_for : Option Publish → Session → ℕ → ℕ → Answer
 freed_for None s id at = (Ok None, record s { core = record s.core { held = map.remove s.core.held id }; last_incoming = at })
 freed_for (Some p) s id at =
@@ -125,13 +125,13 @@ freed_for (Some p) s id at =
     )
     else (Ok None, record s { core = record s.core { held = map.remove s.core.held id }; last_incoming = at })
 
--- a PubAck ends the publish that awaits it, whatever its reason (section 4.3.2)
+-- a PubAck ends the publish that awaits it, whatever its reason (4.3.2)
 abbrev pub on_puback : Option Slot → Session → ℕ → ℕ → Answer
 on_puback (Some (Sent p)) s id at = freed_for s.core.waiting s id at
 on_puback (Some Released) s id at = (Err (errors.Unsolicited id), s)
 on_puback None s id at = (Err (errors.Unsolicited id), s)
 
--- a publish of QoS 1 is answered, unless the user does it (section 4.3.2)
+-- a publish of QoS 1 is answered, unless the user does it (4.3.2)
 abbrev pub on_acked : Bool → Session → ℕ → ℕ → Answer
 on_acked true s id at = (Ok None, record s { last_incoming = at })
 on_acked false s id at = (
@@ -139,7 +139,7 @@ on_acked false s id at = (
   record s { events = s.events ++ events.Outgoing (outgoing.PubAck id) ∷ []; last_incoming = at },
 )
 
--- a publish by its QoS
+-- a publish by its QoS (4.3); one of QoS 2 is refused for now
 abbrev pub on_publish : QoS → Session → ℕ → ℕ → Answer
 on_publish AtMostOnce s id at = (Ok None, record s { last_incoming = at })
 on_publish AtLeastOnce s id at = on_acked s.core.manual_acks s id at
@@ -167,7 +167,9 @@ abbrev pub Hears : Result (Option Packet) StateError → Session → Session →
 Hears (Err errors.OutOfMemory) old new answer = new ≡ old
 Hears result old new answer = (result ≡ answer.0) × (new ≡ answer.1)
 
--- This word serves the logic alone: what waits has a QoS of 1 or 2.
+-- ---- The rest of this file serves the logic alone.
+
+-- what waits has a QoS of 1 or 2
 abbrev pub IsCounted : Option Publish → Type 0
 IsCounted None = Unit {0}
 IsCounted (Some p) = p.qos ≢ AtMostOnce

@@ -7,7 +7,8 @@ ghost use Rattle.mqtt5.specs.Errors.{state_error};
 use mqtt5_base::Error;
 use std::alloc::{AllocError, AllocFailed};
 
-/// Why a session refused. Numbers are those of the documents; a variant without one is never answered.
+/// Why a session refused. Numbers are those of the documents; a variant without one is never answered,
+/// and S3, S5, S6, S8, S10 and S11 aren't yet.
 #[derive(Debug, PartialEq, Eq, Drop, thiserror::Error)]
 pub enum StateError {
     /// Never answered.
@@ -16,10 +17,11 @@ pub enum StateError {
     /// Never answered.
     #[error("Conversion error")]
     Coversion,
-    /// S1: the session is in no state for the request.
+    /// S1: the session is in no state for the request: a publish of QoS 1 whose id is in use, or one of
+    /// QoS 2.
     #[error("Invalid state for a given operation")]
     InvalidState,
-    /// S2: an ack of an id that awaits none, or an id above the limit.
+    /// S2: an ack of an id that awaits none, or a publish under an id above the limit; that id.
     #[error("Received unsolicited ack pkid: {0}")]
     Unsolicited(u16),
     /// S3: the last ping isn't answered.
@@ -34,13 +36,13 @@ pub enum StateError {
     /// S6: a subscribe without filters.
     #[error("A Subscribe packet must contain atleast one filter")]
     EmptySubscription,
-    /// S7: a frame that can't be read, or a packet that can't be written.
+    /// S7: a frame that can't be read, or a packet that can't be written; why.
     #[error("Mqtt serialization/deserialization error: {0}")]
     Deserialization(Error),
     /// S8: a topic alias above the broker's maximum.
     #[error("Cannot use topic alias '{alias:?}'. It's greater than the broker's maximum of '{max:?}'.")]
     InvalidAlias { alias: u16, max: u16 },
-    /// S9: a packet over the outgoing limit.
+    /// S9: a packet over the outgoing limit; its size, or the greatest `u32` where it is more.
     #[error("Cannot send packet of size '{pkt_size:?}'. It's greater than the broker's maximum packet size of: '{max:?}'")]
     OutgoingPacketTooLarge { pkt_size: u32, max: u32 },
     /// Never answered.
@@ -60,6 +62,7 @@ pub enum StateError {
     OutOfMemory,
 }
 
+/// E20 is S9, E21 is S12, every other S7.
 impl From<Error> for StateError {
     ghost from_gives = { λ e s. s ≡ state_error e };
 

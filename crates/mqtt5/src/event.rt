@@ -6,13 +6,15 @@ use mqtt5_flow::Publish;
 /// What the client asks of the session.
 #[derive(Clone, Debug, PartialEq, Eq, Drop)]
 pub enum Request {
+    /// Sends a publish; packet identifier 0 stands for the next one.
     Publish(Publish),
 }
 
 /// A packet from the broker.
 pub type Incoming = Packet;
 
-/// What was sent, with its packet identifier where it has one.
+/// What was sent, with its packet identifier where it has one. Only `Publish` and `PubAck` are told so
+/// far.
 #[derive(Clone, Copy, Debug, PartialEq, Eq)]
 pub enum Outgoing {
     Publish(u16),
@@ -31,6 +33,8 @@ pub enum Outgoing {
 /// What happened, for the user to read.
 #[derive(Clone, Debug, PartialEq, Eq, Drop)]
 pub enum Event {
+    /// A packet that came, also one that was refused.
     Incoming(Incoming),
+    /// What was answered to send.
     Outgoing(Outgoing),
 }

@@ -6,6 +6,7 @@ mod error;
 mod event;
 mod exact;
 mod ids;
+/// The paths of the original.
 pub mod mqttbytes;
 mod run;
 mod slot;

@@ -18,14 +18,18 @@ use std::alloc::Global;
 /// What a step takes: a piece of the incoming bytes, or a request.
 #[derive(Debug, Drop)]
 pub enum Input {
+    /// A piece, cut anywhere.
     Bytes(Bytes),
+    /// What the client asks.
     Request(Request),
 }
 
 /// An input at its moment.
 #[derive(Debug, Drop)]
 pub struct Step {
+    /// The moment, in a unit that is the caller's.
     pub at: u64,
+    /// What comes in then.
     pub input: Input,
 }
 
@@ -125,9 +129,11 @@ fn take_step(
 }
 
 /// Runs the steps in order: a piece goes to the end of the input, each whole frame is decoded and goes
-/// to the session, and each reply goes to the end of the output. The first fault ends it: S7 of a frame
-/// or a stream that is refused, S9 of a reply over the outgoing limit, a fault of the session; S12. What
-/// was written and what the session took stands then.
+/// to the session, and each reply goes to the end of the output. The input must be in want of more bytes,
+/// as an empty one is, and as a run without fault leaves it. The first fault ends the run: S7 of a frame
+/// or a stream that is refused, or of a reply that can't be written, S9 of a reply over the outgoing
+/// limit, S1, S2 or S4 of the session; S12. What was written and what the session took stands then; after
+/// S12 the last reply may be missing. Of the input nothing is said then.
 pub fn drive(
     alloc: Global,
     state: &mut MqttState,

@@ -78,8 +78,8 @@ impl Model for MqttState {
 }
 
 impl MqttState {
-    /// A session in which nothing was sent. At most `max_inflight` ids are in use at a time, and none is
-    /// above it. S12.
+    /// A session in which nothing was sent. `max_inflight`, at least 1, is the greatest id, and so the most
+    /// ids in use at a time. S12.
     pub fn new(alloc: Global, max_inflight: u16, manual_acks: bool) -> Result<MqttState, StateError>
         requires { 0 < max_inflight }
         ensures ok { IfOk result (λ s. s ≡ fresh max_inflight manual_acks) }
@@ -131,14 +131,15 @@ impl MqttState {
         self.collision_pings
     }
 
-    /// The moment of the last packet from the broker. Takes no memory.
+    /// The moment of the last packet from the broker that wasn't refused, 0 before the first. Takes no
+    /// memory.
     pub fn last_incoming(&self) -> u64
         ensures { result ≡ self.now.last_incoming }
     {
         self.last_incoming
     }
 
-    /// The moment of the last request. Takes no memory.
+    /// The moment of the last request that wasn't refused, 0 before the first. Takes no memory.
     pub fn last_outgoing(&self) -> u64
         ensures { result ≡ self.now.last_outgoing }
     {
@@ -173,7 +174,7 @@ impl MqttState {
         self.slots.limit()
     }
 
-    /// The publish that waits for its id. Takes no memory.
+    /// The publish that waits for its id; None where there is none. Takes no memory.
     pub fn collision(&self) -> Option<&Publish>
         ensures { option_copied result ≡ self.now.core.waiting }
     {
@@ -187,7 +188,7 @@ impl MqttState {
         &self.events
     }
 
-    /// The publish that awaits an ack under an id. Takes no memory.
+    /// The publish that awaits an ack under an id; None where there is none. Takes no memory.
     pub fn outgoing_pub(&self, id: u16) -> Option<&Publish>
         ensures { option_copied result ≡ publish_of (map.get self.now.core.held id) }
     {
@@ -208,14 +209,14 @@ impl MqttState {
         self.incoming.contains(id)
     }
 
-    /// The topic that an alias of the broker stands for. Takes no memory.
+    /// The topic that an alias of the broker stands for; None where none is known. Takes no memory.
     pub fn topic_alises(&self, alias: u16) -> Option<&Bytes>
         ensures { option_copied result ≡ map.get self.now.core.aliases alias }
     {
         self.aliases.get(alias)
     }
 
-    /// Takes the oldest event. Takes no memory.
+    /// Takes the oldest event out; None where there is none. Takes no memory.
     pub fn pop_event(&mut self) -> Option<Event>
         ensures event { result ≡ slice_get self.old.events 0 }
         ensures rest { self.new ≡ record self.old { events = drop 1 self.old.events } }
@@ -240,8 +241,9 @@ impl MqttState {
     }
 
     /// Takes a packet from the broker at a moment, tells of it, and answers what to send. S2: a PubAck of an
-    /// id under which no publish awaits one. S4: a publish of QoS 2. S12, which leaves the session
-    /// unchanged; after another refusal the packet's event stands, and nothing else is changed.
+    /// id under which no publish awaits one. S4: a publish of QoS 2, or a packet that is neither a Publish
+    /// nor a PubAck. S12, which leaves the session unchanged; after another refusal the packet's event
+    /// stands, and nothing else is changed.
     #[tactic(auto, unfolding(crate::specs::Session::inc))]
     pub fn handle_incoming_packet(
         &mut self,

@@ -10,7 +10,7 @@ use Rattle.mqtt5_base.specs.Grammar.{Kind, u8, u16, u32, varint, bytes, text, pa
 abbrev pub Takes : (List ℕ → Type 0) → List ℕ → List ℕ → Type 0
 Takes P body after = (front : List ℕ) × (body ≡ front ++ after) × P front
 
--- ---- one value
+-- ---- one value (1.5)
 
 -- a number in its bytes, the high one first (1.5.2, 1.5.3)
 abbrev pub IsNumber : Width → List ℕ → ℕ → Type 0
@@ -36,44 +36,46 @@ IsKind pair front a = (first second : List ℕ) × (k v : List ℕ) × (front �
 
 -- ---- property blocks (2.2.2)
 
--- a value of that property
+-- a value of that property (2.2.2.2)
 abbrev pub IsProperty : ℕ → List ℕ → Atom → Type 0
 IsProperty id front a = (k : Kind) × (kind_among kinds id ≡ Some k) × IsKind k front a
 
--- the block is the items one after the other, each an allowed identifier and a value of its kind
+-- the block is the items one after the other, each an allowed identifier and a value of its kind (2.2.2.2)
 abbrev pub Items : List Entry → List ℕ → List (ℕ × Atom) → Type 0
 Items table bs [] = bs ≡ []
 Items table bs (i ∷ items) = (body : List ℕ) × (after : List ℕ) × (bs ≡ i.0 ∷ body) × (allows table i.0 ≡ true) × Takes (λ front. IsProperty i.0 front i.1) body after × Items table after items
 
+-- the values of the items of an identifier, in order (2.2.2.2)
 abbrev pub values_of : ℕ → List (ℕ × Atom) → List Atom
 values_of id [] = []
 values_of id (i ∷ items) = if i.0 == id then i.1 ∷ values_of id items else values_of id items
 
+-- the last value alone, if there is one
 abbrev pub last_of : List Atom → List Atom
 last_of [] = []
 last_of (a ∷ []) = a ∷ []
 last_of (a ∷ b ∷ others) = last_of (b ∷ others)
 
--- of a list each value in order, of a single property the last
+-- of a list each value in order; of a single property the last, where the standard allows but one (as in 3.1.2.11.2)
 abbrev pub chosen : Bool → List Atom → List Atom
 chosen true here = here
 chosen false here = last_of here
 
--- what items make of a set
+-- what items make of a set (2.2.2)
 abbrev pub props : List Entry → List (ℕ × Atom) → Found
 props [] items = []
 props (e ∷ es) items = chosen e.many (values_of e.id items) ∷ props es items
 
--- no set of no bytes, else the set of the items
+-- no set of no bytes, else the set of the items (2.2.2.1)
 abbrev pub IsSet : List Entry → List ℕ → Option Found → Type 0
 IsSet table bs None = length bs ≡ 0
 IsSet table bs (Some found) = (0 < length bs) × (items : List (ℕ × Atom)) × Items table bs items × (found ≡ props table items)
 
--- the length of the items, and the items
+-- the length of the items, and the items (2.2.2.1)
 abbrev pub IsBlock : List Entry → List ℕ → Option Found → Type 0
 IsBlock table front p = (len : List ℕ) × (bs : List ℕ) × (front ≡ len ++ bs) × VarInt len (length bs) × IsSet table bs p
 
--- ---- steps
+-- ---- steps (3)
 
 -- these bytes, before those, stand for the field's value
 abbrev pub IsField : Field → List ℕ → Value → List ℕ → Type 0
@@ -96,7 +98,7 @@ Fields (note c ∷ steps) known body out rest = Fields steps (with_value known (
 Fields (judge c s t w ∷ steps) known body out rest = (holds known c ≡ true → passes t (cut_in known s) ≡ true) × Fields steps known body out rest
 Fields (more w ∷ steps) known body out rest = (0 < length body) × Fields steps known body out rest
 
--- ---- parts
+-- ---- parts (3)
 
 -- what steps of their own keep, under a number
 abbrev pub Kept : List Step → ℕ → List ℕ → List Value → List ℕ → Type 0
@@ -107,6 +109,8 @@ abbrev pub Repeats : List Step → List ℕ → List (List Value) → Type 0
 Repeats steps body [] = length body ≡ 0
 Repeats steps body (vs ∷ all) = (after : List ℕ) × (0 < length body) × Kept steps 0 body vs after × Repeats steps after all
 
+-- Where the condition holds the body begins with the second steps, and what they keep is given; else with the first, and
+-- nothing is given.
 abbrev pub Choice : Bool → List Step → List Step → ℕ → List ℕ → Option (List Value) → List ℕ → Type 0
 Choice true off on n body g rest = (vs : List Value) × Kept on n body vs rest × (g ≡ Some vs)
 Choice false off on n body g rest = (vs : List Value) × Kept off n body vs rest × (g ≡ None)
@@ -119,17 +123,19 @@ repeated f steps = field always f (plain (number 0)) ∷ steps
 abbrev pub number_at_place : List Value → ℕ → ℕ
 number_at_place values k = number_of (atom_in values k)
 
+-- the body begins with a part, which gives that
 abbrev pub IsPart : Part → List Value → List ℕ → Group → List ℕ → Type 0
 IsPart (choice k c off on) values body g rest =
     let n = number_at_place values k in (o : Option (List Value)) × Choice (holds (under n 0) c) off on n body o rest × (g ≡ optional o)
 IsPart (filled k steps) values body g rest = (vs : List Value) × Kept steps (number_at_place values k) body vs rest × (g ≡ optional (unless_empty vs))
 IsPart (each f steps) values body g rest = (all : List (List Value)) × Repeats (repeated f steps) body all × (g ≡ several all) × (rest ≡ [])
 
+-- the body begins with the parts in order, which give these
 abbrev pub AreParts : List Part → List Value → List ℕ → List Group → List ℕ → Type 0
 AreParts [] values body gs rest = (gs ≡ []) × (rest ≡ body)
 AreParts (p ∷ ps) values body gs rest = (g : Group) × (after : List ℕ) × IsPart p values body g after × (others : List Group) × AreParts ps values after others rest × (gs ≡ g ∷ others)
 
--- ---- rows
+-- ---- rows (3)
 
 -- The body is the bytes of the row's fields and parts in order and then the rest, and every judgement holds.
 abbrev pub IsRow : Row → ℕ → ℕ → List ℕ → Content → List ℕ → Type 0

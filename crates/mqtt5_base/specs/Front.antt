@@ -20,6 +20,7 @@ abbrev pub within : Option ℕ → ℕ → ℕ → List ℕ → Front
 within None count n stream = cut (1 + count + n) stream
 within (Some max) count n stream = if nat_lt max n then Bad (PayloadSizeLimitExceeded n max) else cut (1 + count + n) stream
 
+-- by the remaining length (2.1.4): four bytes that go on are bad, and bytes that don't end need one more
 abbrev pub by_remaining : Option ℕ → Length → List ℕ → Front
 by_remaining limit Overlong stream = Bad MalformedRemainingLength
 by_remaining limit Unfinished stream = More 1

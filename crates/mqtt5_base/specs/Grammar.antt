@@ -16,16 +16,19 @@ pub data Kind : Type 0 where
   text : Kind
   pair : Kind
 
+-- one value: a number, the bytes of binary data or of a text, or those of two texts
 pub data Atom : Type 0 where
   number : ℕ → Atom
   content : List ℕ → Atom
   couple : List ℕ → List ℕ → Atom
 
+-- a value's number; of another value 0
 abbrev pub number_of : Atom → ℕ
 number_of (number n) = n
 number_of (content c) = 0
 number_of (couple a b) = 0
 
+-- a value's bytes; of another value none
 abbrev pub content_of : Atom → List ℕ
 content_of (number n) = []
 content_of (content c) = c
@@ -33,14 +36,16 @@ content_of (couple a b) = []
 
 -- ---- properties (2.2.2)
 
--- a property that a block may have, once or often
+-- a property that a block may have, once or often (2.2.2.2)
 pub record Entry : Type 0 where
   pub id : ℕ
   pub many : Bool
 
+-- a property that stands once
 abbrev pub single : ℕ → Entry
 single id = record { id = id; many = false }
 
+-- a property that may stand often
 abbrev pub several_of : ℕ → Entry
 several_of id = record { id = id; many = true }
 
@@ -48,6 +53,7 @@ several_of id = record { id = id; many = true }
 abbrev pub Found : Type 0
 Found = List (List Atom)
 
+-- whether a table has an identifier
 abbrev pub allows : List Entry → ℕ → Bool
 allows [] id = false
 allows (e ∷ es) id = id == e.id || allows es id
@@ -59,11 +65,12 @@ kinds =
     ∷ (24, u32) ∷ (25, u8) ∷ (26, text) ∷ (28, text) ∷ (31, text) ∷ (33, u16) ∷ (34, u16) ∷ (35, u16) ∷ (36, u8) ∷ (37, u8) ∷ (38, pair) ∷ (39, u32)
     ∷ (40, u8) ∷ (41, u8) ∷ (42, u8) ∷ []
 
+-- the kind of an identifier, if it has one
 abbrev pub kind_among : List (ℕ × Kind) → ℕ → Option Kind
 kind_among [] id = None
 kind_among (k ∷ ks) id = if id == k.0 then Some k.1 else kind_among ks id
 
--- ---- judgements
+-- ---- judgements (3)
 
 -- what a judged value must be: one of these numbers, not 0, or this text
 pub data Test : Type 0 where
@@ -99,10 +106,12 @@ fault_of zero_id n = PacketIdZero
 fault_of no_filters n = EmptySubscription
 fault_of malformed n = MalformedPacket
 
+-- whether a number is one of these
 abbrev pub is_among : List ℕ → ℕ → Bool
 is_among [] n = false
 is_among (x ∷ xs) n = n == x || is_among xs n
 
+-- whether a value is what it must be
 abbrev pub passes : Test → Atom → Bool
 passes (any_of ns) a = is_among ns (number_of a)
 passes not_zero a = nat_lt 0 (number_of a)
@@ -115,10 +124,12 @@ pub data Value : Type 0 where
   plain : Atom → Value
   properties : Option Found → Value
 
+-- a value that is one; of a property block 0
 abbrev pub atom_of : Value → Atom
 atom_of (plain a) = a
 atom_of (properties p) = number 0
 
+-- a field: one value, one that is judged, a property block, or all that is left
 pub data Field : Type 0 where
   one : Kind → Field
   -- a value that is judged
@@ -138,6 +149,7 @@ pub data Cut : Type 0 where
   whole : Source → Cut
   bits : Source → ℕ → ℕ → Cut
 
+-- when a field is there, or a judgement is made
 pub data Condition : Type 0 where
   always : Condition
   -- the body is longer than that
@@ -145,6 +157,7 @@ pub data Condition : Type 0 where
   -- these bits aren't all 0
   set : Cut → Condition
 
+-- one step of a row
 pub data Step : Type 0 where
   -- a field, where the condition holds; else that value stands for it
   field : Condition → Field → Value → Step
@@ -165,6 +178,7 @@ pub data Part : Type 0 where
   filled : ℕ → List Step → Part
   each : Field → List Step → Part
 
+-- a packet type's row: its steps, and then its parts
 pub record Row : Type 0 where
   pub steps : List Step
   pub parts : List Part
@@ -182,8 +196,9 @@ pub data Group : Type 0 where
 abbrev pub Content : Type 0
 Content = List Value × List Group
 
--- ---- what is known of a row so far
+-- ---- what is known of a row so far (3)
 
+-- what is known while a row is gone through
 pub record Known : Type 0 where
   -- the frame's first byte, or the flags of a Connect
   pub first : ℕ
@@ -193,28 +208,35 @@ pub record Known : Type 0 where
   pub values : List Value
   pub kept : List Value
 
+-- nothing yet but the first byte, or the flags, and the length
 abbrev pub under : ℕ → ℕ → Known
 under n len = record { first = n; length = len; values = []; kept = [] }
 
+-- with a value more, which is kept
 abbrev pub with_value : Known → Value → Known
 with_value known v = record { first = known.first; length = known.length; values = known.values ++ v ∷ []; kept = known.kept ++ v ∷ [] }
 
+-- with a value more, which isn't kept
 abbrev pub with_raw : Known → Value → Known
 with_raw known v = record { first = known.first; length = known.length; values = known.values ++ v ∷ []; kept = known.kept }
 
+-- the value at a place, from 0 on; past the end 0
 abbrev pub atom_in : List Value → ℕ → Atom
 atom_in [] k = number 0
 atom_in (v ∷ vs) zero = atom_of v
 atom_in (v ∷ vs) (suc k) = atom_in vs k
 
+-- the value of a source
 abbrev pub source_in : Known → Source → Atom
 source_in known given = number known.first
 source_in known (read k) = atom_in known.values k
 
+-- the value of a cut
 abbrev pub cut_in : Known → Cut → Atom
 cut_in known (whole s) = source_in known s
 cut_in known (bits s below count) = number (number_of (source_in known s) / below % count)
 
+-- whether a condition holds
 abbrev pub holds : Known → Condition → Bool
 holds known always = true
 holds known (longer n) = nat_lt n known.length
@@ -224,6 +246,7 @@ holds known (set c) = nat_lt 0 (number_of (cut_in known c))
 abbrev pub is_empty : Value → Bool
 is_empty v = length (content_of (atom_of v)) == 0
 
+-- whether none of the values has bytes
 abbrev pub all_empty : List Value → Bool
 all_empty [] = true
 all_empty (v ∷ vs) = if is_empty v then all_empty vs else false
@@ -232,7 +255,7 @@ all_empty (v ∷ vs) = if is_empty v then all_empty vs else false
 abbrev pub unless_empty : List Value → Option (List Value)
 unless_empty vs = if all_empty vs then None else Some vs
 
--- ---- words for rows
+-- ---- words for rows (3)
 
 -- a field that is always there
 abbrev pub there : Field → Step
@@ -242,6 +265,7 @@ there f = field always f (plain (number 0))
 abbrev pub bit_of : Source → ℕ → Cut
 bit_of s worth = bits s worth 2
 
+-- this number alone
 abbrev pub is : ℕ → Test
 is n = any_of (n ∷ [])
 

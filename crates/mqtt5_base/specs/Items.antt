@@ -4,6 +4,7 @@ use Rattle.mqtt5_base.specs.Grammar.{Atom, number, content, couple}
 use Rattle.mqtt5_base.specs.declared.property.Property.{Property}
 use Rattle.mqtt5_base.specs.declared.property.Property.TheVariants.{PayloadFormatIndicator, MessageExpiryInterval, ContentType, ResponseTopic, CorrelationData, SubscriptionIdentifier, SessionExpiryInterval, AssignedClientIdentifier, ServerKeepAlive, AuthenticationMethod, AuthenticationData, RequestProblemInformation, WillDelayInterval, RequestResponseInformation, ResponseInformation, ServerReference, ReasonString, ReceiveMaximum, TopicAliasMaximum, TopicAlias, MaximumQos, RetainAvailable, UserProperty, MaximumPacketSize, WildcardSubscriptionAvailable, SubscriptionIdentifierAvailable, SharedSubscriptionAvailable}
 
+-- a property's identifier
 abbrev pub id_of : Property → ℕ
 id_of (PayloadFormatIndicator x) = 1
 id_of (MessageExpiryInterval x) = 2
@@ -33,6 +34,7 @@ id_of (WildcardSubscriptionAvailable x) = 40
 id_of (SubscriptionIdentifierAvailable x) = 41
 id_of (SharedSubscriptionAvailable x) = 42
 
+-- a property's value
 abbrev pub value_of : Property → Atom
 value_of (PayloadFormatIndicator x) = number x
 value_of (MessageExpiryInterval x) = number x

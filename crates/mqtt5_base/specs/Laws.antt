@@ -1,4 +1,4 @@
--- What the grammar promises, for every row, first byte, length and body.
+-- What the grammar promises, for every row, first byte, length and body (MQTT 5.0 sections 1.5, 2, 3 and 4.3).
 use Rattle.std.specs.Prelude.{◌≡◌, ◌↔◌, ℕ, List, length, Result, Ok, Err, ◌⊎◌, ◌≤◌, ◌<◌}
 use Rattle.std.specs.Ordering.{nat_cmp}
 use Rattle.mqtt5_base.specs.declared.error.Error.{Error}
@@ -25,6 +25,8 @@ ExactlyOne {X} Holds First =
     ((x : X) × Holds x × ((y : X) → Holds y → y ≡ x) × ((e : Error) → First e → ⊥))
     ⊎ ((e : Error) × First e × ((d : Error) → First d → d ≡ e) × ((x : X) → Holds x → ⊥))
 
+-- Reading answers what the relations say of values, property blocks, rows and frames; and of a frame exactly one of a
+-- packet's values and a fault holds (1.5, 2.2.2, 2.1 and 3).
 pub record IsGrammar : Type 0 where
   pub kinds : (k : Kind) (bs : List ℕ) → Reads (atom_at k bs) (λ x. Takes (λ front. IsKind k front x.0) bs x.1) (KindFault k bs)
   pub blocks : (table : List Entry) (bs : List ℕ) → Reads (block_at table bs) (λ x. Takes (λ front. IsBlock table front x.0) bs x.1) (BlockFault table bs)
@@ -32,7 +34,7 @@ pub record IsGrammar : Type 0 where
   pub frames : (rows : Rows) (first : ℕ) (body : List ℕ) → Reads (frame_values rows first body) (IsFrame rows first body) (FrameFault rows first body)
   pub one : (rows : Rows) (first : ℕ) (body : List ℕ) → ExactlyOne (IsFrame rows first body) (FrameFault rows first body)
 
--- the shortest bytes of a number stand for it, and are the shortest that do
+-- the shortest bytes of a number stand for it, and are the shortest that do (1.5.5)
 pub record IsShortest : Type 0 where
   pub stands : (n : ℕ) → n < 268435456 → VarInt (var_int n) n
   pub shortest : (n : ℕ) (bs : List ℕ) → VarInt bs n → length (var_int n) ≤ length bs

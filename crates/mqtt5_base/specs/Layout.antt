@@ -7,13 +7,14 @@ use Rattle.mqtt5_base.specs.VarInt.{var_int}
 use Rattle.mqtt5_base.specs.Grammar.{Kind, u8, u16, u32, varint, bytes, text, pair, Atom, number, content, couple, number_of, content_of, Entry, Found, kinds, kind_among, passes, fault_of, Value, plain, properties, atom_of, Field, one, checked, block, remainder, Condition, always, longer, set, Step, field, raw, note, judge, more, Part, choice, filled, each, Row, Group, optional, several, Content, Known, under, with_value, with_raw, cut_in}
 use Rattle.mqtt5_base.specs.Fields.{number_at_place, repeated}
 
--- ---- a packet as it is written
+-- ---- a packet as it is written (3)
 
 -- the values of steps: those that a reader doesn't keep, and those that it keeps
 pub record Written : Type 0 where
   pub raws : List Value
   pub kept : List Value
 
+-- the values of a part: of one that may be absent, or of each item of a list
 pub data WrittenGroup : Type 0 where
   one_or_none : Option Written → WrittenGroup
   listed : List Written → WrittenGroup
@@ -24,6 +25,7 @@ pub record WrittenPacket : Type 0 where
   pub head : Written
   pub groups : List WrittenGroup
 
+-- values of which each is kept
 abbrev pub just : List Value → Written
 just kept = record { raws = []; kept = kept }
 
@@ -31,18 +33,22 @@ just kept = record { raws = []; kept = kept }
 abbrev pub plainly : ℕ → List Value → WrittenPacket
 plainly first kept = record { first = first; head = just kept; groups = [] }
 
+-- what a reader keeps of a part that may be absent
 abbrev pub kept_of : Option Written → Option (List Value)
 kept_of None = None
 kept_of (Some w) = Some w.kept
 
+-- what a reader keeps of each item of a list
 abbrev pub all_kept : List Written → List (List Value)
 all_kept [] = []
 all_kept (w ∷ ws) = w.kept ∷ all_kept ws
 
+-- a part as it is read
 abbrev pub group_of : WrittenGroup → Group
 group_of (one_or_none w) = optional (kept_of w)
 group_of (listed ws) = several (all_kept ws)
 
+-- the parts as they are read
 abbrev pub groups_of : List WrittenGroup → List Group
 groups_of [] = []
 groups_of (g ∷ gs) = group_of g ∷ groups_of gs
@@ -51,16 +57,19 @@ groups_of (g ∷ gs) = group_of g ∷ groups_of gs
 abbrev pub content_of_packet : WrittenPacket → Content
 content_of_packet p = (p.head.kept, groups_of p.groups)
 
--- ---- bytes of values
+-- ---- bytes of values (1.5, 2.2.2)
 
+-- two bytes of length, and the bytes (1.5.6)
 abbrev pub with_length : List ℕ → List ℕ
 with_length bs = to_be_bytes w16 (length bs) ++ bs
 
+-- the bytes of binary data, of a text, or of two texts (1.5.4, 1.5.6, 1.5.7)
 abbrev pub content_bytes : Atom → List ℕ
 content_bytes (number n) = []
 content_bytes (content c) = with_length c
 content_bytes (couple a b) = with_length a ++ with_length b
 
+-- the bytes of a value of a kind (1.5)
 abbrev pub atom_bytes : Kind → Atom → List ℕ
 atom_bytes u8 a = number_of a ∷ []
 atom_bytes u16 a = to_be_bytes w16 (number_of a)
@@ -70,44 +79,48 @@ atom_bytes bytes a = content_bytes a
 atom_bytes text a = content_bytes a
 atom_bytes pair a = content_bytes a
 
--- each value behind its identifier
+-- the bytes of values, each behind its identifier (2.2.2.2)
 abbrev pub tagged : ℕ → Kind → List Atom → List ℕ
 tagged id k [] = []
 tagged id k (a ∷ here) = id ∷ atom_bytes k a ++ tagged id k here
 
+-- the same of an identifier that may have no kind
 abbrev pub tagged_by : ℕ → Option Kind → List Atom → List ℕ
 tagged_by id None here = []
 tagged_by id (Some k) here = tagged id k here
 
--- the properties in the table's order
+-- the bytes of the properties, in the table's order (2.2.2.2)
 abbrev pub items_bytes : List Entry → Found → List ℕ
 items_bytes [] found = []
 items_bytes (e ∷ es) [] = []
 items_bytes (e ∷ es) (here ∷ found) = tagged_by e.id (kind_among kinds e.id) here ++ items_bytes es found
 
+-- the length of the items, and the items; of an absent set the length 0 (2.2.2.1)
 abbrev pub block_bytes : List Entry → Option Found → List ℕ
 block_bytes table None = 0 ∷ []
 block_bytes table (Some found) = var_int (length (items_bytes table found)) ++ items_bytes table found
 
+-- the property set of a value, if it has one
 abbrev pub found_of : Value → Option Found
 found_of (plain a) = None
 found_of (properties p) = p
 
--- a value that its field refuses has no bytes
+-- the bytes of a field; a value that the field refuses has none
 abbrev pub field_bytes : Field → Value → List ℕ
 field_bytes (one k) v = atom_bytes k (atom_of v)
 field_bytes (checked k t w) v = if passes t (atom_of v) then atom_bytes k (atom_of v) else []
 field_bytes (block table) v = block_bytes table (found_of v)
 field_bytes remainder v = content_of (atom_of v)
 
--- ---- bytes of rows
+-- ---- bytes of rows (3)
 
--- a short body leaves out what a reader of a short body does without
+-- whether a field is written: a short body leaves out what a reader of a short body does without
 abbrev pub is_written : Bool → Known → Condition → Bool
 is_written short known always = true
 is_written short known (longer n) = not short
 is_written short known (set c) = nat_lt 0 (number_of (cut_in known c))
 
+-- the bytes of the fields in order, each where it is written
 abbrev pub steps_bytes : Bool → List Step → Known → List Value → List Value → List ℕ
 steps_bytes short [] known raws kept = []
 steps_bytes short (field c f d ∷ steps) known raws [] = []
@@ -131,23 +144,28 @@ in_order (note c ∷ steps) raws (v ∷ kept) = v ∷ in_order steps raws kept
 in_order (judge c s t w ∷ steps) raws kept = in_order steps raws kept
 in_order (more w ∷ steps) raws kept = in_order steps raws kept
 
+-- the bytes of steps of their own, under a number
 abbrev pub written_bytes : List Step → ℕ → Written → List ℕ
 written_bytes steps n w = steps_bytes false steps (under n 0) w.raws w.kept
 
+-- the same of a part that may be absent
 abbrev pub optional_bytes : List Step → ℕ → Option Written → List ℕ
 optional_bytes steps n None = []
 optional_bytes steps n (Some w) = written_bytes steps n w
 
+-- the same of each item of a list
 abbrev pub listed_bytes : List Step → List Written → List ℕ
 listed_bytes steps [] = []
 listed_bytes steps (w ∷ ws) = written_bytes steps 0 w ++ listed_bytes steps ws
 
+-- the bytes of a part
 abbrev pub part_bytes : Part → List Value → WrittenGroup → List ℕ
 part_bytes (choice k c off on) values (one_or_none w) = optional_bytes on (number_at_place values k) w
 part_bytes (filled k steps) values (one_or_none w) = optional_bytes steps (number_at_place values k) w
 part_bytes (each f steps) values (listed ws) = listed_bytes (repeated f steps) ws
 part_bytes p values g = []
 
+-- the bytes of the parts in order
 abbrev pub parts_bytes : List Part → List Value → List WrittenGroup → List ℕ
 parts_bytes [] values gs = []
 parts_bytes (p ∷ ps) values [] = []
@@ -170,13 +188,16 @@ is_spare (judge c s t w ∷ steps) raws kept = is_spare steps raws kept
 is_spare (more w ∷ steps) raws kept = is_spare steps raws kept
 is_spare steps raws kept = false
 
+-- whether a body is written short (3.4.2.1, 3.14.2.1)
 abbrev pub is_short : Row → WrittenPacket → Bool
 is_short row p = if row.brief then is_spare row.steps p.head.raws p.head.kept else false
 
+-- the bytes of a packet's steps and parts (3)
 abbrev pub body_bytes : Row → WrittenPacket → List ℕ
 body_bytes row p =
     steps_bytes (is_short row p) row.steps (under p.first 0) p.head.raws p.head.kept ++ parts_bytes row.parts (in_order row.steps p.head.raws p.head.kept) p.groups
 
+-- the first byte, the remaining length and the body (2.1)
 abbrev pub frame_of : ℕ → List ℕ → List ℕ
 frame_of first body = first ∷ var_int (length body) ++ body
 
@@ -184,48 +205,56 @@ frame_of first body = first ∷ var_int (length body) ++ body
 abbrev pub layout : Row → WrittenPacket → List ℕ
 layout row p = frame_of p.first (body_bytes row p)
 
--- ---- what can be written
+-- ---- what can be written (1.5, 2.2.2, 3)
 
+-- a length that goes into two bytes (1.5.4, 1.5.6)
 abbrev pub fits_two_bytes : List ℕ → Bool
 fits_two_bytes bs = nat_lt (length bs) 65536
 
+-- a number that goes into a variable byte integer (1.5.5)
 abbrev pub fits_var_int : ℕ → Bool
 fits_var_int n = nat_lt n 268435456
 
--- no text or bytes of over 65,535 bytes, no number over 268,435,455 as a variable byte integer
+-- no text or bytes of over 65,535 bytes, no number over 268,435,455 as a variable byte integer (1.5)
 abbrev pub atom_fits : Kind → Atom → Bool
 atom_fits varint a = fits_var_int (number_of a)
 atom_fits k (number n) = true
 atom_fits k (content c) = fits_two_bytes c
 atom_fits k (couple a b) = if fits_two_bytes a then fits_two_bytes b else false
 
+-- whether each of the values fits
 abbrev pub all_fit : Kind → List Atom → Bool
 all_fit k [] = true
 all_fit k (a ∷ here) = if atom_fits k a then all_fit k here else false
 
+-- the same of an identifier that may have no kind
 abbrev pub all_fit_by : Option Kind → List Atom → Bool
 all_fit_by None here = true
 all_fit_by (Some k) here = all_fit k here
 
+-- whether each property fits
 abbrev pub items_fit : List Entry → Found → Bool
 items_fit [] found = true
 items_fit (e ∷ es) [] = true
 items_fit (e ∷ es) (here ∷ found) = if all_fit_by (kind_among kinds e.id) here then items_fit es found else false
 
+-- whether each property fits, and the length of the items (2.2.2.1)
 abbrev pub block_fits : List Entry → Option Found → Bool
 block_fits table None = true
 block_fits table (Some found) = if items_fit table found then fits_var_int (length (items_bytes table found)) else false
 
--- a block's bytes, or why it isn't writable
+-- a block's bytes, or why it isn't writable (2.2.2)
 abbrev pub block_writing : List Entry → Option Found → Result (List ℕ) Error
 block_writing table p = if block_fits table p then Ok (block_bytes table p) else Err PayloadTooLong
 
+-- whether a field's value fits
 abbrev pub field_fits : Field → Value → Bool
 field_fits (one k) v = atom_fits k (atom_of v)
 field_fits (checked k t w) v = atom_fits k (atom_of v)
 field_fits (block table) v = block_fits table (found_of v)
 field_fits remainder v = true
 
+-- whether the value of each step fits
 abbrev pub steps_fit : List Step → List Value → List Value → Bool
 steps_fit (field c f d ∷ steps) raws (v ∷ kept) = if field_fits f v then steps_fit steps raws kept else false
 steps_fit (raw k ∷ steps) (v ∷ raws) kept = if atom_fits k (atom_of v) then steps_fit steps raws kept else false
@@ -234,6 +263,7 @@ steps_fit (judge c s t w ∷ steps) raws kept = steps_fit steps raws kept
 steps_fit (more w ∷ steps) raws kept = steps_fit steps raws kept
 steps_fit steps raws kept = true
 
+-- the same of steps of their own
 abbrev pub written_fits : List Step → Written → Bool
 written_fits steps w = steps_fit steps w.raws w.kept
 
@@ -241,25 +271,29 @@ written_fits steps w = steps_fit steps w.raws w.kept
 abbrev pub steps_writing : List Step → ℕ → Written → Result (List ℕ) Error
 steps_writing steps n w = if written_fits steps w then Ok (written_bytes steps n w) else Err PayloadTooLong
 
+-- the same of a part that may be absent
 abbrev pub optional_fits : List Step → Option Written → Bool
 optional_fits steps None = true
 optional_fits steps (Some w) = written_fits steps w
 
+-- the same of each item of a list
 abbrev pub listed_fit : List Step → List Written → Bool
 listed_fit steps [] = true
 listed_fit steps (w ∷ ws) = if written_fits steps w then listed_fit steps ws else false
 
+-- whether the values of a part fit
 abbrev pub part_fits : Part → WrittenGroup → Bool
 part_fits (choice k c off on) (one_or_none w) = optional_fits on w
 part_fits (filled k steps) (one_or_none w) = optional_fits steps w
 part_fits (each f steps) (listed ws) = listed_fit (repeated f steps) ws
 part_fits p g = true
 
+-- whether the values of each part fit
 abbrev pub parts_fit : List Part → List WrittenGroup → Bool
 parts_fit (p ∷ ps) (g ∷ gs) = if part_fits p g then parts_fit ps gs else false
 parts_fit ps gs = true
 
--- each value fits, and so does the remaining length
+-- each value fits, and so does the remaining length (2.1.4)
 abbrev pub fits : Row → WrittenPacket → Bool
 fits row p =
     if steps_fit row.steps p.head.raws p.head.kept then (if parts_fit row.parts p.groups then fits_var_int (length (body_bytes row p)) else false) else false

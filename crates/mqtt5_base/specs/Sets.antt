@@ -3,6 +3,7 @@ use Rattle.std.specs.Prelude.{◌≡◌, ◌<◌, ◌++◌, Bool, true, false, n
 use Rattle.std.specs.Str.{is_utf8}
 use Rattle.mqtt5_base.specs.Grammar.{Kind, u8, u16, u32, varint, bytes, text, pair, Atom, number, content, couple, Entry, Found, allows, kinds, kind_among}
 
+-- what the type of a field says of its value
 abbrev pub AtomIs : Kind → Atom → Type 0
 AtomIs u8 (number n) = Unit {0}
 AtomIs u16 (number n) = n < 65536
@@ -13,10 +14,12 @@ AtomIs text (content c) = is_utf8 c ≡ true
 AtomIs pair (couple a b) = (is_utf8 a ≡ true) × (is_utf8 b ≡ true)
 AtomIs _ _ = ⊥
 
+-- the same of each value
 abbrev pub AtomsAre : Kind → List Atom → Type 0
 AtomsAre k [] = Unit {0}
 AtomsAre k (a ∷ here) = AtomIs k a × AtomsAre k here
 
+-- the same of an identifier that may have no kind
 abbrev pub AtomsAreBy : Option Kind → List Atom → Type 0
 AtomsAreBy None here = ⊥
 AtomsAreBy (Some k) here = AtomsAre k here
@@ -34,12 +37,14 @@ pub record IsIn (e : Entry) (here : List Atom) : Type 0 where
   pub adds : Adds e.many [] here
   pub are : AtomsAreBy (kind_among kinds e.id) here
 
+-- each property has values that it may have
 abbrev pub IsSetOf : List Entry → Found → Type 0
 IsSetOf [] [] = Unit {0}
 IsSetOf [] (here ∷ found) = ⊥
 IsSetOf (e ∷ es) [] = ⊥
 IsSetOf (e ∷ es) (here ∷ found) = IsIn e here × IsSetOf es found
 
+-- the same of a set that may be absent
 abbrev pub IsBlockOf : List Entry → Option Found → Type 0
 IsBlockOf table None = Unit {0}
 IsBlockOf table (Some g) = IsSetOf table g

@@ -8,6 +8,7 @@ no_items [] = true
 no_items ([] ∷ found) = no_items found
 no_items ((a ∷ here) ∷ found) = false
 
+-- a set as it is read again
 abbrev pub tidy : {P : Type 0} → (P → Found) → Option P → Option P
 tidy found None = None
 tidy found (Some p) = if no_items (found p) then None else Some p

@@ -8,25 +8,26 @@ use Rattle.mqtt5_base.specs.Grammar.{is_among}
 abbrev pub levels : List ℕ → List (List ℕ)
 levels t = slice_split (λ b. b == 47) t
 
--- the wildcards `+` and `#` (4.7.1.2, 4.7.1.3)
+-- the single-level wildcard `+` (4.7.1.3)
 abbrev pub plus : List ℕ
 plus = 43 ∷ []
 
+-- the multi-level wildcard `#` (4.7.1.2)
 abbrev pub hash : List ℕ
 hash = 35 ∷ []
 
--- a level `+` of a filter covers each level but `#`, another an equal one
+-- a level `+` of a filter covers each level but `#`, another an equal one (4.7.1.3)
 abbrev pub covers : List ℕ → List ℕ → Bool
 covers f t = if bytes_eq f plus then not (bytes_eq t hash) else bytes_eq f t
 
--- levels of a topic match levels of a filter; `#` matches all that is left, also nothing
+-- levels of a topic match levels of a filter; `#` matches all that is left, also nothing (4.7.1.2)
 abbrev pub match_levels : List (List ℕ) → List (List ℕ) → Bool
 match_levels [] [] = true
 match_levels (t ∷ ts) [] = false
 match_levels [] (f ∷ fs) = bytes_eq f hash
 match_levels (t ∷ ts) (f ∷ fs) = bytes_eq f hash || (covers f t && match_levels ts fs)
 
--- whether a text has one of them
+-- whether a text has one of the two (4.7.1)
 abbrev pub has_wildcards : List ℕ → Bool
 has_wildcards t = is_among t 43 || is_among t 35
 
@@ -39,7 +40,8 @@ abbrev pub is_reserved : List ℕ → Bool
 is_reserved [] = false
 is_reserved (b ∷ bs) = b == 36
 
--- a reserved topic matches no filter, another one where its levels do (4.7.1, 4.7.2)
+-- A reserved topic matches no filter, where 4.7.2 keeps it from those alone that start with a wildcard; another one
+-- matches where its levels do (4.7.1).
 abbrev pub topic_matches : List ℕ → List ℕ → Bool
 topic_matches topic filter = if is_reserved topic then false else match_levels (levels topic) (levels filter)
 
@@ -51,7 +53,7 @@ stands_alone l = not (has_wildcards l) || length l == 1
 abbrev pub is_inner : List ℕ → Bool
 is_inner l = not (is_among l 35) && stands_alone l
 
--- each level before the last is an inner one, and in the last a wildcard stands alone
+-- each level before the last is an inner one, and in the last a wildcard stands alone (4.7.1)
 abbrev pub are_valid : List (List ℕ) → Bool
 are_valid [] = true
 are_valid (l ∷ []) = stands_alone l

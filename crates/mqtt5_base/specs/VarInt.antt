@@ -16,6 +16,7 @@ sevens (b ∷ bs) = b % 128 + 128 * sevens bs
 abbrev pub VarInt : List ℕ → ℕ → Type 0
 VarInt bs n = (length bs ≤ 4) × IsEnded bs × (n ≡ sevens bs)
 
+-- the shortest bytes of a number, with so many at most before the last
 abbrev pub var_int_in : ℕ → ℕ → List ℕ
 var_int_in zero n = n ∷ []
 var_int_in (suc k) n = if nat_lt n 128 then n ∷ [] else (n % 128 + 128) ∷ var_int_in k (n / 128)
@@ -31,12 +32,13 @@ pub data Length : Type 0 where
   Unfinished : Length
   Finished : (count n : ℕ) → Length
 
+-- the same with a byte in front that says that another follows
 abbrev pub after_byte : ℕ → Length → Length
 after_byte b Overlong = Overlong
 after_byte b Unfinished = Unfinished
 after_byte b (Finished count n) = Finished (count + 1) (b % 128 + 128 * n)
 
--- the same of so many bytes at most
+-- what stands at the front, of which so many bytes at most are looked at
 unfoldable pub length_at : ℕ → List ℕ → Length
 length_at zero bs = Overlong
 length_at (suc most) [] = Unfinished

@@ -9,7 +9,7 @@ use std::alloc::{AllocError, AllocFailed};
 /// is never answered.
 #[derive(Debug, PartialEq, Eq, Drop, thiserror::Error)]
 pub enum Error {
-    /// E1: a reason code that the packet doesn't have, or that is never written.
+    /// E1: a reason code that the packet doesn't have, or that is never written; its number.
     #[error("Invalid return code received as response for connect = {0}")]
     InvalidConnectReturnCode(u8),
     /// Never answered.
@@ -21,13 +21,13 @@ pub enum Error {
     /// E2: the protocol name isn't `MQTT`.
     #[error("Invalid protocol used")]
     InvalidProtocol,
-    /// E3: the protocol version isn't 5.
+    /// E3: the protocol version isn't 5, but this.
     #[error("Invalid protocol level")]
     InvalidProtocolLevel(u8),
     /// E4: flags of a will without a will.
     #[error("Invalid packet format")]
     IncorrectPacketFormat,
-    /// E5: a packet type that isn't read.
+    /// E5: a packet type that isn't read; its number.
     #[error("Invalid packet type = {0}")]
     InvalidPacketType(u8),
     /// E6: a retain handling option of 3.
@@ -36,7 +36,7 @@ pub enum Error {
     /// E7: a QoS of 3.
     #[error("Invalid QoS level = {0}")]
     InvalidQoS(u8),
-    /// E8: a reason code that a SubAck or UnsubAck doesn't have.
+    /// E8: a reason code that a SubAck or UnsubAck doesn't have; its number.
     #[error("Invalid subscribe reason code = {0}")]
     InvalidSubscribeReasonCode(u8),
     /// E9: a publish of QoS 1 or 2 with packet identifier 0.
@@ -55,7 +55,7 @@ pub enum Error {
     /// variable byte integer.
     #[error("Payload is too long")]
     PayloadTooLong,
-    /// E12: a remaining length over the limit.
+    /// E12: a remaining length, in `pkt_size`, over the limit.
     #[error("Max Payload size of {max:?} has been exceeded by packet of {pkt_size:?} bytes")]
     PayloadSizeLimitExceeded { pkt_size: usize, max: u32 },
     /// E13: a packet without a body, of a type that needs one.
@@ -67,7 +67,7 @@ pub enum Error {
     /// E14: a text that isn't UTF-8.
     #[error("Topic not utf-8")]
     TopicNotUtf8,
-    /// E15: fewer bytes than the length before them says.
+    /// E15: fewer bytes than the length before them says; that length.
     #[error("Promised boundary crossed, contains {0} bytes")]
     BoundaryCrossed(usize),
     /// E16: a number cut short, a reserved flag of a Disconnect, a reason code that an Auth
@@ -77,7 +77,7 @@ pub enum Error {
     /// E17: a variable byte integer whose fourth byte says that another follows.
     #[error("Remaining length is malformed")]
     MalformedRemainingLength,
-    /// E18: a property that is unknown or that the packet doesn't have.
+    /// E18: a property that is unknown or that the packet doesn't have; its identifier.
     #[error("Invalid property type = {0}")]
     InvalidPropertyType(u8),
     /// E19: the frame isn't whole; so many bytes are missing, or more.
@@ -86,7 +86,7 @@ pub enum Error {
     /// Never answered.
     #[error("IO")]
     Io,
-    /// E20: a packet that is over the outgoing limit.
+    /// E20: a packet that is over the outgoing limit; its size, or the greatest `u32` where it is more.
     #[error("Cannot send packet of size '{pkt_size:?}'. It's greater than the broker's maximum packet size of: '{max:?}'")]
     OutgoingPacketTooLarge { pkt_size: u32, max: u32 },
     /// E21: memory that was asked for was refused.

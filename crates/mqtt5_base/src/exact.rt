@@ -96,7 +96,7 @@ impl<T: Exact> Exact for Sequence<T> {
     ghost sound = { list_sound T.sound };
 }
 
-/// A clone, which is the same value.
+/// A clone, which is the same value. Err where memory is refused.
 pub fn copied<T: Exact>(value: &T) -> Result<T, AllocError>
     ensures { IfOk result (λ copy. copy ≡ value.now) }
 {

@@ -12,7 +12,7 @@ use crate::text::Text;
 use bytes::{Buf, Bytes};
 use std::alloc::Global;
 
-/// A one byte integer. E16 where there is no byte.
+/// A one byte integer. E16 where there is no byte, and nothing is taken.
 pub fn read_u8(stream: &mut Bytes) -> Result<u8, Error>
     ensures read { Gives (λ n. (n, stream.new)) result (number_at w8 stream.old) }
     ensures kept { OnErr result (stream.new ≡ stream.old) }
@@ -23,7 +23,7 @@ pub fn read_u8(stream: &mut Bytes) -> Result<u8, Error>
     Ok(stream.get_u8())
 }
 
-/// A two byte integer, the high byte first. E16 where it is cut short.
+/// A two byte integer, the high byte first. E16 where it is cut short, and nothing is taken.
 pub fn read_u16(stream: &mut Bytes) -> Result<u16, Error>
     ensures read { Gives (λ n. (n, stream.new)) result (number_at w16 stream.old) }
     ensures kept { OnErr result (stream.new ≡ stream.old) }
@@ -34,7 +34,7 @@ pub fn read_u16(stream: &mut Bytes) -> Result<u16, Error>
     Ok(stream.get_u16())
 }
 
-/// A four byte integer, the high byte first. E16 where it is cut short.
+/// A four byte integer, the high byte first. E16 where it is cut short, and nothing is taken.
 pub fn read_u32(stream: &mut Bytes) -> Result<u32, Error>
     ensures read { Gives (λ n. (n, stream.new)) result (number_at w32 stream.old) }
     ensures kept { OnErr result (stream.new ≡ stream.old) }
@@ -61,7 +61,7 @@ fn front_bytes(stream: &Bytes) -> Result<Bytes, Error>
 }
 
 /// A two byte length and that many bytes, cut from the stream. E16 where the length is cut short,
-/// E15 with the length where fewer bytes are there, E21.
+/// E15 with the length where fewer bytes are there, E21. After a refusal the bytes are unchanged.
 pub fn read_bytes(stream: &mut Bytes) -> Result<Bytes, Error>
     ensures read { Gives (λ b. (b, stream.new)) result (bytes_at stream.old) }
     ensures kept { OnErr result (stream.new ≡ stream.old) }
@@ -71,7 +71,9 @@ pub fn read_bytes(stream: &mut Bytes) -> Result<Bytes, Error>
     Ok(content)
 }
 
-/// A text, as `read_bytes`. E14 where the bytes aren't UTF-8.
+/// A text: a two byte length and that many bytes. E16 where the length is cut short, E15 with the
+/// length where fewer bytes are there, E14 where they aren't UTF-8, E21. After a refusal the bytes are
+/// unchanged.
 #[tactic(auto, using(crate::proofs::Utf8Lemmas::utf8), unfolding(crate::specs::Reading::text_at))]
 pub fn read_text(alloc: Global, stream: &mut Bytes) -> Result<Text, Error>
     ensures read { Gives (λ t. (t.bytes, stream.new)) result (text_at stream.old) }
@@ -112,8 +114,8 @@ pub(crate) fn varint_in(bytes: &[u8], most: u8) -> Result<(usize, usize), Error>
     }
 }
 
-/// A variable byte integer. E16 where it is cut short, E17 where its fourth byte says that another
-/// follows.
+/// A variable byte integer of one to four bytes, also where fewer would do. E16 where it is cut short,
+/// E17 where its fourth byte says that another follows. After a refusal the bytes are unchanged.
 #[tactic(auto, unfolding(crate::specs::Reading::var_int_at))]
 pub fn read_varint(stream: &mut Bytes) -> Result<usize, Error>
     ensures read { Gives (λ n. (n, stream.new)) result (var_int_at stream.old) }

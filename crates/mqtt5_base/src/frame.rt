@@ -18,8 +18,8 @@ pub fn frame_size(body_len: usize) -> usize
         .saturating_add(1)
 }
 
-/// Makes room for a frame and appends its first byte and its remaining length; answers the length of
-/// the whole frame. E21, and then the bytes are unchanged.
+/// Makes room for a frame and appends its first byte and its remaining length, at most 268,435,455;
+/// answers the length of the whole frame. E21; then the bytes are unchanged.
 pub fn start_frame(first: u8, body_len: usize, out: &mut BytesMut) -> Result<usize, Error>
     requires { body_len < 268435456 }
     ensures { Starts first body_len result out.old out.new }

@@ -4,7 +4,7 @@ ghost use Rattle.std.specs.Prelude.{◌≡◌, ◌+◌, ◌/◌, ◌<◌, ◌^�
 
 use crate::error::Error;
 
-/// The packet types (MQTT 5.0 section 2.1.2).
+/// The packet types, with the numbers 1 to 15 in this order (MQTT 5.0 section 2.1.2).
 #[derive(Debug, Clone, Copy, PartialEq, Eq)]
 pub enum PacketType {
     Connect = 1,
@@ -40,7 +40,7 @@ impl FixedHeader {
     ghost use Rattle.mqtt5_base.specs.Headers.{IsType, frame_len};
 
     /// A header of this first byte, whose remaining length stands in `remaining_len_len` bytes and
-    /// says `remaining_len`.
+    /// says `remaining_len`. With the first byte they are less than 2^64.
     pub fn new(byte1: u8, remaining_len_len: usize, remaining_len: usize) -> FixedHeader
         requires { 1 + remaining_len_len + remaining_len < 2 ^ 64 }
         ensures first { result.byte1 ≡ byte1 }

@@ -8,7 +8,8 @@ pub fn grammar_laws()
     ensures { IsGrammar }
 {}
 
-/// The shortest form of a variable byte integer stands for its number, and no shorter bytes do.
+/// The shortest form of a variable byte integer stands for its number, up to 268,435,455, and no shorter
+/// bytes do.
 pub fn shortest_form()
     ensures { IsShortest }
 {}

@@ -9,7 +9,7 @@ ghost use Rattle.mqtt5_base.specs.Views.{qos_number};
 use crate::error::Error;
 use crate::quality::QoS;
 
-/// The QoS of a number, which is 0, 1 or 2.
+/// The QoS of a number, which is 0, 1 or 2; None of another.
 pub fn qos(num: u8) -> Option<QoS>
     ensures known { IsSome result ↔ (num < 3) }
     ensures number { IfSome result (λ q. qos_number q ≡ num) }

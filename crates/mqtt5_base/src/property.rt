@@ -15,35 +15,63 @@ use crate::value::{FieldValue, varint_len};
 use bytes::{Bytes, BytesMut};
 use std::alloc::{AllocError, Global};
 
-/// A property of a block, with its value (MQTT 5.0 section 2.2.2.2).
+/// A property of a block, with its value (MQTT 5.0 section 2.2.2.2). Each says its identifier, and what
+/// its value is or counts. No number is judged.
 #[derive(Debug, Drop)]
 pub enum Property {
+    /// 1: 0 where the payload is bytes, 1 where it is UTF-8.
     PayloadFormatIndicator(u8),
+    /// 2: seconds.
     MessageExpiryInterval(u32),
+    /// 3.
     ContentType(Text),
+    /// 8: a topic.
     ResponseTopic(Text),
+    /// 9.
     CorrelationData(Bytes),
+    /// 11: written up to 268,435,455.
     SubscriptionIdentifier(usize),
+    /// 17: seconds.
     SessionExpiryInterval(u32),
+    /// 18.
     AssignedClientIdentifier(Text),
+    /// 19: seconds.
     ServerKeepAlive(u16),
+    /// 21.
     AuthenticationMethod(Text),
+    /// 22.
     AuthenticationData(Bytes),
+    /// 23: 0 or 1.
     RequestProblemInformation(u8),
+    /// 24: seconds.
     WillDelayInterval(u32),
+    /// 25: 0 or 1.
     RequestResponseInformation(u8),
+    /// 26.
     ResponseInformation(Text),
+    /// 28.
     ServerReference(Text),
+    /// 31.
     ReasonString(Text),
+    /// 33: publishes of QoS 1 and 2.
     ReceiveMaximum(u16),
+    /// 34: the greatest alias.
     TopicAliasMaximum(u16),
+    /// 35.
     TopicAlias(u16),
+    /// 36: 0 or 1.
     MaximumQos(u8),
+    /// 37: 0 or 1.
     RetainAvailable(u8),
+    /// 38: a name and a value.
     UserProperty(Text, Text),
+    /// 39: bytes.
     MaximumPacketSize(u32),
+    /// 40: 0 or 1.
     WildcardSubscriptionAvailable(u8),
+    /// 41: 0 or 1.
     SubscriptionIdentifierAvailable(u8),
+    /// 42: 0 or 1.
     SharedSubscriptionAvailable(u8),
 }
 
@@ -103,11 +131,13 @@ pub trait PropertySet: Drop {
     fn may_have(id: u8) -> bool
         ensures { result ≡ allows table id };
 
-    /// Adds an item that was read; one that isn't of the set changes nothing.
+    /// Adds an item that was read: to a list at its end, else in place of the last value. One that isn't
+    /// of the set changes nothing. Err where memory is refused; of the set nothing is said then.
     fn add(&mut self, property: Property) -> Result<(), AllocError>
         ensures { OnOk result (found self.new ≡ with_item table (id_of property) (value_of property) (found self.old)) };
 
-    /// Whether each of its values can be written.
+    /// Whether each of its values can be written: no text or bytes are over 65,535 bytes, and no
+    /// subscription identifier is over 268,435,455.
     fn set_fits(&self) -> bool
         ensures { result ≡ items_fit table (found self.now) };
 
@@ -115,13 +145,13 @@ pub trait PropertySet: Drop {
     fn set_len(&self) -> usize
         ensures { result ≡ min (length (items_bytes table (found self.now))) usize.MAX };
 
-    /// Appends its items.
+    /// Appends its items, which can be written, in room that is there.
     fn put_set(&self, out: &mut BytesMut)
         requires fits { items_fit table (found self.now) ≡ true }
         requires room { length (items_bytes table (found self.now)) ≤ out.old.spare }
         ensures { Puts out.old out.new (items_bytes table (found self.now)) };
 
-    /// Says of its values what the types of its fields do.
+    /// Says of its values what the types of its fields do. A law: it changes nothing.
     fn set_known(&self)
         ensures { IsSetOf table (found self.now) };
 }
@@ -136,7 +166,8 @@ pub trait PropertyBlock: Drop {
 
     /// The set of the block at the front, or None of a block of length 0, and takes the block out.
     /// E16 or E17 of the length, E15 with the length where fewer bytes are there, else the fault of
-    /// the first item that can't be read; E21. After a refusal the bytes are unchanged.
+    /// the first item that can't be read: E18 of its identifier, E14 to E17 of its value; E21. After a
+    /// refusal the bytes are unchanged.
     fn read(alloc: Global, stream: &mut Bytes) -> Result<Option<Self>, Error>
         ensures read { Gives (λ p. (option_map values p, stream.new)) result (block_at entries stream.old) }
         ensures kept { OnErr result (stream.new ≡ stream.old) };
@@ -190,9 +221,10 @@ fn read_items<P: PropertySet>(alloc: Global, set: &mut P, mut block: Bytes) -> R
     Ok(())
 }
 
-/// A block: the length of its items, and the items. E16 or E17 of the length, E15 with the length
-/// where fewer bytes are there, else the fault of the first item that can't be read; E21. After a
-/// refusal the bytes are unchanged.
+/// A block: the length of its items, and the items; None where the length is 0. E16 or E17 of the
+/// length, E15 with the length where fewer bytes are there, else the fault of the first item that can't
+/// be read: E18 of its identifier, E14 to E17 of its value; E21. After a refusal the bytes are
+/// unchanged.
 #[tactic(auto, unfolding(crate::specs::Reading::block_at))]
 pub fn read_block<P: PropertySet>(alloc: Global, stream: &mut Bytes) -> Result<Option<P>, Error>
     ensures read { Gives (λ p. (option_map P.found p, stream.new)) result (block_at P.table stream.old) }
@@ -214,7 +246,8 @@ pub fn read_block<P: PropertySet>(alloc: Global, stream: &mut Bytes) -> Result<O
     Ok(Some(set))
 }
 
-/// Whether a block can be written.
+/// Whether a block can be written: each value can, and its items take no more than 268,435,455 bytes.
+/// One that is absent can.
 pub fn block_fits<P: PropertySet>(properties: &Option<P>) -> bool
     ensures { result ≡ block_fits P.table (option_map P.found properties.now) }
 {
@@ -238,7 +271,7 @@ pub fn block_len<P: PropertySet>(properties: &Option<P>) -> usize
     }
 }
 
-/// Appends a block; one that is absent is a length of 0.
+/// Appends a block that can be written, in room that is there; one that is absent is a length of 0.
 pub fn put_block<P: PropertySet>(properties: &Option<P>, out: &mut BytesMut)
     requires fits { block_fits P.table (option_map P.found properties.now) ≡ true }
     requires room { length (block_bytes P.table (option_map P.found properties.now)) ≤ out.old.spare }
@@ -253,7 +286,7 @@ pub fn put_block<P: PropertySet>(properties: &Option<P>, out: &mut BytesMut)
     }
 }
 
-/// Says of a block's values what the types of its fields do.
+/// Says of a block's values what the types of its fields do. A law: it changes nothing.
 pub fn block_known<P: PropertySet>(properties: &Option<P>)
     ensures { IsBlockOf P.table (option_map P.found properties.now) }
 {

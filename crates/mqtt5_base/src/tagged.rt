@@ -31,13 +31,13 @@ pub trait Tagged {
     fn values_len(&self, id: u8) -> usize
         ensures { result ≡ min (length (tagged id kind (atoms self.now))) usize.MAX };
 
-    /// Appends each behind the identifier.
+    /// Appends each behind the identifier, where each can be written, in room that is there.
     fn put_values(&self, id: u8, out: &mut BytesMut)
         requires fits { all_fit kind (atoms self.now) ≡ true }
         requires room { length (tagged id kind (atoms self.now)) ≤ out.old.spare }
         ensures { Puts out.old out.new (tagged id kind (atoms self.now)) };
 
-    /// Says of the values what their types do.
+    /// Says of the values what their types do. A law: it changes nothing.
     fn values_known(&self)
         ensures adds { Adds many [] (atoms self.now) }
         ensures are { AtomsAre kind (atoms self.now) };

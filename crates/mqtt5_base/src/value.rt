@@ -26,7 +26,8 @@ pub trait FieldValue {
     /// The value as the grammar has it.
     ghost atom: { Self → Atom };
 
-    /// Whether it can be written.
+    /// Whether it can be written: a text and bytes up to 65,535 bytes, a variable byte integer up to
+    /// 268,435,455, every other number.
     fn fits(&self) -> bool
         ensures { result ≡ atom_fits kind (atom self.now) };
 
@@ -34,13 +35,13 @@ pub trait FieldValue {
     fn field_len(&self) -> usize
         ensures { result ≡ min (length (atom_bytes kind (atom self.now))) usize.MAX };
 
-    /// Appends it.
+    /// Appends it, where it can be written, in room that is there.
     fn put_field(&self, out: &mut BytesMut)
         requires fits { atom_fits kind (atom self.now) ≡ true }
         requires room { length (atom_bytes kind (atom self.now)) ≤ out.old.spare }
         ensures { Puts out.old out.new (atom_bytes kind (atom self.now)) };
 
-    /// Says of the value what its type does.
+    /// Says of the value what its type does. A law: it changes nothing.
     fn known(&self)
         ensures { AtomIs kind (atom self.now) };
 }

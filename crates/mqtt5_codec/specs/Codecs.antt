@@ -1,4 +1,4 @@
--- What reading a packet from a stream and writing one to a buffer answer.
+-- What reading a packet from a stream answers, and what it leaves of the stream (MQTT 5.0 section 2.1).
 use Rattle.std.specs.Prelude.{◌≡◌, ℕ, List, take, drop, Option, Some, None, Result, Ok, Err, ◌⊎◌}
 use Rattle.bytes.specs.Filled.{Filled}
 use Rattle.mqtt5_base.specs.declared.error.Error.{Error}
@@ -31,6 +31,8 @@ abbrev pub Reserves : Result (Option Packet) Error → Filled → Filled → Typ
 Reserves (Ok None) old new = new ≡ old
 Reserves (Ok (Some p)) old new = Unit {0}
 Reserves (Err e) old new = Unit {0}
+
+-- ---- The rest of this file serves the logic alone.
 
 -- A frame of so many bytes was taken out and read, or, for want of memory, perhaps neither.
 abbrev pub TakesFrame : ℕ → Result Packet Error → List ℕ → List ℕ → Type 0

@@ -1,4 +1,4 @@
--- What the reading of whole frames promises.
+-- What the reading of whole frames promises (MQTT 5.0 sections 2.1 and 3).
 use Rattle.std.specs.Prelude.{ℕ, List}
 use Rattle.mqtt5_base.specs.Frames.{IsWhole}
 use Rattle.mqtt5_base.specs.Laws.{Reads, ExactlyOne}

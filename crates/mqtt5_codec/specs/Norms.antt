@@ -1,4 +1,4 @@
--- What a packet is read as after it was written.
+-- What a packet is read as after it was written (MQTT 5.0 sections 2.2 and 3).
 use Rattle.std.specs.Prelude.{◌≡◌, ℕ, ◌≤◌, List, ◌++◌, length, Option, Some, None, Ok}
 use Rattle.mqtt5_base.specs.Front.{Whole, front}
 use Rattle.mqtt5_base.specs.Layout.{body_bytes}
@@ -10,8 +10,8 @@ use Rattle.mqtt5_codec.specs.declared.packet.Packet.{Packet}
 use Rattle.mqtt5_codec.specs.declared.packet.Packet.TheVariants as packets
 use Rattle.mqtt5_codec.specs.Packets.{packet_row, written_packet, packet_writing, packet_in}
 
--- Empty property sets are none, a Publish of QoS 0 has identifier 0, a failure in a SubAck is unspecified, and a login of
--- two empty texts is none.
+-- Empty property sets are none (2.2.2.1), a Publish of QoS 0 has identifier 0 (2.2.1), a failure in a SubAck is unspecified
+-- (3.9.3), and a login of two empty texts is none.
 abbrev pub norm : Packet → Packet
 norm (packets.Connect c will login) = packets.Connect (connect_norm c) (will_norm will) (login_norm login)
 norm (packets.ConnAck p) = packets.ConnAck (connack_norm p)
@@ -29,7 +29,7 @@ norm (packets.PingResp p) = packets.PingResp p
 norm (packets.Disconnect p) = packets.Disconnect (disconnect_norm p)
 norm (packets.Auth p) = packets.Auth (auth_norm p)
 
--- a limit that admits a remaining length
+-- a limit that admits a remaining length (2.1.4)
 abbrev pub Admits : Option ℕ → ℕ → Type 0
 Admits None n = Unit {0}
 Admits (Some max) n = n ≤ max

@@ -1,4 +1,4 @@
--- Packets of every type that is read and written, and their frames (MQTT 5.0 section 2).
+-- Packets of every type that is read and written, and their frames (MQTT 5.0 sections 2 and 3).
 use Rattle.std.specs.Prelude.{◌≡◌, ℕ, ◌/◌, ◌==◌, List, [], ◌∷◌, map, length, Option, Some, None, Result, Ok, Err, nat_lt, min, if◌then◌else◌}
 use Rattle.mqtt5_base.specs.declared.error.Error.{Error}
 use Rattle.mqtt5_base.specs.declared.error.Error.TheVariants.{OutgoingPacketTooLarge}
@@ -46,6 +46,7 @@ packet_rows =
 
 -- ---- a packet and its frame
 
+-- a packet's type as its number (2.1.2)
 abbrev pub packet_type : Packet → ℕ
 packet_type (packets.Connect c will login) = 1
 packet_type (packets.ConnAck p) = 2
@@ -63,6 +64,7 @@ packet_type (packets.PingResp p) = 13
 packet_type (packets.Disconnect p) = 14
 packet_type (packets.Auth p) = 15
 
+-- the row of a packet's type (3)
 abbrev pub packet_row : Packet → Row
 packet_row (packets.Connect c will login) = connect_row
 packet_row (packets.ConnAck p) = connack_row
@@ -80,7 +82,7 @@ packet_row (packets.PingResp p) = ping_row
 packet_row (packets.Disconnect p) = disconnect_row
 packet_row (packets.Auth p) = auth_row
 
--- the packet as it is written
+-- the packet as it is written (3)
 abbrev pub written_packet : Packet → WrittenPacket
 written_packet (packets.Connect c will login) = connect_packet c will login
 written_packet (packets.ConnAck p) = connack_packet p
@@ -98,7 +100,7 @@ written_packet (packets.PingResp p) = pingresp_packet
 written_packet (packets.Disconnect p) = disconnect_packet p
 written_packet (packets.Auth p) = auth_packet p
 
--- the packet as the values of its row
+-- the packet as the values of its row (3)
 abbrev pub packet_content : Packet → Content
 packet_content p = content_of_packet (written_packet p)
 
@@ -107,11 +109,11 @@ abbrev pub IsRead : Packet → Type 0
 IsRead (packets.SubAck p) = map suback_settled p.return_codes ≡ p.return_codes
 IsRead p = Unit {0}
 
--- The whole frame is of that packet: its first byte has the packet's type, and its body is the packet's by its row.
+-- The whole frame is of that packet: its first byte has the packet's type, and its body is the packet's by its row (2.1).
 abbrev pub IsFrameOf : List ℕ → Packet → Type 0
 IsFrameOf frame p = (first : ℕ) × (body : List ℕ) × IsWhole frame first body × (first / 16 ≡ packet_type p) × IsRead p × IsFrame packet_rows first body (packet_content p)
 
--- the first fault of a whole frame
+-- the first fault of a whole frame (4.13.1)
 abbrev pub IsFaultOf : List ℕ → Error → Type 0
 IsFaultOf frame e = (first : ℕ) × (body : List ℕ) × IsWhole frame first body × FrameFault packet_rows first body e
 
@@ -125,7 +127,7 @@ packet_len p = length (layout (packet_row p) (written_packet p))
 abbrev pub packet_writing : Packet → Result (List ℕ) Error
 packet_writing p = writing (packet_row p) (written_packet p)
 
--- the same under a limit on the whole frame, which is judged first
+-- the same under a limit on the whole frame, which is judged first (3.2.2.3.6)
 abbrev pub writing_under : Option ℕ → Packet → Result (List ℕ) Error
 writing_under None p = packet_writing p
 writing_under (Some max) p = if nat_lt max (packet_len p) then Err (OutgoingPacketTooLarge (min (packet_len p) 4294967295) max) else packet_writing p
@@ -151,6 +153,7 @@ packet_of kind c =
     else if kind == 15 then packets.Auth (auth_of c)
     else packets.Publish (publish_of c)
 
+-- a frame's first byte; of no bytes 0
 abbrev pub first_of : List ℕ → ℕ
 first_of [] = 0
 first_of (b ∷ bs) = b

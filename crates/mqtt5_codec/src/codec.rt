@@ -15,7 +15,9 @@ use std::alloc::Global;
 /// frames that go out.
 #[derive(Debug, Clone, PartialEq, Eq, Drop)]
 pub struct Codec {
+    /// The greatest remaining length that is read; over it is E12. None is no limit.
     pub max_incoming_size: Option<u32>,
+    /// The longest frame that is written; over it is E20. None is no limit.
     pub max_outgoing_size: Option<u32>,
 }
 
@@ -35,7 +37,8 @@ impl Codec {
         }
     }
 
-    /// Appends the packet's frame. Errors as of `Packet::write`; the buffer is then unchanged.
+    /// Appends the packet's frame. E20, E11, E9, E10, E16, E1 or E21, as of `Packet::write` under the
+    /// outgoing limit; the buffer is then unchanged.
     pub fn encode(&self, packet: &Packet, buffer: &mut BytesMut) -> Result<(), Error>
         ensures { Appends result (writing_under self.now.max_outgoing_size packet.now) buffer.old.items buffer.new.items }
     {

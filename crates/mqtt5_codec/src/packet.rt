@@ -9,7 +9,7 @@ use mqtt5_link::{Auth, ConnAck, Disconnect};
 use mqtt5_subs::{SubAck, Subscribe, UnsubAck, Unsubscribe};
 use std::alloc::Global;
 
-/// A packet.
+/// A packet: a Connect with its will and its login.
 #[derive(Debug, Clone, PartialEq, Eq, Drop)]
 pub enum Packet {
     Auth(Auth),
@@ -95,8 +95,9 @@ impl Packet {
         }
     }
 
-    /// Appends the packet and answers its length. E20 where it is over the limit, with its size or the
-    /// greatest `u32`; E11; E9, E10, E16 or E1 of the packet; E21. The buffer is then unchanged.
+    /// Appends the packet and answers its length. E20 where that is over the limit, with its size or the
+    /// greatest `u32`; else the packet type's own: E11 of what is too long, then E9 of a Publish, E10 of a
+    /// Subscribe, E16 of a SubAck or UnsubAck, or E1 of a ConnAck; E21. The buffer is then unchanged.
     pub fn write(&self, buffer: &mut BytesMut, max_size: Option<u32>) -> Result<usize, Error>
         ensures { Writes (writing_under max_size self.now) result buffer.old.items buffer.new.items }
     {

@@ -39,7 +39,7 @@ will_found s =
     ∷ pairs s.user_properties
     ∷ []
 
--- the properties of a will that may be absent
+-- This word serves the logic alone: the properties of a will that may be absent.
 abbrev pub will_block : Option LastWill → Option Found
 will_block None = None
 will_block (Some w) = option_map will_found w.properties
@@ -82,10 +82,11 @@ connect_flags c will login = 2 * bit c.clean_start + flags_or_none will_flags wi
 
 -- ---- as they are written
 
--- the will and the login, each as a part of the row
+-- the will as a part of the row (3.1.3.2 to 3.1.3.4)
 abbrev pub will_group : Option LastWill → WrittenGroup
 will_group will = one_or_none (option_map (λ w. just (will_values w)) will)
 
+-- the login as a part of the row (3.1.3.5, 3.1.3.6)
 abbrev pub login_group : Option Login → WrittenGroup
 login_group login = one_or_none (option_map (λ l. just (login_values l)) login)
 
@@ -111,7 +112,7 @@ WritesPart (Err e) flags result old new = (result ≡ Err e) × (new ≡ old)
 
 -- ---- a Connect, its will and its login from their values
 
--- the properties from their values
+-- the properties of a Connect from their values
 abbrev pub connect_set : Found → ConnectProperties
 connect_set f = record {
   session_expiry_interval = one_number (here_in f 0);
@@ -125,6 +126,7 @@ connect_set f = record {
   authentication_data = one_content (here_in f 8);
 }
 
+-- the properties of a will from their values
 abbrev pub will_set : Found → LastWillProperties
 will_set f = record {
   delay_interval = one_number (here_in f 0);
@@ -136,7 +138,7 @@ will_set f = record {
   user_properties = all_pairs (here_in f 6);
 }
 
--- a will and a login from what their steps keep
+-- a will from what its steps keep
 abbrev pub will_from : List Value → LastWill
 will_from vs = record {
   topic = content_in vs 1;
@@ -146,6 +148,7 @@ will_from vs = record {
   properties = option_map will_set (found_in vs 0);
 }
 
+-- a login from what its steps keep
 abbrev pub login_from : List Value → Login
 login_from vs = record { username = text_of (content_in vs 0); password = text_of (content_in vs 1) }
 
@@ -156,7 +159,7 @@ optional_in (optional o ∷ gs) zero = o
 optional_in (several vss ∷ gs) zero = None
 optional_in (g ∷ gs) (suc k) = optional_in gs k
 
--- the Connect, the will and the login of a packet's values
+-- the Connect of a packet's values
 abbrev pub connect_of : Content → Connect
 connect_of c = record {
   keep_alive = number_in c.0 1;
@@ -165,8 +168,10 @@ connect_of c = record {
   properties = option_map connect_set (found_in c.0 2);
 }
 
+-- the will of a packet's values
 abbrev pub connect_will : Content → Option LastWill
 connect_will c = option_map will_from (optional_in c.1 0)
 
+-- the login of a packet's values
 abbrev pub connect_login : Content → Option Login
 connect_login c = option_map login_from (optional_in c.1 1)

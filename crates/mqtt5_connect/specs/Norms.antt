@@ -1,4 +1,4 @@
--- What a Connect, its will and its login are read as after they were written.
+-- What a Connect, its will and its login are read as after they were written (MQTT 5.0 sections 2.2.2.1 and 3.1).
 use Rattle.std.specs.Prelude.{Option, Some, None, option_map, if◌then◌else◌}
 use Rattle.mqtt5_base.specs.Grammar.{all_empty}
 use Rattle.mqtt5_base.specs.Tidy.{tidy}
@@ -7,12 +7,15 @@ use Rattle.mqtt5_connect.specs.declared.will.LastWill.{LastWill}
 use Rattle.mqtt5_connect.specs.declared.login.Login.{Login}
 use Rattle.mqtt5_connect.specs.Connects.{connect_found, will_found, login_values}
 
+-- an empty property set is none (2.2.2.1)
 abbrev pub connect_norm : Connect → Connect
 connect_norm c = record { keep_alive = c.keep_alive; client_id = c.client_id; clean_start = c.clean_start; properties = tidy connect_found c.properties }
 
+-- the same of a will
 abbrev pub tidy_will : LastWill → LastWill
 tidy_will w = record { topic = w.topic; message = w.message; qos = w.qos; retain = w.retain; properties = tidy will_found w.properties }
 
+-- the same of a will that may be absent
 abbrev pub will_norm : Option LastWill → Option LastWill
 will_norm will = option_map tidy_will will
 

@@ -35,13 +35,15 @@ will_steps =
     ∷ note (bit_of given 32)
     ∷ []
 
+-- the will where its flag is set (3.1.2.5)
 abbrev pub will_part : ℕ → Part
 will_part k = choice k has_will no_will will_steps
 
--- the user name and the password, each where its flag is set; a login of two empty texts is none (3.1.3.5, 3.1.3.6)
+-- the user name and the password, each where its flag is set (3.1.3.5, 3.1.3.6)
 abbrev pub login_steps : List Step
 login_steps = field (set (bit_of given 128)) (one text) (plain (content [])) ∷ field (set (bit_of given 64)) (one text) (plain (content [])) ∷ []
 
+-- the login; one of two empty texts is none (3.1.2.8, 3.1.2.9)
 abbrev pub login_part : ℕ → Part
 login_part k = filled k login_steps
 
@@ -51,6 +53,7 @@ login_part k = filled k login_steps
 abbrev pub connect_fields : List Step
 connect_fields = note (bit_of (read 2) 2) ∷ there (one u16) ∷ there (block connect_table) ∷ there (one text) ∷ []
 
+-- the will and then the login (3.1.3)
 abbrev pub connect_parts : List Part
 connect_parts = will_part 2 ∷ login_part 2 ∷ []
 

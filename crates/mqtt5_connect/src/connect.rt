@@ -18,17 +18,26 @@ use mqtt5_base::{
 };
 use std::alloc::{AllocError, Global};
 
-/// The properties of a Connect (MQTT 5.0 section 3.1.2.11).
+/// The properties of a Connect (MQTT 5.0 section 3.1.2.11). No number is judged.
 #[derive(Debug, PartialEq, Eq, Drop)]
 pub struct ConnectProperties {
+    /// After how many seconds the server forgets the session of a lost connection.
     pub session_expiry_interval: Option<u32>,
+    /// How many publishes of QoS 1 and 2 the server may send ahead of their acks.
     pub receive_maximum: Option<u16>,
+    /// The longest packet that the server may send, in bytes.
     pub max_packet_size: Option<u32>,
+    /// The greatest topic alias that the server may use.
     pub topic_alias_max: Option<u16>,
+    /// Whether the server may answer with response information: 0 or 1.
     pub request_response_info: Option<u8>,
+    /// Whether the server may add reasons and user properties to any packet: 0 or 1.
     pub request_problem_info: Option<u8>,
+    /// Names and values, in order; a name may stand often.
     pub user_properties: Sequence<(Text, Text)>,
+    /// The name of the method of authentication.
     pub authentication_method: Option<Text>,
+    /// Data of that method.
     pub authentication_data: Option<Bytes>,
 }
 
@@ -160,9 +169,13 @@ impl PropertySet for ConnectProperties {
 /// A Connect (MQTT 5.0 section 3.1).
 #[derive(Debug, Clone, PartialEq, Eq, Drop)]
 pub struct Connect {
+    /// The longest time without a packet from the client, in seconds; 0 is none.
     pub keep_alive: u16,
+    /// The client identifier, which may be empty, up to 65,535 bytes to be written.
     pub client_id: Text,
+    /// Whether the server forgets the client's last session.
     pub clean_start: bool,
+    /// An empty set is read again as None.
     pub properties: Option<ConnectProperties>,
 }
 
@@ -216,9 +229,9 @@ impl Connect {
         Ok((connect, will, login))
     }
 
-    /// The Connect of a frame's bytes, with its will and its login. E2 of a name that isn't `MQTT`,
-    /// E3 of a level that isn't 5, E4 of flags of a will without one, E7 of its QoS of 3, E14 to E18
-    /// of a field that can't be read; E21.
+    /// The Connect of a frame's bytes, of which the header is, with its will and its login. E2 of a name
+    /// that isn't `MQTT`, E3 with a level that isn't 5, E4 of flags of a will without one, E7 of its QoS
+    /// of 3, E14 to E18 of a field that can't be read; E21.
     pub fn read(
         alloc: Global,
         header: FixedHeader,
@@ -298,7 +311,9 @@ impl Connect {
     }
 
     /// Appends the Connect with its will and its login, and answers the frame's length. An empty
-    /// text of the login has neither a flag nor a field. E11, E21; then the buffer is unchanged.
+    /// text of the login has neither a flag nor a field. E11 where a text or bytes are over 65,535
+    /// bytes, or the properties of either or the body over 268,435,455; E21. The buffer is then
+    /// unchanged.
     pub fn write(
         &self,
         will: &Option<LastWill>,

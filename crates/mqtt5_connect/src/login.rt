@@ -16,7 +16,9 @@ use std::alloc::Global;
 /// The user name and the password of a client (MQTT 5.0 sections 3.1.3.5 and 3.1.3.6).
 #[derive(Debug, Clone, PartialEq, Eq, Drop)]
 pub struct Login {
+    /// Absent where it is empty.
     pub username: Text,
+    /// Absent where it is empty.
     pub password: Text,
 }
 
@@ -61,7 +63,8 @@ impl Login {
     }
 
     /// Appends the user name and the password, each unless it is empty, and answers the connect
-    /// flags: 0x80 for a user name, 0x40 for a password. E11, E21; then the buffer is unchanged.
+    /// flags: 0x80 for a user name, 0x40 for a password. E11 where one is over 65,535 bytes, E21; then
+    /// the buffer is unchanged.
     pub fn write(&self, buffer: &mut BytesMut) -> Result<u8, Error>
         ensures { WritesPart (steps_writing login_steps (login_flags self.now) (just (login_values self.now))) (login_flags self.now) result buffer.old.items buffer.new.items }
     {

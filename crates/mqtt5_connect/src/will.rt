@@ -15,15 +15,22 @@ use mqtt5_base::{
 };
 use std::alloc::{AllocError, Global};
 
-/// The properties of a will (MQTT 5.0 section 3.1.3.2).
+/// The properties of a will (MQTT 5.0 section 3.1.3.2). No number is judged.
 #[derive(Debug, PartialEq, Eq, Drop)]
 pub struct LastWillProperties {
+    /// After how many seconds it is published.
     pub delay_interval: Option<u32>,
+    /// 0 where the message is bytes, 1 where it is UTF-8.
     pub payload_format_indicator: Option<u8>,
+    /// How many seconds the message lives.
     pub message_expiry_interval: Option<u32>,
+    /// What the message is.
     pub content_type: Option<Text>,
+    /// The topic of an answer.
     pub response_topic: Option<Text>,
+    /// What an answer carries back.
     pub correlation_data: Option<Bytes>,
+    /// Names and values, in order; a name may stand often.
     pub user_properties: Sequence<(Text, Text)>,
 }
 
@@ -124,10 +131,15 @@ impl PropertySet for LastWillProperties {
 /// 3.1.2.5).
 #[derive(Debug, Clone, PartialEq, Eq, Drop)]
 pub struct LastWill {
+    /// Bytes that aren't judged, up to 65,535 to be written.
     pub topic: Bytes,
+    /// Up to 65,535 bytes to be written.
     pub message: Bytes,
+    /// The QoS of the publish.
     pub qos: QoS,
+    /// Whether the server keeps it for later subscriptions.
     pub retain: bool,
+    /// An empty set is read again as None.
     pub properties: Option<LastWillProperties>,
 }
 
@@ -191,7 +203,8 @@ impl LastWill {
     }
 
     /// Appends the properties, the topic and the message, and answers the connect flags: 0x04, the
-    /// QoS in bits 3 and 4, and 0x20 for retain. E11, E21; then the buffer is unchanged.
+    /// QoS in bits 3 and 4, and 0x20 for retain. E11 where a text or bytes are over 65,535 bytes, or the
+    /// properties over 268,435,455; E21. The buffer is then unchanged.
     pub fn write(&self, buffer: &mut BytesMut) -> Result<u8, Error>
         ensures { WritesPart (steps_writing will_steps (will_flags self.now) (just (will_values self.now))) (will_flags self.now) result buffer.old.items buffer.new.items }
     {

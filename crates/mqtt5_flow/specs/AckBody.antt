@@ -8,5 +8,6 @@ use Rattle.mqtt5_base.specs.Layout.{block_bytes}
 abbrev pub ack_is_short : ℕ → Option Found → Bool
 ack_is_short code p = if code == 0 then is_none p else false
 
+-- the identifier, and unless it is short the reason code and the properties
 abbrev pub ack_body : List Entry → ℕ → ℕ → Option Found → List ℕ
 ack_body table id code p = to_be_bytes w16 id ++ (if ack_is_short code p then [] else code ∷ block_bytes table p)

@@ -7,8 +7,10 @@ use Rattle.mqtt5_flow.specs.declared.pubrel.PubRelReason.{PubRelReason}
 use Rattle.mqtt5_flow.specs.Acks.{puback_code, pubrel_code}
 use Rattle.mqtt5_flow.specs.Rows.{puback_codes, pubrel_codes}
 
+-- of a PubAck and of a PubRec
 pub puback_known : (r : PubAckReason) → passes puback_codes (number (puback_code r)) ≡ true
 puback_known = search rules
 
+-- of a PubRel and of a PubComp
 pub pubrel_known : (r : PubRelReason) → passes pubrel_codes (number (pubrel_code r)) ≡ true
 pubrel_known = search rules

@@ -1,4 +1,4 @@
--- What Publish and the acks are read as after they were written.
+-- What Publish and the acks are read as after they were written (MQTT 5.0 sections 2.2 and 3.3 to 3.7).
 use Rattle.std.specs.Prelude.{ℕ}
 use Rattle.mqtt5_base.specs.declared.quality.QoS.{QoS}
 use Rattle.mqtt5_base.specs.declared.quality.QoS.TheVariants.{AtMostOnce, AtLeastOnce, ExactlyOnce}
@@ -11,23 +11,28 @@ use Rattle.mqtt5_flow.specs.declared.publish.Publish.{Publish}
 use Rattle.mqtt5_flow.specs.Acks.{ack_found}
 use Rattle.mqtt5_flow.specs.Publishes.{publish_found}
 
+-- an empty property set is none (2.2.2.1)
 abbrev pub puback_norm : PubAck → PubAck
 puback_norm p = record { pkid = p.pkid; reason = p.reason; properties = tidy ack_found p.properties }
 
+-- the same of a PubRec
 abbrev pub pubrec_norm : PubRec → PubRec
 pubrec_norm p = record { pkid = p.pkid; reason = p.reason; properties = tidy ack_found p.properties }
 
+-- the same of a PubRel
 abbrev pub pubrel_norm : PubRel → PubRel
 pubrel_norm p = record { pkid = p.pkid; reason = p.reason; properties = tidy ack_found p.properties }
 
+-- the same of a PubComp
 abbrev pub pubcomp_norm : PubComp → PubComp
 pubcomp_norm p = record { pkid = p.pkid; reason = p.reason; properties = tidy ack_found p.properties }
 
--- a Publish of QoS 0 has no packet identifier
+-- a Publish of QoS 0 has no packet identifier (2.2.1)
 abbrev pub norm_id : QoS → ℕ → ℕ
 norm_id AtMostOnce id = 0
 norm_id AtLeastOnce id = id
 norm_id ExactlyOnce id = id
 
+-- a Publish without such an identifier, and without an empty property set
 abbrev pub publish_norm : Publish → Publish
 publish_norm p = record { dup = p.dup; qos = p.qos; retain = p.retain; topic = p.topic; pkid = norm_id p.qos p.pkid; payload = p.payload; properties = tidy publish_found p.properties }

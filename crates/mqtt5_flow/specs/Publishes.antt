@@ -6,6 +6,7 @@ use Rattle.mqtt5_base.specs.Layout.{WrittenPacket, plainly}
 use Rattle.mqtt5_flow.specs.declared.publish.PublishProperties.{PublishProperties}
 use Rattle.mqtt5_flow.specs.declared.publish.Publish.{Publish}
 
+-- the values of the properties (3.3.2.3)
 abbrev pub publish_found : PublishProperties → Found
 publish_found s =
     numbers s.payload_format_indicator
@@ -18,6 +19,7 @@ publish_found s =
     ∷ texts s.content_type
     ∷ []
 
+-- dup, QoS and retain, the topic, the identifier, the properties and the payload
 abbrev pub publish_values : Publish → List Value
 publish_values p =
     plain (number (bit p.dup))
@@ -33,11 +35,13 @@ publish_values p =
 abbrev pub publish_first : Publish → ℕ
 publish_first p = 48 + 8 * bit p.dup + 2 * qos_number p.qos + bit p.retain
 
+-- a Publish as it is written
 abbrev pub publish_packet : Publish → WrittenPacket
 publish_packet p = plainly (publish_first p) (publish_values p)
 
 -- ---- a Publish from its values
 
+-- the properties of their values
 abbrev pub publish_set : Found → PublishProperties
 publish_set f = record {
   payload_format_indicator = one_number (here_in f 0);
@@ -50,6 +54,7 @@ publish_set f = record {
   content_type = one_text (here_in f 7);
 }
 
+-- the Publish of the row's values
 abbrev pub publish_of : Content → Publish
 publish_of c = record {
   dup = number_in c.0 0 == 1;

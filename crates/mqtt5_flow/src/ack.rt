@@ -27,10 +27,11 @@ pub trait Reason: Copy {
     /// Each reason's code is one of them.
     ghost known: { (r : Self) → passes codes (number (code r)) ≡ true };
 
-    /// The reason of a code, or E1.
+    /// The reason of a code; E1 with the code of one that the ack doesn't have.
     fn of(num: u8) -> Result<Self, Error>
         ensures { Gives (λ r. number (code r)) result (judged codes bad_reason (number num)) };
 
+    /// The code.
     fn code(self) -> u8
         ensures { result ≡ code self };
 

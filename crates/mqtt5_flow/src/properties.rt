@@ -11,7 +11,9 @@ use std::alloc::{AllocError, Global};
 /// and 3.11.2.1).
 #[derive(Debug, Clone, PartialEq, Eq, Drop)]
 pub struct AckProperties {
+    /// Why, as a text for people.
     pub reason_string: Option<Text>,
+    /// Names and values, in order; a name may stand often.
     pub user_properties: Sequence<(Text, Text)>,
 }
 

@@ -13,7 +13,8 @@ use bytes::{Bytes, BytesMut};
 use mqtt5_base::{Error, FixedHeader};
 use std::alloc::Global;
 
-/// Why a publish is answered so (MQTT 5.0 section 3.4.2.1).
+/// Why a publish is answered so: codes 0, 16, 128, 131, 135, 144, 145, 151 and 153, in this order (MQTT
+/// 5.0 section 3.4.2.1).
 #[derive(Debug, Clone, Copy, PartialEq, Eq)]
 pub enum PubAckReason {
     Success,
@@ -76,8 +77,11 @@ pub type PubAckProperties = AckProperties;
 /// A PubAck (MQTT 5.0 section 3.4).
 #[derive(Debug, Clone, PartialEq, Eq, Drop)]
 pub struct PubAck {
+    /// The packet identifier of the publish. It isn't judged.
     pub pkid: u16,
+    /// What became of it.
     pub reason: PubAckReason,
+    /// An empty set is read again as None.
     pub properties: Option<PubAckProperties>,
 }
 
@@ -93,8 +97,8 @@ impl PubAck {
         }
     }
 
-    /// The PubAck of a frame's bytes. E16 to E18, E14 and E15 of a field that can't be read, E1 of a
-    /// reason code that a PubAck doesn't have; E21.
+    /// The PubAck of a frame's bytes, of which the header is. E14 to E18 of a field that can't be read,
+    /// then E1 with a reason code that a PubAck doesn't have; E21.
     pub fn read(alloc: Global, header: FixedHeader, bytes: Bytes) -> Result<PubAck, Error>
         requires { length bytes ≡ header.fixed_header_len + header.remaining_len }
         ensures { Gives (λ p. content_of_packet (puback_packet p)) result (values_in puback_row header.byte1 header.remaining_len (drop header.fixed_header_len bytes)) }
@@ -107,7 +111,9 @@ impl PubAck {
         })
     }
 
-    /// Appends the PubAck and answers its length. E11, E21; then the buffer is unchanged.
+    /// Appends the PubAck and answers its length; with Success and without properties that is 4.
+    /// E11 where a text is over 65,535 bytes, or the properties or the body over 268,435,455; E21. The
+    /// buffer is then unchanged.
     pub fn write(&self, buffer: &mut BytesMut) -> Result<usize, Error>
         ensures { Writes (writing puback_row (puback_packet self.now)) result buffer.old.items buffer.new.items }
     {

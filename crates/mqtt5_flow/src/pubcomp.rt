@@ -23,8 +23,11 @@ pub type PubCompProperties = AckProperties;
 /// A PubComp (MQTT 5.0 section 3.7).
 #[derive(Debug, Clone, PartialEq, Eq, Drop)]
 pub struct PubComp {
+    /// The packet identifier of the publish. It isn't judged.
     pub pkid: u16,
+    /// What became of it.
     pub reason: PubCompReason,
+    /// An empty set is read again as None.
     pub properties: Option<PubCompProperties>,
 }
 
@@ -40,8 +43,8 @@ impl PubComp {
         }
     }
 
-    /// The PubComp of a frame's bytes. E16 to E18, E14 and E15 of a field that can't be read, E1 of a
-    /// reason code that a PubComp doesn't have; E21.
+    /// The PubComp of a frame's bytes, of which the header is. E14 to E18 of a field that can't be read,
+    /// then E1 with a reason code that a PubComp doesn't have; E21.
     pub fn read(alloc: Global, header: FixedHeader, bytes: Bytes) -> Result<PubComp, Error>
         requires { length bytes ≡ header.fixed_header_len + header.remaining_len }
         ensures { Gives (λ p. content_of_packet (pubcomp_packet p)) result (values_in pubrel_row header.byte1 header.remaining_len (drop header.fixed_header_len bytes)) }
@@ -54,7 +57,9 @@ impl PubComp {
         })
     }
 
-    /// Appends the PubComp and answers its length. E11, E21; then the buffer is unchanged.
+    /// Appends the PubComp and answers its length; with Success and without properties that is 4.
+    /// E11 where a text is over 65,535 bytes, or the properties or the body over 268,435,455; E21. The
+    /// buffer is then unchanged.
     pub fn write(&self, buffer: &mut BytesMut) -> Result<usize, Error>
         ensures { Writes (writing pubrel_row (pubcomp_packet self.now)) result buffer.old.items buffer.new.items }
     {

@@ -16,16 +16,25 @@ use mqtt5_base::{
 };
 use std::alloc::{AllocError, Global};
 
-/// The properties of a Publish (MQTT 5.0 section 3.3.2.3).
+/// The properties of a Publish (MQTT 5.0 section 3.3.2.3). No number is judged.
 #[derive(Debug, PartialEq, Eq, Drop)]
 pub struct PublishProperties {
+    /// 0 where the payload is bytes, 1 where it is UTF-8.
     pub payload_format_indicator: Option<u8>,
+    /// How many seconds the message lives.
     pub message_expiry_interval: Option<u32>,
+    /// The number that stands for the topic.
     pub topic_alias: Option<u16>,
+    /// The topic of an answer.
     pub response_topic: Option<Text>,
+    /// What an answer carries back.
     pub correlation_data: Option<Bytes>,
+    /// Names and values, in order; a name may stand often.
     pub user_properties: Sequence<(Text, Text)>,
+    /// Those of the subscriptions that the message matches, in order; each is written up to
+    /// 268,435,455.
     pub subscription_identifiers: Sequence<usize>,
+    /// What the payload is.
     pub content_type: Option<Text>,
 }
 
@@ -132,12 +141,20 @@ impl PropertySet for PublishProperties {
 /// A Publish (MQTT 5.0 section 3.3).
 #[derive(Debug, Clone, PartialEq, Eq, Drop)]
 pub struct Publish {
+    /// Whether it is sent again.
     pub dup: bool,
+    /// How often it is delivered.
     pub qos: QoS,
+    /// Whether the server keeps it for later subscriptions.
     pub retain: bool,
+    /// Bytes that aren't judged, up to 65,535 to be written.
     pub topic: Bytes,
+    /// The packet identifier. Of QoS 0 it is neither read nor written; of QoS 1 and 2 it isn't 0
+    /// where it is read or written.
     pub pkid: u16,
+    /// What is left of the frame.
     pub payload: Bytes,
+    /// An empty set is read again as None.
     pub properties: Option<PublishProperties>,
 }
 
@@ -179,8 +196,8 @@ impl Publish {
         })
     }
 
-    /// The Publish of a frame's bytes. E7 of a QoS of 3, E9 of a packet identifier 0 where the QoS is
-    /// 1 or 2, E14 to E18 of a field that can't be read; E21.
+    /// The Publish of a frame's bytes, of which the header is. E7 of a QoS of 3, E9 of a packet
+    /// identifier 0 where the QoS is 1 or 2, E14 to E18 of a field that can't be read; E21.
     #[tactic(auto, using(mqtt5_base::proofs::Bits::bit_of_mod))]
     pub fn read(alloc: Global, header: FixedHeader, bytes: Bytes) -> Result<Publish, Error>
         requires { length bytes ≡ header.fixed_header_len + header.remaining_len }
@@ -240,7 +257,9 @@ impl Publish {
         out.extend_reserved(self.payload.as_slice());
     }
 
-    /// Appends the Publish and answers its length. E11, E9, E21; then the buffer is unchanged.
+    /// Appends the Publish and answers its length. E11 where the topic, a text or bytes of a property are
+    /// over 65,535 bytes, or a subscription identifier, the properties or the body over 268,435,455;
+    /// else E9 where the QoS is 1 or 2 and the packet identifier 0; E21. The buffer is then unchanged.
     pub fn write(&self, buffer: &mut BytesMut) -> Result<usize, Error>
         ensures { Writes (writing publish_row (publish_packet self.now)) result buffer.old.items buffer.new.items }
     {
@@ -259,7 +278,8 @@ impl Publish {
         Ok(size)
     }
 
-    /// How many bytes it takes, or the greatest `usize` where they are more. Takes no memory.
+    /// How many bytes it takes, or the greatest `usize` where they are more; a packet identifier 0 is
+    /// counted as none. Takes no memory.
     pub fn size(&self) -> usize
         ensures { result ≡ min (length (layout publish_row (publish_packet self.now))) usize.MAX }
     {

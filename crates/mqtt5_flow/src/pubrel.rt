@@ -13,7 +13,7 @@ use bytes::{Bytes, BytesMut};
 use mqtt5_base::{Error, FixedHeader};
 use std::alloc::Global;
 
-/// Why a publish is released so (MQTT 5.0 section 3.6.2.1).
+/// Why a publish is released so: codes 0 and 146 (MQTT 5.0 section 3.6.2.1).
 #[derive(Debug, Clone, Copy, PartialEq, Eq)]
 pub enum PubRelReason {
     Success,
@@ -55,8 +55,11 @@ pub type PubRelProperties = AckProperties;
 /// A PubRel (MQTT 5.0 section 3.6).
 #[derive(Debug, Clone, PartialEq, Eq, Drop)]
 pub struct PubRel {
+    /// The packet identifier of the publish. It isn't judged.
     pub pkid: u16,
+    /// What became of it.
     pub reason: PubRelReason,
+    /// An empty set is read again as None.
     pub properties: Option<PubRelProperties>,
 }
 
@@ -72,8 +75,8 @@ impl PubRel {
         }
     }
 
-    /// The PubRel of a frame's bytes. E16 to E18, E14 and E15 of a field that can't be read, E1 of a
-    /// reason code that a PubRel doesn't have; E21.
+    /// The PubRel of a frame's bytes, of which the header is. E14 to E18 of a field that can't be read,
+    /// then E1 with a reason code that a PubRel doesn't have; E21.
     pub fn read(alloc: Global, header: FixedHeader, bytes: Bytes) -> Result<PubRel, Error>
         requires { length bytes ≡ header.fixed_header_len + header.remaining_len }
         ensures { Gives (λ p. content_of_packet (pubrel_packet p)) result (values_in pubrel_row header.byte1 header.remaining_len (drop header.fixed_header_len bytes)) }
@@ -86,7 +89,9 @@ impl PubRel {
         })
     }
 
-    /// Appends the PubRel and answers its length. E11, E21; then the buffer is unchanged.
+    /// Appends the PubRel and answers its length; with Success and without properties that is 4.
+    /// E11 where a text is over 65,535 bytes, or the properties or the body over 268,435,455; E21. The
+    /// buffer is then unchanged.
     pub fn write(&self, buffer: &mut BytesMut) -> Result<usize, Error>
         ensures { Writes (writing pubrel_row (pubrel_packet self.now)) result buffer.old.items buffer.new.items }
     {

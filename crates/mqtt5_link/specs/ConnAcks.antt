@@ -36,7 +36,7 @@ connack_code reasons.UseAnotherServer = 156
 connack_code reasons.ServerMoved = 157
 connack_code reasons.ConnectionRateExceeded = 159
 
--- the values of the properties, in the same parts (3.2.2.3)
+-- the values of the properties in three parts (3.2.2.3): the first
 abbrev pub connack_first : ConnAckProperties → Found
 connack_first s =
     numbers s.session_expiry_interval
@@ -47,6 +47,7 @@ connack_first s =
     ∷ texts s.assigned_client_identifier
     ∷ []
 
+-- the second part of them
 abbrev pub connack_second : ConnAckProperties → Found
 connack_second s =
     numbers s.topic_alias_max
@@ -57,6 +58,7 @@ connack_second s =
     ∷ numbers s.shared_subscription_available
     ∷ []
 
+-- the third part
 abbrev pub connack_third : ConnAckProperties → Found
 connack_third s =
     numbers s.server_keep_alive
@@ -66,7 +68,7 @@ connack_third s =
     ∷ contents s.authentication_data
     ∷ []
 
--- all of them
+-- the values of all properties
 abbrev pub connack_found : ConnAckProperties → Found
 connack_found s = connack_first s ++ (connack_second s ++ connack_third s)
 

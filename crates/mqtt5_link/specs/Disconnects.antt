@@ -48,7 +48,7 @@ disconnect_found s = numbers s.session_expiry_interval ∷ texts s.reason_string
 abbrev pub disconnect_written : ℕ → Option Found → WrittenPacket
 disconnect_written code p = plainly 224 (plain (number code) ∷ properties p ∷ [])
 
--- A normal disconnection without properties is written without a body (3.14.2.1).
+-- This word serves the logic alone: a normal disconnection without properties is written without a body (3.14.2.1).
 abbrev pub disconnect_is_bare : ℕ → Option Found → Bool
 disconnect_is_bare code p = if code == 0 then is_none p else false
 

@@ -1,4 +1,4 @@
--- What ConnAck, Disconnect and Auth are read as after they were written.
+-- What ConnAck, Disconnect and Auth are read as after they were written (MQTT 5.0 section 2.2.2.1).
 use Rattle.mqtt5_base.specs.Tidy.{tidy}
 use Rattle.mqtt5_link.specs.declared.connack.ConnAck.{ConnAck}
 use Rattle.mqtt5_link.specs.declared.disconnect.Disconnect.{Disconnect}
@@ -11,10 +11,10 @@ use Rattle.mqtt5_link.specs.Auths.{auth_found}
 abbrev pub connack_norm : ConnAck → ConnAck
 connack_norm a = record { session_present = a.session_present; code = a.code; properties = tidy connack_found a.properties }
 
--- the same
+-- the same of a Disconnect
 abbrev pub disconnect_norm : Disconnect → Disconnect
 disconnect_norm d = record { reason_code = d.reason_code; properties = tidy disconnect_found d.properties }
 
--- the same
+-- the same of an Auth
 abbrev pub auth_norm : Auth → Auth
 auth_norm a = record { code = a.code; properties = tidy auth_found a.properties }

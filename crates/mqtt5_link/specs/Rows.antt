@@ -10,17 +10,19 @@ Finds view (Err e) r = r ≡ Err e
 
 -- ---- ConnAck (3.2)
 
--- the properties of a ConnAck in three parts, which together are in the order of writing (3.2.2.3)
+-- the properties of a ConnAck in three parts, which together are in the order of writing (3.2.2.3): the first
 abbrev pub connack_first_table : List Entry
 connack_first_table = single 17 ∷ single 33 ∷ single 36 ∷ single 37 ∷ single 39 ∷ single 18 ∷ []
 
+-- the second part of them
 abbrev pub connack_second_table : List Entry
 connack_second_table = single 34 ∷ single 31 ∷ several_of 38 ∷ single 40 ∷ single 41 ∷ single 42 ∷ []
 
+-- the third part
 abbrev pub connack_third_table : List Entry
 connack_third_table = single 19 ∷ single 26 ∷ single 28 ∷ single 21 ∷ single 22 ∷ []
 
--- all of them
+-- all properties of a ConnAck
 abbrev pub connack_table : List Entry
 connack_table = connack_first_table ++ (connack_second_table ++ connack_third_table)
 
@@ -29,6 +31,7 @@ abbrev pub connack_numbers : List ℕ
 connack_numbers =
     0 ∷ 128 ∷ 129 ∷ 130 ∷ 131 ∷ 132 ∷ 133 ∷ 134 ∷ 135 ∷ 136 ∷ 137 ∷ 138 ∷ 140 ∷ 144 ∷ 149 ∷ 151 ∷ 153 ∷ 154 ∷ 155 ∷ 156 ∷ 157 ∷ 159 ∷ []
 
+-- a code is one of these
 abbrev pub connack_codes : Test
 connack_codes = any_of connack_numbers
 
@@ -48,6 +51,7 @@ abbrev pub disconnect_numbers : List ℕ
 disconnect_numbers =
     0 ∷ 4 ∷ 128 ∷ 129 ∷ 130 ∷ 131 ∷ 135 ∷ 137 ∷ 139 ∷ 141 ∷ 142 ∷ 143 ∷ 144 ∷ 147 ∷ 148 ∷ 149 ∷ 150 ∷ 151 ∷ 152 ∷ 153 ∷ 154 ∷ 155 ∷ 156 ∷ 157 ∷ 158 ∷ 159 ∷ 160 ∷ 161 ∷ 162 ∷ []
 
+-- a code is one of these
 abbrev pub disconnect_codes : Test
 disconnect_codes = any_of disconnect_numbers
 
@@ -76,10 +80,11 @@ auth_table = single 21 ∷ single 22 ∷ single 31 ∷ several_of 38 ∷ []
 abbrev pub auth_numbers : List ℕ
 auth_numbers = 0 ∷ 24 ∷ 25 ∷ []
 
+-- a code is one of these
 abbrev pub auth_codes : Test
 auth_codes = any_of auth_numbers
 
--- an empty body is success; the reason code and the properties
+-- an empty body is success; the reason code and the properties (3.15.2.1)
 abbrev pub auth_row : Row
 auth_row = record {
   steps = field (longer 0) (checked u8 auth_codes malformed) (plain (number 0)) ∷ field (longer 0) (block auth_table) (properties None) ∷ [];

@@ -16,7 +16,7 @@ use mqtt5_base::{
 };
 use std::alloc::{AllocError, Global};
 
-/// What an Auth says of the exchange (MQTT 5.0 section 3.15.2.1).
+/// What an Auth says of the exchange: codes 0, 24 and 25, in this order (MQTT 5.0 section 3.15.2.1).
 #[derive(Debug, Clone, PartialEq, Eq, Drop)]
 pub enum AuthReasonCode {
     Success,
@@ -39,9 +39,13 @@ impl AuthReasonCode {
 /// The properties of an Auth (MQTT 5.0 section 3.15.2.2).
 #[derive(Debug, Clone, PartialEq, Eq, Drop)]
 pub struct AuthProperties {
+    /// The name of the method of authentication.
     pub method: Option<Text>,
+    /// Data of that method.
     pub auth_data: Option<Bytes>,
+    /// Why, as a text for people.
     pub reason: Option<Text>,
+    /// Names and values, in order; a name may stand often.
     pub user_properties: Sequence<(Text, Text)>,
 }
 
@@ -107,7 +111,9 @@ impl PropertySet for AuthProperties {
 /// An Auth (MQTT 5.0 section 3.15).
 #[derive(Debug, Clone, PartialEq, Eq, Drop)]
 pub struct Auth {
+    /// Of an empty body Success.
     pub code: AuthReasonCode,
+    /// An empty set is read again as None.
     pub properties: Option<AuthProperties>,
 }
 
@@ -141,8 +147,8 @@ impl Auth {
         Auth { code, properties }
     }
 
-    /// The Auth of a frame's bytes. E16 of a reason code that an Auth doesn't have, E14 to E18 of a
-    /// field that can't be read; E21.
+    /// The Auth of a frame's bytes, of which the header is. E16 of a reason code that an Auth doesn't
+    /// have, E14 to E18 of a field that can't be read; E21.
     pub fn read(alloc: Global, header: FixedHeader, bytes: Bytes) -> Result<Auth, Error>
         requires { length bytes ≡ header.fixed_header_len + header.remaining_len }
         ensures { Gives (λ a. content_of_packet (auth_packet a)) result (values_in auth_row header.byte1 header.remaining_len (drop header.fixed_header_len bytes)) }
@@ -169,7 +175,8 @@ impl Auth {
         put_block(&self.properties, out);
     }
 
-    /// Appends the Auth and answers its length. E11, E21; then the buffer is unchanged.
+    /// Appends the Auth and answers its length. E11 where a text or bytes are over 65,535 bytes, or the
+    /// properties or the body over 268,435,455; E21. The buffer is then unchanged.
     pub fn write(&self, buffer: &mut BytesMut) -> Result<usize, Error>
         ensures { Writes (writing auth_row (auth_packet self.now)) result buffer.old.items buffer.new.items }
     {

@@ -16,8 +16,9 @@ use mqtt5_base::{
 };
 use std::alloc::{AllocError, Global};
 
-/// How a connect is answered (MQTT 5.0 section 3.2.2.2). `RefusedProtocolVersion`, `BadClientId` and
-/// `ServiceUnavailable` are of earlier versions of MQTT, and are neither read nor written.
+/// How a connect is answered: codes 0 to 3, 128 to 138, 140, 144, 149, 151, 153 to 157 and 159, in this
+/// order (MQTT 5.0 section 3.2.2.2). `RefusedProtocolVersion`, `BadClientId` and `ServiceUnavailable` are
+/// of earlier versions of MQTT, and are neither read nor written.
 #[derive(Debug, Clone, Copy, PartialEq, Eq)]
 pub enum ConnectReturnCode {
     Success,
@@ -93,25 +94,42 @@ impl ConnectReturnCode {
     }
 }
 
-/// The properties of a ConnAck (MQTT 5.0 section 3.2.2.3).
+/// The properties of a ConnAck (MQTT 5.0 section 3.2.2.3). No number is judged.
 #[derive(Debug, PartialEq, Eq, Drop)]
 pub struct ConnAckProperties {
+    /// After how many seconds the server forgets the session of a lost connection.
     pub session_expiry_interval: Option<u32>,
+    /// How many publishes of QoS 1 and 2 the client may send ahead of their acks.
     pub receive_max: Option<u16>,
+    /// The greatest QoS that the client may use: 0 or 1.
     pub max_qos: Option<u8>,
+    /// Whether the server keeps messages: 0 or 1.
     pub retain_available: Option<u8>,
+    /// The longest packet that the client may send, in bytes.
     pub max_packet_size: Option<u32>,
+    /// The identifier of a client that gave none.
     pub assigned_client_identifier: Option<Text>,
+    /// The greatest topic alias that the client may use.
     pub topic_alias_max: Option<u16>,
+    /// Why, as a text for people.
     pub reason_string: Option<Text>,
+    /// Names and values, in order; a name may stand often.
     pub user_properties: Sequence<(Text, Text)>,
+    /// Whether filters may have wildcards: 0 or 1.
     pub wildcard_subscription_available: Option<u8>,
+    /// Whether subscriptions may have identifiers: 0 or 1.
     pub subscription_identifiers_available: Option<u8>,
+    /// Whether subscriptions may be shared: 0 or 1.
     pub shared_subscription_available: Option<u8>,
+    /// The keep alive in place of the client's, in seconds.
     pub server_keep_alive: Option<u16>,
+    /// What response topics are made from.
     pub response_information: Option<Text>,
+    /// Another server to use.
     pub server_reference: Option<Text>,
+    /// The name of the method of authentication.
     pub authentication_method: Option<Text>,
+    /// Data of that method.
     pub authentication_data: Option<Bytes>,
 }
 
@@ -371,8 +389,11 @@ impl ConnAckProperties {
 /// A ConnAck (MQTT 5.0 section 3.2).
 #[derive(Debug, Clone, PartialEq, Eq, Drop)]
 pub struct ConnAck {
+    /// Whether the server has the client's last session.
     pub session_present: bool,
+    /// How the connect is answered.
     pub code: ConnectReturnCode,
+    /// An empty set is read again as None.
     pub properties: Option<ConnAckProperties>,
 }
 
@@ -408,8 +429,8 @@ fn reason(num: u8) -> Result<ConnectReturnCode, Error>
 }
 
 impl ConnAck {
-    /// The ConnAck of a frame's bytes. E16 to E18, E14 and E15 of a field that can't be read, E1 of a
-    /// reason code that a ConnAck doesn't have; E21.
+    /// The ConnAck of a frame's bytes, of which the header is. E14 to E18 of a field that can't be read,
+    /// then E1 with a reason code that a ConnAck doesn't have; E21.
     #[tactic(auto, using(mqtt5_base::proofs::Bits::bit_of_mod))]
     pub fn read(alloc: Global, header: FixedHeader, bytes: Bytes) -> Result<ConnAck, Error>
         requires { length bytes ≡ header.fixed_header_len + header.remaining_len }
@@ -445,8 +466,9 @@ impl ConnAck {
         put_block(&self.properties, out);
     }
 
-    /// Appends the ConnAck and answers its length. E11, E1 with the number of a code of an earlier
-    /// version, E21; then the buffer is unchanged.
+    /// Appends the ConnAck and answers its length. E11 where a text or bytes are over 65,535 bytes, or
+    /// the properties or the body over 268,435,455; else E1 with the number of a code of an earlier
+    /// version; E21. The buffer is then unchanged.
     pub fn write(&self, buffer: &mut BytesMut) -> Result<usize, Error>
         ensures { Writes (writing connack_row (connack_packet self.now)) result buffer.old.items buffer.new.items }
     {

@@ -16,7 +16,8 @@ use mqtt5_base::{
 };
 use std::alloc::{AllocError, Global};
 
-/// Why a connection ends (MQTT 5.0 section 3.14.2.1).
+/// Why a connection ends: codes 0, 4, 128 to 131, 135, 137, 139, 141 to 144 and 147 to 162, in this order
+/// (MQTT 5.0 section 3.14.2.1).
 #[derive(Debug, Clone, Copy, PartialEq, Eq)]
 pub enum DisconnectReasonCode {
     NormalDisconnection,
@@ -50,7 +51,7 @@ pub enum DisconnectReasonCode {
     WildcardSubscriptionsNotSupported,
 }
 
-/// The reason of a code; E1 of a number that is no reason's. Takes no memory.
+/// The reason of a code; E1 with a number that is no reason's. Takes no memory.
 impl TryFrom<u8> for DisconnectReasonCode {
     type Error = Error;
 
@@ -130,12 +131,16 @@ impl DisconnectReasonCode {
     }
 }
 
-/// The properties of a Disconnect (MQTT 5.0 section 3.14.2.2).
+/// The properties of a Disconnect (MQTT 5.0 section 3.14.2.2). No number is judged.
 #[derive(Debug, Clone, PartialEq, Eq, Drop)]
 pub struct DisconnectProperties {
+    /// After how many seconds the server forgets the session.
     pub session_expiry_interval: Option<u32>,
+    /// Why, as a text for people.
     pub reason_string: Option<Text>,
+    /// Names and values, in order; a name may stand often.
     pub user_properties: Sequence<(Text, Text)>,
+    /// Another server to use.
     pub server_reference: Option<Text>,
 }
 
@@ -212,7 +217,9 @@ impl DisconnectProperties {
 /// A Disconnect (MQTT 5.0 section 3.14).
 #[derive(Debug, Clone, PartialEq, Eq, Drop)]
 pub struct Disconnect {
+    /// Of an empty body NormalDisconnection.
     pub reason_code: DisconnectReasonCode,
+    /// An empty set is read again as None.
     pub properties: Option<DisconnectProperties>,
 }
 
@@ -258,9 +265,9 @@ impl Disconnect {
         }
     }
 
-    /// The Disconnect of a frame's bytes. E5 with the header's type where that isn't 14, E16 of flags
-    /// that aren't 0, E1 of a reason code that a Disconnect doesn't have, E14 to E18 of a field that
-    /// can't be read; E21.
+    /// The Disconnect of a frame's bytes, of which the header is. E5 with the header's type where that
+    /// isn't 14, E16 of flags that aren't 0, E1 with a reason code that a Disconnect doesn't have, E14 to
+    /// E18 of a field that can't be read; E21.
     pub fn read(alloc: Global, header: FixedHeader, bytes: Bytes) -> Result<Disconnect, Error>
         requires { length bytes ≡ header.fixed_header_len + header.remaining_len }
         ensures { Gives (λ d. content_of_packet (disconnect_packet d)) result (values_in disconnect_row header.byte1 header.remaining_len (drop header.fixed_header_len bytes)) }
@@ -305,7 +312,9 @@ impl Disconnect {
         }
     }
 
-    /// Appends the Disconnect and answers its length. E11, E21; then the buffer is unchanged.
+    /// Appends the Disconnect and answers its length; of a normal disconnection without properties that
+    /// is 2. E11 where a text is over 65,535 bytes, or the properties or the body over 268,435,455; E21.
+    /// The buffer is then unchanged.
     pub fn write(&self, buffer: &mut BytesMut) -> Result<usize, Error>
         ensures { Writes (writing disconnect_row (disconnect_packet self.now)) result buffer.old.items buffer.new.items }
     {

@@ -1,4 +1,5 @@
--- What Subscribe, SubAck, Unsubscribe and UnsubAck are read as after they were written.
+-- What Subscribe, SubAck, Unsubscribe and UnsubAck are read as after they were written (MQTT 5.0
+-- sections 2.2.2.1 and 3.9.3).
 use Rattle.std.specs.Prelude.{map}
 use Rattle.mqtt5_base.specs.Tidy.{tidy}
 use Rattle.mqtt5_flow.specs.Acks.{ack_found}
@@ -10,15 +11,18 @@ use Rattle.mqtt5_subs.specs.Subscribes.{subscribe_found}
 use Rattle.mqtt5_subs.specs.SubAcks.{suback_settled}
 use Rattle.mqtt5_subs.specs.Unsubscribes.{unsubscribe_found}
 
+-- an empty property set is none (2.2.2.1)
 abbrev pub subscribe_norm : Subscribe → Subscribe
 subscribe_norm p = record { pkid = p.pkid; filters = p.filters; properties = tidy subscribe_found p.properties }
 
--- a failure is read as unspecified
+-- the same, and a failure is read as unspecified (3.9.3)
 abbrev pub suback_norm : SubAck → SubAck
 suback_norm p = record { pkid = p.pkid; return_codes = map suback_settled p.return_codes; properties = tidy ack_found p.properties }
 
+-- the same as of a Subscribe
 abbrev pub unsubscribe_norm : Unsubscribe → Unsubscribe
 unsubscribe_norm p = record { pkid = p.pkid; filters = p.filters; properties = tidy unsubscribe_found p.properties }
 
+-- the same as of a Subscribe
 abbrev pub unsuback_norm : UnsubAck → UnsubAck
 unsuback_norm p = record { pkid = p.pkid; reasons = p.reasons; properties = tidy ack_found p.properties }

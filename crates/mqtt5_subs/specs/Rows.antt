@@ -10,7 +10,7 @@ abbrev pub wanted : Option Wrong → List Step
 wanted None = []
 wanted (Some w) = more w ∷ []
 
--- the identifier, the properties, and a field and steps again and again to the end
+-- the identifier, the properties, and a field and steps again and again to the end (3.8 to 3.11)
 abbrev pub listed_row : List Entry → Option Wrong → Field → List Step → Row
 listed_row table lack first others = record {
   steps = there (one u16) ∷ there (block table) ∷ wanted lack;
@@ -42,13 +42,13 @@ option_steps =
     ∷ note (bits (read 1) 16 4)
     ∷ []
 
--- one filter at least (3.8.3)
+-- a Subscribe, with one filter at least (3.8.3)
 abbrev pub subscribe_row : Row
 subscribe_row = listed_row subscribe_table (Some no_filters) (one text) option_steps
 
 -- ---- SubAck (3.9) and UnsubAck (3.11)
 
--- one reason code at least, each of which is judged
+-- one reason code at least, each of which is judged (3.9.3, 3.11.3)
 abbrev pub codes_row : Test → Row
 codes_row codes = listed_row ack_table (Some malformed) (checked u8 codes bad_subscribe_reason) []
 
@@ -56,6 +56,7 @@ codes_row codes = listed_row ack_table (Some malformed) (checked u8 codes bad_su
 abbrev pub suback_codes : Test
 suback_codes = any_of (0 ∷ 1 ∷ 2 ∷ 128 ∷ 131 ∷ 135 ∷ 143 ∷ 145 ∷ 151 ∷ 158 ∷ 161 ∷ 162 ∷ [])
 
+-- a SubAck (3.9)
 abbrev pub suback_row : Row
 suback_row = codes_row suback_codes
 
@@ -63,6 +64,7 @@ suback_row = codes_row suback_codes
 abbrev pub unsuback_codes : Test
 unsuback_codes = any_of (0 ∷ 17 ∷ 128 ∷ 131 ∷ 135 ∷ 143 ∷ 145 ∷ [])
 
+-- an UnsubAck (3.11)
 abbrev pub unsuback_row : Row
 unsuback_row = codes_row unsuback_codes
 
@@ -72,6 +74,6 @@ unsuback_row = codes_row unsuback_codes
 abbrev pub unsubscribe_table : List Entry
 unsubscribe_table = several_of 38 ∷ []
 
--- filters, also none
+-- an Unsubscribe, also without filters, where 3.10.3 asks for one
 abbrev pub unsubscribe_row : Row
 unsubscribe_row = listed_row unsubscribe_table None (one text) []

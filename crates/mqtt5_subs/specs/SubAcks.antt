@@ -23,9 +23,11 @@ suback_code codes.SharedSubscriptionsNotSupported = 158
 suback_code codes.SubscriptionIdNotSupported = 161
 suback_code codes.WildcardSubscriptionsNotSupported = 162
 
+-- a reason code of the list
 abbrev pub suback_item : SubscribeReasonCode → Written
 suback_item r = just (plain (number (suback_code r)) ∷ [])
 
+-- a SubAck as it is written
 abbrev pub suback_packet : SubAck → WrittenPacket
 suback_packet p = listed_packet 144 p.pkid (option_map ack_found p.properties) (map suback_item p.return_codes)
 
@@ -36,6 +38,7 @@ suback_settled r = r
 
 -- ---- a SubAck from its values
 
+-- the reason of a code (3.9.3)
 abbrev pub suback_reason : ℕ → SubscribeReasonCode
 suback_reason n =
     if n == 128 then codes.Unspecified
@@ -49,8 +52,10 @@ suback_reason n =
     else if n == 162 then codes.WildcardSubscriptionsNotSupported
     else codes.Success (qos_of n)
 
+-- the reason of an item's values
 abbrev pub suback_reason_in : List Value → SubscribeReasonCode
 suback_reason_in vs = suback_reason (number_in vs 0)
 
+-- the SubAck of the row's values
 abbrev pub suback_of : Content → SubAck
 suback_of c = record { pkid = number_in c.0 0; return_codes = map suback_reason_in (items_in c.1); properties = option_map ack_set (found_in c.0 1) }

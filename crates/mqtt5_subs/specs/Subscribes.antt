@@ -22,6 +22,7 @@ rule_number OnEverySubscribe = 0
 rule_number OnNewSubscribe = 1
 rule_number Never = 2
 
+-- the retain handling option of a number
 abbrev pub rule_of : ℕ → RetainForwardRule
 rule_of n = if n == 1 then OnNewSubscribe else (if n == 2 then Never else OnEverySubscribe)
 
@@ -46,6 +47,7 @@ filter_written f = record {
 abbrev pub filters_part : Part
 filters_part = each (one text) option_steps
 
+-- filters as they are read
 abbrev pub filters_group : List Filter → Group
 filters_group fs = several (all_kept (map filter_written fs))
 
@@ -55,15 +57,17 @@ filter_writing f = steps_writing (repeated (one text) option_steps) 0 (filter_wr
 
 -- ---- the packet
 
+-- the values of the properties (3.8.2.1)
 abbrev pub subscribe_found : SubscribeProperties → Found
 subscribe_found s = numbers s.id ∷ pairs s.user_properties ∷ []
 
--- the first byte has a flag that is always set (3.8.1)
+-- a Subscribe as it is written; the first byte has a flag that is always set (3.8.1)
 abbrev pub subscribe_packet : Subscribe → WrittenPacket
 subscribe_packet p = listed_packet 130 p.pkid (option_map subscribe_found p.properties) (map filter_written p.filters)
 
 -- ---- a Subscribe from its values
 
+-- the filter of an item's values
 abbrev pub filter_of : List Value → Filter
 filter_of vs = record {
   path = text_of (content_in vs 0);
@@ -73,8 +77,10 @@ filter_of vs = record {
   retain_forward_rule = rule_of (number_in vs 4);
 }
 
+-- the properties of their values
 abbrev pub subscribe_set : Found → SubscribeProperties
 subscribe_set f = record { id = one_number (here_in f 0); user_properties = all_pairs (here_in f 1) }
 
+-- the Subscribe of the row's values
 abbrev pub subscribe_of : Content → Subscribe
 subscribe_of c = record { pkid = number_in c.0 0; filters = map filter_of (items_in c.1); properties = option_map subscribe_set (found_in c.0 1) }

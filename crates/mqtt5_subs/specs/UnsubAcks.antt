@@ -19,14 +19,17 @@ unsuback_code codes.NotAuthorized = 135
 unsuback_code codes.TopicFilterInvalid = 143
 unsuback_code codes.PacketIdentifierInUse = 145
 
+-- a reason code of the list
 abbrev pub unsuback_item : UnsubAckReason → Written
 unsuback_item r = just (plain (number (unsuback_code r)) ∷ [])
 
+-- an UnsubAck as it is written
 abbrev pub unsuback_packet : UnsubAck → WrittenPacket
 unsuback_packet p = listed_packet 176 p.pkid (option_map ack_found p.properties) (map unsuback_item p.reasons)
 
 -- ---- an UnsubAck from its values
 
+-- the reason of a code (3.11.3)
 abbrev pub unsuback_reason : ℕ → UnsubAckReason
 unsuback_reason n =
     if n == 17 then codes.NoSubscriptionExisted
@@ -37,8 +40,10 @@ unsuback_reason n =
     else if n == 145 then codes.PacketIdentifierInUse
     else codes.Success
 
+-- the reason of an item's values
 abbrev pub unsuback_reason_in : List Value → UnsubAckReason
 unsuback_reason_in vs = unsuback_reason (number_in vs 0)
 
+-- the UnsubAck of the row's values
 abbrev pub unsuback_of : Content → UnsubAck
 unsuback_of c = record { pkid = number_in c.0 0; reasons = map unsuback_reason_in (items_in c.1); properties = option_map ack_set (found_in c.0 1) }

@@ -12,7 +12,8 @@ use bytes::{Bytes, BytesMut};
 use mqtt5_base::{Error, FieldValue, QoS, Sequence, Text, read_qos, read_text, read_u8};
 use std::alloc::Global;
 
-/// Which retained messages are sent when a subscription is made (MQTT 5.0 section 3.8.3.1).
+/// Which retained messages are sent when a subscription is made: options 0, 1 and 2, in this order (MQTT
+/// 5.0 section 3.8.3.1).
 #[derive(Debug, Clone, Copy, Default, PartialEq, Eq)]
 pub enum RetainForwardRule {
     #[default]
@@ -24,10 +25,15 @@ pub enum RetainForwardRule {
 /// A topic filter and its subscription options (MQTT 5.0 section 3.8.3).
 #[derive(Debug, Clone, PartialEq, Eq, Drop)]
 pub struct Filter {
+    /// The topic filter, which isn't judged, up to 65,535 bytes to be written.
     pub path: Text,
+    /// The greatest QoS of what is sent.
     pub qos: QoS,
+    /// Whether the client's own messages aren't sent back.
     pub nolocal: bool,
+    /// Whether messages keep their retain flag.
     pub preserve_retain: bool,
+    /// Which retained messages are sent.
     pub retain_forward_rule: RetainForwardRule,
 }
 
@@ -118,8 +124,8 @@ impl Filter {
     }
 
     /// All Filters to the end of the bytes, of which none is left; of no bytes an empty list. E14 to
-    /// E16 of a path or options that can't be read, E6 of a retain handling option of 3, E7 of a QoS
-    /// of 3; E21. After a refusal the bytes are unchanged.
+    /// E16 of a path or options that can't be read, E6 of a retain handling option of 3, else E7 of a
+    /// QoS of 3; E21. After a refusal the bytes are unchanged.
     pub fn read(alloc: Global, bytes: &mut Bytes) -> Result<Sequence<Filter>, Error>
         ensures read { Gives (λ fs. (filters_group fs, bytes.new)) result (part_at filters_part [] bytes.old) }
         ensures kept { OnErr result (bytes.new ≡ bytes.old) }

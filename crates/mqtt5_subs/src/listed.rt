@@ -25,7 +25,8 @@ pub trait Listed: Drop {
     /// The item as it is read again.
     ghost settled: { Self → Self };
 
-    /// Takes an item from the front. The fault of its first field that can't be read; E21.
+    /// Takes an item from the front. The fault of its first field that can't be read; E21. Of the stream
+    /// nothing is said then.
     fn read_item(alloc: Global, stream: &mut Bytes) -> Result<Self, Error>
         ensures read { Gives (λ item. ((written item).kept, stream.new)) result (kept_at (repeated first others) 0 stream.old) }
         ensures known { IfOk result (λ item. settled item ≡ item) };

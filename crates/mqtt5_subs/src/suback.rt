@@ -15,8 +15,9 @@ use mqtt5_base::{Error, FieldValue, FixedHeader, QoS, Sequence, read_block, read
 use mqtt5_flow::AckProperties;
 use std::alloc::Global;
 
-/// What became of one filter of a Subscribe (MQTT 5.0 section 3.9.3). `Failure` is written as
-/// `Unspecified` is, and never read.
+/// What became of one filter of a Subscribe: codes 0 to 2 of a success, and 128, 128, 131, 135, 143, 145,
+/// 151, 158, 161 and 162, in this order (MQTT 5.0 section 3.9.3). `Failure` is written as `Unspecified`
+/// is, and never read.
 #[derive(Debug, Clone, Copy, PartialEq, Eq)]
 pub enum SubscribeReasonCode {
     /// The subscription was made, with this QoS at most.
@@ -108,14 +109,18 @@ pub type SubAckProperties = AckProperties;
 /// A SubAck (MQTT 5.0 section 3.9).
 #[derive(Debug, Clone, PartialEq, Eq, Drop)]
 pub struct SubAck {
+    /// That of the Subscribe. It isn't judged.
     pub pkid: u16,
+    /// One of each filter, in order; one at least where it is read or written.
     pub return_codes: Sequence<SubscribeReasonCode>,
+    /// An empty set is read again as None.
     pub properties: Option<SubAckProperties>,
 }
 
 impl SubAck {
-    /// The SubAck of a frame's bytes, in which no code is `Failure`. E16 without reason codes, E8 of a
-    /// reason code that a SubAck doesn't have, E14 to E18 of a field that can't be read; E21.
+    /// The SubAck of a frame's bytes, of which the header is; no code is `Failure`. E16 without reason
+    /// codes, E8 with a reason code that a SubAck doesn't have, E14 to E18 of a field that can't be
+    /// read; E21.
     pub fn read(alloc: Global, header: FixedHeader, bytes: Bytes) -> Result<SubAck, Error>
         requires { length bytes ≡ header.fixed_header_len + header.remaining_len }
         ensures read { Gives (λ p. content_of_packet (suback_packet p)) result (values_in suback_row header.byte1 header.remaining_len (drop header.fixed_header_len bytes)) }
@@ -136,8 +141,9 @@ impl SubAck {
         })
     }
 
-    /// Appends the SubAck and answers its length. E11, E16 without reason codes, E21; then the buffer
-    /// is unchanged.
+    /// Appends the SubAck and answers its length. E11 where a text is over 65,535 bytes, or the
+    /// properties or the body over 268,435,455; else E16 without reason codes; E21. The buffer is then
+    /// unchanged.
     pub fn write(&self, buffer: &mut BytesMut) -> Result<usize, Error>
         ensures { Writes (writing suback_row (suback_packet self.now)) result buffer.old.items buffer.new.items }
     {

@@ -20,7 +20,9 @@ use std::alloc::{AllocError, Global};
 /// The properties of a Subscribe (MQTT 5.0 section 3.8.2.1).
 #[derive(Debug, Clone, PartialEq, Eq, Drop)]
 pub struct SubscribeProperties {
+    /// The subscription identifier, written up to 268,435,455. It isn't judged.
     pub id: Option<usize>,
+    /// Names and values, in order; a name may stand often.
     pub user_properties: Sequence<(Text, Text)>,
 }
 
@@ -73,8 +75,11 @@ impl PropertySet for SubscribeProperties {
 /// A Subscribe (MQTT 5.0 section 3.8).
 #[derive(Debug, Clone, PartialEq, Eq, Drop)]
 pub struct Subscribe {
+    /// The packet identifier. It isn't judged.
     pub pkid: u16,
+    /// One at least where it is read or written.
     pub filters: Sequence<Filter>,
+    /// An empty set is read again as None.
     pub properties: Option<SubscribeProperties>,
 }
 
@@ -120,8 +125,8 @@ impl Subscribe {
         })
     }
 
-    /// The Subscribe of a frame's bytes. E10 without filters, E6 of a retain handling option of 3, E7
-    /// of a QoS of 3, E14 to E18 of a field that can't be read; E21.
+    /// The Subscribe of a frame's bytes, of which the header is. E10 without filters, E6 of a retain
+    /// handling option of 3, E7 of a QoS of 3, E14 to E18 of a field that can't be read; E21.
     pub fn read(alloc: Global, header: FixedHeader, bytes: Bytes) -> Result<Subscribe, Error>
         requires { length bytes ≡ header.fixed_header_len + header.remaining_len }
         ensures { Gives (λ p. content_of_packet (subscribe_packet p)) result (values_in subscribe_row header.byte1 header.remaining_len (drop header.fixed_header_len bytes)) }
@@ -141,8 +146,9 @@ impl Subscribe {
         })
     }
 
-    /// Appends the Subscribe and answers its length. E11, E10 without filters, E21; then the buffer is
-    /// unchanged.
+    /// Appends the Subscribe and answers its length. E11 where a text is over 65,535 bytes, or the
+    /// subscription identifier, the properties or the body over 268,435,455; else E10 without filters;
+    /// E21. The buffer is then unchanged.
     pub fn write(&self, buffer: &mut BytesMut) -> Result<usize, Error>
         ensures { Writes (writing subscribe_row (subscribe_packet self.now)) result buffer.old.items buffer.new.items }
     {

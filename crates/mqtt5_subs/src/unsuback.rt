@@ -15,7 +15,8 @@ use mqtt5_base::{Error, FieldValue, FixedHeader, Sequence, read_block, read_u8, 
 use mqtt5_flow::AckProperties;
 use std::alloc::Global;
 
-/// What became of one filter of an Unsubscribe (MQTT 5.0 section 3.11.3).
+/// What became of one filter of an Unsubscribe: codes 0, 17, 128, 131, 135, 143 and 145, in this order
+/// (MQTT 5.0 section 3.11.3).
 #[derive(Debug, Clone, Copy, PartialEq, Eq)]
 pub enum UnsubAckReason {
     Success,
@@ -92,14 +93,17 @@ pub type UnsubAckProperties = AckProperties;
 /// An UnsubAck (MQTT 5.0 section 3.11).
 #[derive(Debug, Clone, PartialEq, Eq, Drop)]
 pub struct UnsubAck {
+    /// That of the Unsubscribe. It isn't judged.
     pub pkid: u16,
+    /// One of each filter, in order; one at least where it is read or written.
     pub reasons: Sequence<UnsubAckReason>,
+    /// An empty set is read again as None.
     pub properties: Option<UnsubAckProperties>,
 }
 
 impl UnsubAck {
-    /// The UnsubAck of a frame's bytes. E16 without reason codes, E8 of a reason code that an UnsubAck
-    /// doesn't have, E14 to E18 of a field that can't be read; E21.
+    /// The UnsubAck of a frame's bytes, of which the header is. E16 without reason codes, E8 with a
+    /// reason code that an UnsubAck doesn't have, E14 to E18 of a field that can't be read; E21.
     pub fn read(alloc: Global, header: FixedHeader, bytes: Bytes) -> Result<UnsubAck, Error>
         requires { length bytes ≡ header.fixed_header_len + header.remaining_len }
         ensures { Gives (λ p. content_of_packet (unsuback_packet p)) result (values_in unsuback_row header.byte1 header.remaining_len (drop header.fixed_header_len bytes)) }
@@ -119,8 +123,9 @@ impl UnsubAck {
         })
     }
 
-    /// Appends the UnsubAck and answers its length. E11, E16 without reason codes, E21; then the
-    /// buffer is unchanged.
+    /// Appends the UnsubAck and answers its length. E11 where a text is over 65,535 bytes, or the
+    /// properties or the body over 268,435,455; else E16 without reason codes; E21. The buffer is then
+    /// unchanged.
     pub fn write(&self, buffer: &mut BytesMut) -> Result<usize, Error>
         ensures { Writes (writing unsuback_row (unsuback_packet self.now)) result buffer.old.items buffer.new.items }
     {

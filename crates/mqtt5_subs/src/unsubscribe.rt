@@ -21,6 +21,7 @@ use std::alloc::{AllocError, Global};
 /// The properties of an Unsubscribe (MQTT 5.0 section 3.10.2.1).
 #[derive(Debug, Clone, PartialEq, Eq, Drop)]
 pub struct UnsubscribeProperties {
+    /// Names and values, in order; a name may stand often.
     pub user_properties: Sequence<(Text, Text)>,
 }
 
@@ -94,8 +95,11 @@ impl Listed for Text {
 /// An Unsubscribe (MQTT 5.0 section 3.10).
 #[derive(Debug, Clone, PartialEq, Eq, Drop)]
 pub struct Unsubscribe {
+    /// The packet identifier. It isn't judged.
     pub pkid: u16,
+    /// Topic filters, which aren't judged, also none.
     pub filters: Sequence<Text>,
+    /// An empty set is read again as None.
     pub properties: Option<UnsubscribeProperties>,
 }
 
@@ -119,8 +123,8 @@ impl Unsubscribe {
         })
     }
 
-    /// The Unsubscribe of a frame's bytes, also without filters. E14 to E18 of a field that can't be
-    /// read; E21.
+    /// The Unsubscribe of a frame's bytes, of which the header is, also without filters. E14 to E18 of a
+    /// field that can't be read; E21.
     pub fn read(alloc: Global, header: FixedHeader, bytes: Bytes) -> Result<Unsubscribe, Error>
         requires { length bytes ≡ header.fixed_header_len + header.remaining_len }
         ensures { Gives (λ p. content_of_packet (unsubscribe_packet p)) result (values_in unsubscribe_row header.byte1 header.remaining_len (drop header.fixed_header_len bytes)) }
@@ -137,7 +141,8 @@ impl Unsubscribe {
         })
     }
 
-    /// Appends the Unsubscribe and answers its length. E11, E21; then the buffer is unchanged.
+    /// Appends the Unsubscribe and answers its length. E11 where a text is over 65,535 bytes, or the
+    /// properties or the body over 268,435,455; E21. The buffer is then unchanged.
     pub fn write(&self, buffer: &mut BytesMut) -> Result<usize, Error>
         ensures { Writes (writing unsubscribe_row (unsubscribe_packet self.now)) result buffer.old.items buffer.new.items }
     {
