@@ -271,7 +271,7 @@ written_fits steps w = steps_fit steps w.raws w.kept
 abbrev pub steps_writing : List Step → ℕ → Written → Result (List ℕ) Error
 steps_writing steps n w = if written_fits steps w then Ok (written_bytes steps n w) else Err PayloadTooLong
 
--- the same of a part that may be absent
+-- whether the values of a part that may be absent fit
 abbrev pub optional_fits : List Step → Option Written → Bool
 optional_fits steps None = true
 optional_fits steps (Some w) = written_fits steps w
