@@ -18,5 +18,5 @@ mod tests;
 pub use error::StateError;
 pub use event::{Event, Incoming, Outgoing, Request};
 pub use mqtt5_codec::MqttOptions;
-pub use run::{Input, Step, cutting, drive, twice};
+pub use run::{Input, Step, cutting, drive, may_start, twice};
 pub use state::MqttState;

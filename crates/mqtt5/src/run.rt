@@ -1,6 +1,6 @@
 //! The loop: bytes in pieces and requests go in, frames and events come out.
 
-ghost use Rattle.std.specs.Prelude.{◌≡◌, ℕ, Some, List, [], ◌∷◌, ◌++◌, IfErr, OnOk, IsOk};
+ghost use Rattle.std.specs.Prelude.{◌≡◌, ℕ, Some, List, [], ◌∷◌, ◌++◌, Option, IfErr, OnOk, IsOk};
 ghost use Rattle.mqtt5_base.specs.Front.{front};
 ghost use Rattle.mqtt5_codec.specs.declared.codec.Codec.{Codec};
 ghost use Rattle.mqtt5.specs.Session.{Session, out, inc};
@@ -157,6 +157,11 @@ pub fn drive(
     }
     Ok(())
 }
+
+/// `drive` may start on an empty input.
+pub fn may_start()
+    ensures { (limit : Option ℕ) (input : List ℕ) → input ≡ [] → IsMore (front limit input) }
+{}
 
 /// Cutting a piece in two changes nothing, where both keep its moment.
 pub fn cutting()

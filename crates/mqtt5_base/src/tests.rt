@@ -6,7 +6,9 @@ use crate::fields::{read_bytes, read_text, read_u8, read_u16, read_u32, read_var
 use crate::frame::{frame_size, start_frame};
 use crate::header::{FixedHeader, PacketType};
 use crate::laws::{grammar_laws, qos_laws, shortest_form};
-use crate::mqttbytes::{has_wildcards, matches, matching_laws, qos, valid_filter, valid_topic};
+use crate::mqttbytes::{
+    has_wildcards, matches, matching_laws, qos, read_qos, valid_filter, valid_topic,
+};
 use crate::quality::QoS;
 use crate::sequence::Sequence;
 use crate::tagged::Tagged;
@@ -104,6 +106,8 @@ fn headers(rt: HostRuntime) -> Result<(), Fail> {
     qos_laws();
     assert_eq!(rt; qos(2), Some(QoS::ExactlyOnce));
     assert_eq!(rt; qos(3), None);
+    assert_eq!(rt; read_qos(2), Ok(QoS::ExactlyOnce));
+    assert_eq!(rt; read_qos(3), Err(Error::InvalidQoS(3)));
     assert_eq!(rt; QoS::default(), QoS::AtMostOnce);
     assert!(rt; QoS::AtMostOnce < QoS::ExactlyOnce);
     let mut out = BytesMut::new(rt.alloc());

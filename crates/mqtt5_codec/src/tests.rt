@@ -4,7 +4,7 @@ use crate::codec::Codec;
 use crate::frames::frame_laws;
 use crate::packet::Packet;
 use bytes::{Bytes, BytesMut};
-use mqtt5_base::{Error, PropertyBlock, QoS, Sequence, Text, copied, same};
+use mqtt5_base::{Error, PropertyBlock, QoS, Sequence, Text, block_len, copied, read_block, same};
 use mqtt5_flow::{
     AckProperties, PingReq, PingResp, PubAck, PubComp, PubCompReason, PubRec, PubRecReason, PubRel,
     PubRelReason, Publish, PublishProperties,
@@ -516,9 +516,17 @@ fn set_again(alloc: Global, block: &[u8]) -> Result<BytesMut, Error> {
     Ok(buffer)
 }
 
+/// How many bytes a block takes once it is read.
+fn read_len(alloc: Global, block: &[u8]) -> Result<usize, Error> {
+    let mut stream = Bytes::copy_from_slice(alloc, block)?;
+    let set: Option<AckProperties> = read_block(alloc, &mut stream)?;
+    Ok(block_len(&set))
+}
+
 #[test]
 fn sets_as_blocks(rt: HostRuntime) -> Result<(), Fail> {
     let block: &[u8] = &[0x09, 0x1F, 0x00, 0x01, 0x61, 0x26, 0x00, 0x00, 0x00, 0x00];
     assert_eq!(rt; set_again(rt.alloc(), block)?.as_slice(), block);
+    assert_eq!(rt; read_len(rt.alloc(), block)?, 10);
     Ok(())
 }

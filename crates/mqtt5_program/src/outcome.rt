@@ -1,8 +1,7 @@
 //! What came of a script.
 
 use bytes::BytesMut;
-use mqtt5::{MqttState, StateError, Step, drive};
-use mqtt5_base::front_laws;
+use mqtt5::{MqttState, StateError, Step, drive, may_start};
 use mqtt5_codec::Codec;
 use std::alloc::Global;
 use std::num::NonZeroU16;
@@ -25,7 +24,7 @@ pub fn run_steps(alloc: Global, limit: NonZeroU16, steps: &[Step]) -> Result<Out
     };
     let mut input = BytesMut::new(alloc);
     let mut written = BytesMut::new(alloc);
-    front_laws();
+    may_start();
     let fault = drive(
         alloc,
         &mut state,
