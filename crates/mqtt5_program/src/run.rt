@@ -1,6 +1,7 @@
 //! What the program does with its words, its input and its output.
 
-ghost use Rattle.std.specs.Prelude.{◌<◌};
+ghost use Rattle.std.specs.Prelude.{◌≡◌, ◌<◌, IfOk, IsSome, IsTrue, length};
+ghost use Rattle.mqtt5_program.specs.declared.run.Status.TheVariants.{Fault, Refused};
 
 use crate::bench::{FRAMES, try_vectors};
 use crate::outcome::run_steps;
@@ -23,7 +24,9 @@ enum Status {
 /// Runs the program on the words after its name, and answers its exit status: 0; 1 after a fault or a
 /// failing write; 2 where the words or the script are refused. Nothing runs before the whole script is read.
 pub fn run<R: Read, W: Write>(alloc: Global, words: &[String], input: &mut R, output: &mut W) -> u8
-    ensures { result < 3 }
+    ensures status { result < 3 }
+    ensures some { result ≡ 0 → 0 < length words.now }
+    ensures few { result ≡ 0 → length words.now < 3 }
 {
     let printed = if is_bench(words) {
         run_bench(alloc, output)
@@ -36,9 +39,10 @@ pub fn run<R: Read, W: Write>(alloc: Global, words: &[String], input: &mut R, ou
     printed.unwrap_or(Status::Fault) as u8
 }
 
-/// Ends the program where its words can't be had: one isn't UTF-8, or memory ran out.
+/// Ends the program where its words can't be had: one isn't UTF-8, or memory ran out. Never by 0.
 pub fn refuse_words<W: Write>(error: &io::Error, output: &mut W) -> u8
-    ensures { result < 3 }
+    ensures status { result < 3 }
+    ensures refused { 0 < result }
 {
     let printed = match error.kind() {
         ErrorKind::OutOfMemory => write_memory_fault(output),
@@ -47,7 +51,9 @@ pub fn refuse_words<W: Write>(error: &io::Error, output: &mut W) -> u8
     printed.unwrap_or(Status::Fault) as u8
 }
 
-fn is_bench(words: &[String]) -> bool {
+fn is_bench(words: &[String]) -> bool
+    ensures { IsTrue result → length words.now ≡ 1 }
+{
     match words {
         [word] => word.as_str() == "bench",
         _ => false,
@@ -63,7 +69,9 @@ fn run_bench<W: Write>(alloc: Global, output: &mut W) -> io::Result<Status> {
 }
 
 /// The limit of `drive LIMIT`, which is 1 to 65535; none of other words.
-fn drive_limit(words: &[String]) -> Option<NonZeroU16> {
+fn drive_limit(words: &[String]) -> Option<NonZeroU16>
+    ensures { IsSome result → length words.now ≡ 2 }
+{
     match words {
         [word, limit] if word.as_str() == "drive" => {
             let number = parse_number(limit.as_str())?;
@@ -113,12 +121,16 @@ fn write_refusal<W: Write>(output: &mut W, error: &ScriptError) -> io::Result<St
     }
 }
 
-fn write_memory_fault<W: Write>(output: &mut W) -> io::Result<Status> {
+fn write_memory_fault<W: Write>(output: &mut W) -> io::Result<Status>
+    ensures { IfOk result (λ s. s ≡ Fault) }
+{
     write_fault(output, &StateError::OutOfMemory)?;
     Ok(Status::Fault)
 }
 
-fn write_usage<W: Write>(output: &mut W) -> io::Result<Status> {
+fn write_usage<W: Write>(output: &mut W) -> io::Result<Status>
+    ensures { IfOk result (λ s. s ≡ Refused) }
+{
     output.write_all(b"usage: mqtt5 drive LIMIT | mqtt5 world LIMIT | mqtt5 bench\n")?;
     Ok(Status::Refused)
 }

@@ -1,5 +1,10 @@
 //! A script of steps, one on each line.
 
+ghost use Rattle.std.specs.Prelude.{◌≡◌, ◌↔◌};
+ghost use Rattle.hex.specs.declared.error.FromHexError.TheVariants as hex_errors;
+ghost use Rattle.mqtt5_program.specs.declared.script.ScriptError.TheVariants as script_errors;
+ghost use Rattle.mqtt5_program.specs.declared.script.LineError.TheVariants as line_errors;
+
 use bytes::Bytes;
 use hex::FromHexError;
 use mqtt5::{Input, Request, Step};
@@ -22,6 +27,8 @@ pub enum ScriptError {
 }
 
 impl From<AllocFailed<Step>> for ScriptError {
+    ghost from_gives = { λ _ e. e ≡ script_errors.OutOfMemory };
+
     fn from(_refused: AllocFailed<Step>) -> ScriptError {
         ScriptError::OutOfMemory
     }
@@ -44,6 +51,8 @@ impl LineError {
 }
 
 impl From<FromHexError> for LineError {
+    ghost from_gives = { λ h e. (e ≡ line_errors.OutOfMemory) ↔ (h ≡ hex_errors.OutOfMemory) };
+
     fn from(error: FromHexError) -> LineError {
         match error {
             FromHexError::OutOfMemory => LineError::OutOfMemory,
