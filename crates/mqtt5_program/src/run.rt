@@ -22,11 +22,11 @@ enum Status {
 }
 
 /// Runs the program on the words after its name, and answers its exit status: 0; 1 after a fault or a
-/// failing write; 2 where the words or the script are refused. Nothing runs before the whole script is read.
+/// failing write; 2 where the words or the script are refused, as none and more than two words are.
+/// Nothing runs before the whole script is read.
 pub fn run<R: Read, W: Write>(alloc: Global, words: &[String], input: &mut R, output: &mut W) -> u8
     ensures status { result < 3 }
-    ensures some { result ≡ 0 → 0 < length words.now }
-    ensures few { result ≡ 0 → length words.now < 3 }
+    ensures words { result ≡ 0 → (0 < length words.now) × (length words.now < 3) }
 {
     let printed = if is_bench(words) {
         run_bench(alloc, output)
