@@ -3,8 +3,8 @@ use Rattle.std.specs.Prelude.{◌≡◌, ℕ, zero, suc, ◌==◌, ◌+◌, ◌*
 use Rattle.mqtt5_base.specs.declared.error.Error.{Error}
 use Rattle.mqtt5_base.specs.declared.error.Error.TheVariants.{OutOfMemory}
 use Rattle.mqtt5_base.specs.Texts.{Utf8, text_of}
-use Rattle.mqtt5_base.specs.Grammar.{number, content, Found, Value, plain, properties, Group, optional, several, Content}
-use Rattle.mqtt5_base.specs.Views.{qos_number, qos_of, bit, numbers, contents, texts, pairs, one_number, one_content, one_text, all_pairs, here_in, number_in, content_in, found_in}
+use Rattle.mqtt5_base.specs.Grammar.{number, content, Found, Value, plain, properties, Group, optional, several, Content, number_in}
+use Rattle.mqtt5_base.specs.Views.{qos_number, qos_of, bit, numbers, contents, texts, pairs, one_number, one_content, one_text, all_pairs, here_in, content_in, found_in}
 use Rattle.mqtt5_base.specs.Layout.{Written, WrittenGroup, one_or_none, WrittenPacket, just}
 use Rattle.mqtt5_connect.specs.Rows.{protocol}
 use Rattle.mqtt5_connect.specs.declared.connect.ConnectProperties.{ConnectProperties}

@@ -1,7 +1,7 @@
 -- A Disconnect as the values of its row (MQTT 5.0 section 3.14).
 use Rattle.std.specs.Prelude.{ℕ, ◌==◌, Bool, false, [], ◌∷◌, Option, is_none, option_map, if◌then◌else◌}
-use Rattle.mqtt5_base.specs.Grammar.{number, Found, plain, properties, Content}
-use Rattle.mqtt5_base.specs.Views.{numbers, texts, pairs, one_number, one_text, all_pairs, here_in, number_in, found_in}
+use Rattle.mqtt5_base.specs.Grammar.{number, Found, plain, properties, Content, number_in}
+use Rattle.mqtt5_base.specs.Views.{numbers, texts, pairs, one_number, one_text, all_pairs, here_in, found_in}
 use Rattle.mqtt5_base.specs.Layout.{WrittenPacket, plainly}
 use Rattle.mqtt5_link.specs.declared.disconnect.DisconnectReasonCode.{DisconnectReasonCode}
 use Rattle.mqtt5_link.specs.declared.disconnect.DisconnectReasonCode.TheVariants as reasons
