@@ -39,11 +39,6 @@ will_found s =
     ∷ pairs s.user_properties
     ∷ []
 
--- This word serves the logic alone: the properties of a will that may be absent.
-abbrev pub will_block : Option LastWill → Option Found
-will_block None = None
-will_block (Some w) = option_map will_found w.properties
-
 -- clean start, the keep alive, the properties and the client identifier (3.1.2, 3.1.3.1)
 abbrev pub connect_values : Connect → List Value
 connect_values c = plain (number (bit c.clean_start)) ∷ plain (number c.keep_alive) ∷ properties (option_map connect_found c.properties) ∷ plain (content c.client_id.bytes) ∷ []
