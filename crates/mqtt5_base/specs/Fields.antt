@@ -119,7 +119,7 @@ Choice false off on n body g rest = (vs : List Value) × Kept off n body vs rest
 abbrev pub repeated : Field → List Step → List Step
 repeated f steps = field always f (plain (number 0)) ∷ steps
 
--- the body begins with a part, which gives that; its steps stand under the number at its place
+-- the body begins with a part, which gives that; the number that its steps stand under is that of a value read before
 abbrev pub IsPart : Part → List Value → List ℕ → Group → List ℕ → Type 0
 IsPart (choice k c off on) values body g rest =
     let n = number_in values k in (o : Option (List Value)) × Choice (holds (under n 0) c) off on n body o rest × (g ≡ optional o)
