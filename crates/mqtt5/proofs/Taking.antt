@@ -11,8 +11,9 @@ use Rattle.mqtt5.specs.Session.{Session, out, inc}
 use Rattle.mqtt5.specs.Errors.{state_error}
 use Rattle.mqtt5.specs.declared.error.StateError.{StateError}
 use Rattle.mqtt5.specs.declared.event.Request.{Request}
-use Rattle.mqtt5.specs.Course.{Course, finish, Stops, LeadsTo, Holds}
-use Rattle.mqtt5.specs.Run.{Atom, Ask, bytes_of, stepped, received, run, Goes, Drained, IsMore}
+use Rattle.mqtt5.specs.Ways.{LeadsTo, Goes, Drained}
+use Rattle.mqtt5.specs.Course.{Course, finish, Stops, Holds}
+use Rattle.mqtt5.specs.Run.{Atom, Ask, bytes_of, stepped, received, run, IsMore}
 use Rattle.mqtt5.proofs.Settles.{from_start, regroup}
 use Rattle.mqtt5.proofs.Ways.{leads_same, leads_on, stops_on, passes_here}
 

@@ -2,7 +2,8 @@
 use Rattle.std.proofs.Common.{◌≡◌, ℕ, List, refl, sym, ap, subst, ◌∙◌, inl, inr}
 use Rattle.mqtt5.specs.Session.{Session}
 use Rattle.mqtt5.specs.declared.error.StateError.{StateError}
-use Rattle.mqtt5.specs.Course.{Course, Rests, Faults, Moves, finish, Passes, Stops, LeadsTo}
+use Rattle.mqtt5.specs.Ways.{LeadsTo}
+use Rattle.mqtt5.specs.Course.{Course, Rests, Faults, Moves, finish, Passes, Stops}
 
 pub leads_same : (s : Session) (o : List ℕ) (c d : Course) → c ≡ d → LeadsTo s o c s o d
 leads_same s o c d e = record { ends = ap (finish s o) e; points = λ v w p. subst (λ (x : Course). Passes s o x v w) (sym e) p }

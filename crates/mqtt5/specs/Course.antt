@@ -39,10 +39,3 @@ Passes s output (Moves next reply c) t u = ((t ≡ s) × (u ≡ output)) ⊎ (((
 abbrev pub Stops : StateError → Session → List ℕ → Course → Session → List ℕ → Type 0
 Stops e s output c t u =
     ((e ≡ faults.OutOfMemory) × Passes s output c t u) ⊎ (finish s output c ≡ record { session = t; output = u; ending = Fault e })
-
--- ---- The rest of this file serves the logic alone.
-
--- c, from s and o, goes on as d from t and u
-pub record LeadsTo (s : Session) (o : List ℕ) (c : Course) (t : Session) (u : List ℕ) (d : Course) : Type 0 where
-  pub ends : finish s o c ≡ finish t u d
-  pub points : (v : Session) (w : List ℕ) → Passes t u d v w → Passes s o c v w

@@ -6,5 +6,6 @@ pub mod Codes
 pub mod Session
 pub mod Course
 pub mod Run
+pub mod Ways
 pub mod Sound
 pub mod Release

@@ -1,9 +1,15 @@
--- This file serves the logic alone: what is left where an id is made free, and the publish that then is sent.
-use Rattle.std.specs.Prelude.{ℕ, Option, Some, None, ◌==◌, if◌then◌else◌}
+-- This file serves the logic alone: the publish that waits; what is left where an id is made free, and what is sent then.
+use Rattle.std.specs.Prelude.{◌≢◌, ℕ, Option, Some, None, ◌==◌, if◌then◌else◌}
 use Rattle.std.specs.FinMap as map
+use Rattle.mqtt5_base.specs.declared.quality.QoS.TheVariants.{AtMostOnce}
 use Rattle.mqtt5_flow.specs.declared.publish.Publish.{Publish}
 use Rattle.mqtt5.specs.declared.slot.Slot.TheVariants.{Sent}
 use Rattle.mqtt5.specs.Held.{Held}
+
+-- what waits has a QoS of 1 or 2
+abbrev pub IsCounted : Option Publish → Type 0
+IsCounted None = Unit {0}
+IsCounted (Some p) = p.qos ≢ AtMostOnce
 
 -- the publish that is sent then
 abbrev pub sent_for : Option Publish → ℕ → Option Publish

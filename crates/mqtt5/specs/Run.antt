@@ -1,6 +1,6 @@
 -- The run of a client over pieces of bytes and requests, a byte at a time: what comes in is an ordered stream of bytes
 -- (MQTT 5.0 section 4.2).
-use Rattle.std.specs.Prelude.{◌≡◌, ℕ, ◌⊎◌, List, [], ◌∷◌, ◌++◌, Option, Some, None, Result, Ok, Err}
+use Rattle.std.specs.Prelude.{◌≡◌, ℕ, List, [], ◌∷◌, ◌++◌, Option, Some, None, Result, Ok, Err}
 use Rattle.mqtt5_base.specs.declared.error.Error.{Error}
 use Rattle.mqtt5_base.specs.Front.{Front, Bad, More, Whole, front}
 use Rattle.mqtt5_codec.specs.declared.packet.Packet.{Packet}
@@ -10,11 +10,10 @@ use Rattle.mqtt5.specs.Session.{Session, Answer, out, inc}
 use Rattle.mqtt5.specs.Errors.{state_error}
 use Rattle.mqtt5.specs.declared.event.Request.{Request}
 use Rattle.mqtt5.specs.declared.error.StateError.{StateError}
-use Rattle.mqtt5.specs.declared.error.StateError.TheVariants as faults
 use Rattle.mqtt5.specs.declared.run.Step.{Step}
 use Rattle.mqtt5.specs.declared.run.Input.{Input}
 use Rattle.mqtt5.specs.declared.run.Input.TheVariants as inputs
-use Rattle.mqtt5.specs.Course.{Course, Rests, Faults, Moves, LeadsTo, Stops}
+use Rattle.mqtt5.specs.Course.{Course, Rests, Faults, Moves}
 
 -- what the run takes, one after another: a byte or a request, with its moment
 pub data Atom : Type 0 where
@@ -80,21 +79,3 @@ IsMore f = (n : ℕ) × (f ≡ More n)
 -- a step that is a piece
 abbrev pub piece : ℕ → List ℕ → Step
 piece at bytes = record { at = at; input = inputs.Bytes bytes }
-
--- ---- The rest of this file serves the logic alone.
-
--- one move, whatever comes after
-abbrev pub Goes : Result Unit StateError → Codec → Answer → Session → List ℕ → Session → List ℕ → Type 0
-Goes (Ok done) codec a s o t u = (goes_on : Session → Course) → LeadsTo s o (stepped codec a goes_on) t u (goes_on t)
-Goes (Err e) codec a s o t u = (goes_on : Session → Course) → Stops e s o (stepped codec a goes_on) t u
-
--- a reply is put at the end, or nothing is
-abbrev pub Replies : Result Unit StateError → Result (List ℕ) Error → List ℕ → List ℕ → Type 0
-Replies (Ok done) value old new = (bytes : List ℕ) × (value ≡ Ok bytes) × (new ≡ old ++ bytes)
-Replies (Err e) value old new =
-    (new ≡ old) × (((e ≡ faults.OutOfMemory) × ((bytes : List ℕ) × (value ≡ Ok bytes))) ⊎ ((f : Error) × (value ≡ Err f) × (e ≡ state_error f)))
-
--- a step over bytes, whatever comes after
-abbrev pub Drained : Codec → ℕ → Session → List ℕ → List ℕ → Session → List ℕ → List ℕ → Type 0
-Drained codec at s o held t u left =
-    (rest : List Atom) → LeadsTo s o (run codec (bytes_of at held ++ rest) s []) t u (run codec (bytes_of at left ++ rest) t [])

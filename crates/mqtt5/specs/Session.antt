@@ -1,5 +1,5 @@
 -- The session of a client, and what each request and each packet makes of it (MQTT 5.0 sections 3.3.4, 4.3 and 4.4).
-use Rattle.std.specs.Prelude.{◌≡◌, ◌≢◌, ℕ, ◌+◌, Bool, true, false, List, [], ◌∷◌, ◌++◌, Option, Some, None, Result, Ok, Err, IsOk, ◌==◌, nat_lt, nat_le, if◌then◌else◌}
+use Rattle.std.specs.Prelude.{◌≡◌, ℕ, ◌+◌, Bool, true, false, List, [], ◌∷◌, ◌++◌, Option, Some, None, Result, Ok, Err, IsOk, ◌==◌, nat_lt, nat_le, if◌then◌else◌}
 use Rattle.std.specs.Ordering.{nat_cmp}
 use Rattle.std.specs.FinMap as map
 use Rattle.std.specs.FinSet as set
@@ -166,10 +166,3 @@ Takes result old new answer = (result ≡ answer.0) × (new ≡ answer.1)
 abbrev pub Hears : Result (Option Packet) StateError → Session → Session → Answer → Type 0
 Hears (Err errors.OutOfMemory) old new answer = new ≡ old
 Hears result old new answer = (result ≡ answer.0) × (new ≡ answer.1)
-
--- ---- The rest of this file serves the logic alone.
-
--- what waits has a QoS of 1 or 2
-abbrev pub IsCounted : Option Publish → Type 0
-IsCounted None = Unit {0}
-IsCounted (Some p) = p.qos ≢ AtMostOnce

@@ -4,8 +4,9 @@ ghost use Rattle.std.specs.Prelude.{◌≡◌, ℕ, Some, List, [], ◌∷◌, �
 ghost use Rattle.mqtt5_base.specs.Front.{front};
 ghost use Rattle.mqtt5_codec.specs.declared.codec.Codec.{Codec};
 ghost use Rattle.mqtt5.specs.Session.{Session, out, inc};
-ghost use Rattle.mqtt5.specs.Course.{Holds, finish, Stops, LeadsTo};
-ghost use Rattle.mqtt5.specs.Run.{Atom, bytes_of, of_input, atoms, reply_bytes, run, IsMore, Goes, Replies, piece};
+ghost use Rattle.mqtt5.specs.Ways.{LeadsTo, Goes, Replies};
+ghost use Rattle.mqtt5.specs.Course.{Holds, finish, Stops};
+ghost use Rattle.mqtt5.specs.Run.{Atom, bytes_of, of_input, atoms, reply_bytes, run, IsMore, piece};
 
 use crate::error::StateError;
 use crate::event::Request;

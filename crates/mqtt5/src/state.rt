@@ -5,9 +5,9 @@ ghost use Rattle.std.specs.FinMap as map;
 ghost use Rattle.std.specs.FinSet as set;
 ghost use Rattle.std.specs.Option.{option_copied};
 ghost use Rattle.mqtt5_base.specs.declared.quality.QoS.TheVariants.{AtMostOnce};
-ghost use Rattle.mqtt5.specs.Release.{sent_for, held_after, waiting_after};
+ghost use Rattle.mqtt5.specs.Release.{sent_for, held_after, waiting_after, IsCounted};
 ghost use Rattle.mqtt5.specs.Held.{IsWithin, publish_of, is_released};
-ghost use Rattle.mqtt5.specs.Session.{Takes, Hears, fresh, id_for, last_after, out, out_once, out_acked, out_publish, stored, inc, hears, heard, freed_for, on_acked, IsCounted};
+ghost use Rattle.mqtt5.specs.Session.{Takes, Hears, fresh, id_for, last_after, out, out_once, out_acked, out_publish, stored, inc, hears, heard, freed_for, on_acked};
 
 use crate::aliases::Aliases;
 use crate::error::StateError;
@@ -49,7 +49,8 @@ impl Model for MqttState {
     ghost use Rattle.mqtt5_flow.specs.contracts.publish.Publish as publish;
     ghost use Rattle.mqtt5.specs.contracts.event.Event as event;
     ghost use Rattle.mqtt5.specs.Codes.{coded_held, coded_aliases, coded_incoming};
-    ghost use Rattle.mqtt5.specs.Session.{Session, IsCounted};
+    ghost use Rattle.mqtt5.specs.Release.{IsCounted};
+    ghost use Rattle.mqtt5.specs.Session.{Session};
 
     ghost Value = { Session };
 

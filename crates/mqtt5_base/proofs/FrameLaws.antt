@@ -1,17 +1,19 @@
 -- A frame is read exactly where its type's row stands, and a fault where that is the first.
-use Rattle.std.proofs.Common.{◌≡◌, ℕ, ◌/◌, true, false, List, length, Option, Some, None, ◌⊎◌, inl, inr, refl}
+use Rattle.std.proofs.Common.{◌≡◌, ℕ, ◌/◌, true, false, List, [], length, Option, Some, None, ◌⊎◌, inl, inr, refl}
 use Rattle.mqtt5_base.specs.declared.error.Error.{Error}
 use Rattle.mqtt5_base.specs.declared.error.Error.TheVariants.{InvalidPacketType, PayloadRequired}
 use Rattle.mqtt5_base.specs.Grammar.{Row, Content}
 use Rattle.mqtt5_base.specs.Fields.{IsRow}
 use Rattle.mqtt5_base.specs.Faults.{RowFault}
 use Rattle.mqtt5_base.specs.Frames.{Rows, row_among, lacks_body, IsFrame, FrameFault}
-use Rattle.mqtt5_base.specs.Reading.{row_values, frame_values}
+use Rattle.mqtt5_base.specs.Reading.{values_in, row_values, frame_values}
 use Rattle.mqtt5_base.specs.Laws.{Reads, IsGrammar}
-use Rattle.mqtt5_base.proofs.ReadsLemmas.{reads_err, reads_like, reads_map, reads_unless, reads_one}
-use Rattle.mqtt5_base.proofs.KindLaws.{kind_reads}
+use Rattle.mqtt5_base.proofs.ReadsLemmas.{reads_err, reads_like, reads_values, reads_map, reads_unless, reads_one}
+use Rattle.mqtt5_base.proofs.KindLaws.{number_reads, content_reads, text_reads, var_int_reads, kind_reads}
+use Rattle.mqtt5_base.proofs.SetLemmas.{adds_props, props_more}
 use Rattle.mqtt5_base.proofs.BlockLaws.{block_reads}
-use Rattle.mqtt5_base.proofs.PartLaws.{row_reads}
+use Rattle.mqtt5_base.proofs.StepLaws.{judged_reads}
+use Rattle.mqtt5_base.proofs.PartLaws.{part_reads, row_reads}
 
 -- no row
 abbrev no_row : Option Row
@@ -54,6 +56,10 @@ row_of_reads (Some row) first body = reads_like (reads_unless (lacks_body row bo
     from e (inl f) = absurd (none f.0)
     from e (inr f) = rw (same row f.0 f.1) f.2
 
+-- The values of a row are read.
+values_read : (row : Row) (first len : ℕ) (body : List ℕ) → Reads (values_in row first len body) (λ p. (rest : List ℕ) × IsRow row first len body p rest) (RowFault row first len body)
+values_read row first len body = reads_values (reads_map (λ r. r.0) (row_reads row first len body)) (λ p. (λ h. (h.0.1, rw h.2 h.1), λ h. ((p, h.0), h.1, refl)))
+
 -- Frames are read.
 pub frame_reads : (rows : Rows) (first : ℕ) (body : List ℕ) → Reads (frame_values rows first body) (IsFrame rows first body) (FrameFault rows first body)
 unfolding frame_values
@@ -61,4 +67,19 @@ frame_reads rows first body = row_of_reads (row_among rows (first / 16)) first b
 
 -- All that the grammar promises.
 pub grammar : IsGrammar
-grammar = record { kinds = kind_reads; blocks = block_reads; rows = row_reads; frames = frame_reads; one = λ rows first body. reads_one (frame_values rows first body) (frame_reads rows first body) }
+grammar = record {
+  numbers = number_reads;
+  binary = content_reads;
+  texts = text_reads;
+  lengths = var_int_reads;
+  kinds = kind_reads;
+  blocks = block_reads;
+  no_items = λ table. adds_props table [];
+  one_more = props_more;
+  judgements = judged_reads;
+  parts = part_reads;
+  rows = row_reads;
+  values = values_read;
+  frames = frame_reads;
+  one = λ rows first body. reads_one (frame_values rows first body) (frame_reads rows first body);
+}

@@ -2,8 +2,8 @@
 use Rattle.std.proofs.Common.{◌≡◌, ℕ, zero, suc, ◌<◌, ◌≤◌, Bool, true, false, List, [], ◌∷◌, ◌++◌, length, Some, None, Ok, ◌⊎◌, inl, inr, refl, sym, ap, ◌∙◌, append_assoc, arith, length-append}
 use Rattle.std.proofs.lemmas.List.{append-nil}
 use Rattle.mqtt5_base.specs.declared.error.Error.{Error}
-use Rattle.mqtt5_base.specs.Grammar.{Kind, u8, u16, u32, varint, bytes, text, pair, Atom, Value, plain, Field, one, checked, block, remainder, Step, field, raw, note, judge, more, Part, choice, filled, each, Row, Group, optional, several, Content, Known, under, with_value, with_raw, cut_in, holds, unless_empty}
-use Rattle.mqtt5_base.specs.Fields.{IsKind, Takes, IsField, TakesField, Fields, Kept, Repeats, Choice, repeated, number_at_place, IsPart, AreParts, IsRow}
+use Rattle.mqtt5_base.specs.Grammar.{Kind, u8, u16, u32, varint, bytes, text, pair, Atom, Value, plain, Field, one, checked, block, remainder, Step, field, raw, note, judge, more, Part, choice, filled, each, Row, Group, optional, several, Content, Known, under, with_value, with_raw, cut_in, holds, unless_empty, number_in}
+use Rattle.mqtt5_base.specs.Fields.{IsKind, Takes, IsField, TakesField, Fields, Kept, Repeats, Choice, repeated, IsPart, AreParts, IsRow}
 use Rattle.mqtt5_base.specs.Faults.{Faulty, RepeatFault, ChoiceFault, PartFault, PartsFault, RowFault}
 use Rattle.mqtt5_base.specs.Reading.{kept_at, repeated_within, choice_at, part_at, parts_at, read_row}
 use Rattle.mqtt5_base.specs.Laws.{Reads}
@@ -111,8 +111,8 @@ choice_reads false off on n bs = reads_seen (λ vs. None) (λ vs after. Kept off
 
 -- A part is read.
 pub part_reads : (p : Part) (values : List Value) (bs : List ℕ) → Reads (part_at p values bs) (λ x. IsPart p values bs x.0 x.1) (PartFault p values bs)
-part_reads (choice k c off on) values bs = let n = number_at_place values k in let b = holds (under n 0) c in reads_seen (λ o. optional o) (λ o after. Choice b off on n bs o after) (choice_reads b off on n bs)
-part_reads (filled k steps) values bs = let n = number_at_place values k in
+part_reads (choice k c off on) values bs = let n = number_in values k in let b = holds (under n 0) c in reads_seen (λ o. optional o) (λ o after. Choice b off on n bs o after) (choice_reads b off on n bs)
+part_reads (filled k steps) values bs = let n = number_in values k in
     reads_values (reads_seen (λ o. optional o) (λ o after. (vs : List Value) × Kept steps n bs vs after × (o ≡ unless_empty vs)) (reads_seen (λ vs. unless_empty vs) (λ vs after. Kept steps n bs vs after) (kept_reads steps n bs)))
     (λ y. (λ p. (p.1.0, p.1.1, p.2 ∙ ap (λ o. optional o) p.1.2), λ q. (unless_empty q.0, (q.0, q.1, refl), q.2)))
 part_reads (each f steps) values bs = reads_values (reads_map (λ g. (several g, [])) (repeats_read (length bs) f steps [] bs (omega arith)))

@@ -2,8 +2,8 @@
 use Rattle.std.proofs.Common.{◌≡◌, ℕ, zero, suc, ◌<◌, ◌≤◌, Bool, true, false, eqb, List, [], ◌∷◌, ◌++◌, length, Some, None, Result, Ok, refl, sym, ap, ◌∙◌, append_assoc, arith, length-append}
 use Rattle.std.proofs.lemmas.List.{append-nil}
 use Rattle.mqtt5_base.specs.declared.error.Error.{Error}
-use Rattle.mqtt5_base.specs.Grammar.{Value, Step, Part, choice, filled, each, Group, optional, several, Known, under, holds, unless_empty}
-use Rattle.mqtt5_base.specs.Fields.{number_at_place, repeated}
+use Rattle.mqtt5_base.specs.Grammar.{Value, Step, Part, choice, filled, each, Group, optional, several, Known, under, holds, unless_empty, number_in}
+use Rattle.mqtt5_base.specs.Fields.{repeated}
 use Rattle.mqtt5_base.specs.Reading.{◌>>=◌, kept_at, repeated_within, choice_at, part_at, parts_at}
 use Rattle.mqtt5_base.specs.Layout.{Written, WrittenGroup, one_or_none, listed, written_bytes, listed_bytes, part_bytes, parts_bytes, written_fits, listed_fit, part_fits, parts_fit, unless_wrong}
 use Rattle.mqtt5_base.proofs.BlockLaws.{some_bytes}
@@ -82,13 +82,13 @@ IsAbsent steps n vs rest = kept_at steps n rest ≡ read_values vs rest
 -- reading.
 abbrev pub PartIs : Part → List Value → List Value → WrittenGroup → Group → List ℕ → Type 0
 PartIs (choice k c off on) w r (one_or_none (Some x)) g rest =
-    let n = number_at_place w k in (number_at_place r k ≡ n) × (holds (under n 0) c ≡ true) × IsOwn on n x rest × (g ≡ optional (Some (kept_again on n x)))
+    let n = number_in w k in (number_in r k ≡ n) × (holds (under n 0) c ≡ true) × IsOwn on n x rest × (g ≡ optional (Some (kept_again on n x)))
 PartIs (choice k c off on) w r (one_or_none None) g rest =
-    let n = number_at_place r k in (holds (under n 0) c ≡ false) × (vs : List Value) × IsAbsent off n vs rest × (g ≡ optional None)
+    let n = number_in r k in (holds (under n 0) c ≡ false) × (vs : List Value) × IsAbsent off n vs rest × (g ≡ optional None)
 PartIs (filled k steps) w r (one_or_none (Some x)) g rest =
-    let n = number_at_place w k in (number_at_place r k ≡ n) × IsOwn steps n x rest × (g ≡ optional (unless_empty (kept_again steps n x)))
+    let n = number_in w k in (number_in r k ≡ n) × IsOwn steps n x rest × (g ≡ optional (unless_empty (kept_again steps n x)))
 PartIs (filled k steps) w r (one_or_none None) g rest =
-    (vs : List Value) × IsAbsent steps (number_at_place r k) vs rest × (g ≡ optional (unless_empty vs))
+    (vs : List Value) × IsAbsent steps (number_in r k) vs rest × (g ≡ optional (unless_empty vs))
 PartIs (each f steps) w r (listed ws) g rest = (rest ≡ []) × AreOwn (repeated f steps) ws × (g ≡ several (all_again (repeated f steps) ws))
 PartIs p w r x g rest = ⊥
 
@@ -111,13 +111,13 @@ absent_again b off on n vs rest made absent = rw (made, absent) refl
 -- A part is read again.
 part_again : (p : Part) (w r : List Value) (x : WrittenGroup) (g : Group) (rest : List ℕ) → part_fits p x ≡ true → PartIs p w r x g rest → part_at p r (part_bytes p w x ++ rest) ≡ read_group g rest
 part_again (choice k c off on) w r (one_or_none (Some x)) g rest fit is =
-    let n = number_at_place w k in
+    let n = number_in w k in
     rw (is.0, is.3) (choice_again (holds (under n 0) c) off on n x rest is.1 fit is.2)
 part_again (choice k c off on) w r (one_or_none None) g rest fit is =
-    let n = number_at_place r k in
+    let n = number_in r k in
     rw is.3 (absent_again (holds (under n 0) c) off on n is.1 rest is.0 is.2)
 part_again (filled k steps) w r (one_or_none (Some x)) g rest fit is =
-    let n = number_at_place w k in
+    let n = number_in w k in
     rw (is.0, is.2, own_again steps n x rest fit is.1) refl
 part_again (filled k steps) w r (one_or_none None) g rest fit is = rw (is.1, is.2) refl
 part_again (each f steps) w r (listed ws) g rest fit is =

@@ -1,5 +1,5 @@
 -- Items that are read one after the other make the set that they are said to make.
-use Rattle.std.proofs.Common.{◌≡◌, ℕ, Bool, true, false, cond, eqb, List, [], ◌∷◌, ◌++◌, refl, sym, ◌∙◌, append_assoc}
+use Rattle.std.proofs.Common.{◌≡◌, ℕ, Bool, true, false, cond, eqb, List, [], ◌∷◌, ◌++◌, refl, sym, ap, ◌∙◌, append_assoc}
 use Rattle.std.proofs.lemmas.List.{append-nil}
 use Rattle.mqtt5_base.specs.Grammar.{Atom, Entry, Found}
 use Rattle.mqtt5_base.specs.Fields.{values_of, last_of, chosen, props}
@@ -68,3 +68,13 @@ chosen_at false id items = single_at id [] items ∙ last_nil (values_of id item
 pub adds_props : (table : List Entry) (items : List (ℕ × Atom)) → adds table (none_of table) items ≡ props table items
 adds_props [] items = adds_nothing items
 adds_props (e ∷ es) items = by_entry e es [] (none_of es) items ∙ (λ i. chosen_at e.many e.id items i ∷ adds_props es items i)
+
+-- An item after others is added to what they make.
+adds_more : (table : List Entry) (found : Found) (items : List (ℕ × Atom)) (id : ℕ) (a : Atom) → adds table found (items ++ (id, a) ∷ []) ≡ with_item table id a (adds table found items)
+adds_more table found [] id a = refl
+adds_more table found (i ∷ items) id a = adds_more table (with_item table i.0 i.1 found) items id a
+
+-- An item added to the set of others gives the set of them all.
+pub props_more : (table : List Entry) (items : List (ℕ × Atom)) (id : ℕ) (a : Atom) → with_item table id a (props table items) ≡ props table (items ++ (id, a) ∷ [])
+props_more table items id a =
+    ap (with_item table id a) (sym (adds_props table items)) ∙ sym (adds_more table (none_of table) items id a) ∙ adds_props table (items ++ (id, a) ∷ [])

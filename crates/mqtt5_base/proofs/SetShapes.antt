@@ -3,7 +3,8 @@ use Rattle.std.specs.Prelude.{map, option_map}
 use Rattle.std.proofs.Common.{◌≡◌, ℕ, Bool, true, false, cond, eqb, List, [], ◌∷◌, Option, Some, None, refl, sym, ap, ◌∙◌}
 use Rattle.std.specs.Str.{is_utf8}
 use Rattle.std.proofs.lemmas.Bool.{eqb-true}
-use Rattle.mqtt5_base.specs.Texts.{text_of, text_back}
+use Rattle.mqtt5_base.specs.Codes.{text_back}
+use Rattle.mqtt5_base.specs.Texts.{text_of}
 use Rattle.mqtt5_base.specs.Grammar.{Kind, u8, u16, u32, varint, bytes, text, pair, Atom, number, content, number_of, content_of, couple, Entry, Found, kinds, kind_among}
 use Rattle.mqtt5_base.specs.Fields.{IsKind, Items, values_of, last_of, props, IsBlock}
 use Rattle.mqtt5_base.specs.Views.{text_atom, pair_atom, pair_of, numbers, contents, texts, pairs, identifiers, one_number, one_content, one_text, all_pairs, all_numbers}

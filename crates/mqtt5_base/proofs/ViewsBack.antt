@@ -2,7 +2,8 @@
 use Rattle.std.proofs.Common.{◌≡◌, ℕ, ◌≤◌, Bool, true, false, eqb, List, [], ◌∷◌, Option, Some, None, option_map, refl, ap, arith}
 use Rattle.mqtt5_base.specs.declared.quality.QoS.{QoS}
 use Rattle.mqtt5_base.specs.declared.quality.QoS.TheVariants.{AtMostOnce, AtLeastOnce, ExactlyOnce}
-use Rattle.mqtt5_base.specs.Texts.{Utf8, text_back}
+use Rattle.mqtt5_base.specs.Codes.{text_back}
+use Rattle.mqtt5_base.specs.Texts.{Utf8}
 use Rattle.mqtt5_base.specs.Grammar.{Found}
 use Rattle.mqtt5_base.specs.Views.{qos_number, qos_of, bit, numbers, contents, texts, pairs, identifiers, one_number, one_content, one_text, all_pairs, all_numbers}
 

@@ -6,8 +6,8 @@ use Rattle.std.specs.Str.{is_utf8}
 use Rattle.mqtt5_base.specs.declared.error.Error.{Error}
 use Rattle.mqtt5_base.specs.declared.error.Error.TheVariants.{MalformedPacket, MalformedRemainingLength, BoundaryCrossed, TopicNotUtf8, InvalidPropertyType}
 use Rattle.mqtt5_base.specs.VarInt.{VarInt}
-use Rattle.mqtt5_base.specs.Grammar.{Kind, u8, u16, u32, varint, bytes, text, pair, Atom, Entry, allows, kinds, kind_among, number_of, passes, fault_of, Value, plain, Field, one, checked, block, remainder, Step, field, raw, note, judge, more, Part, choice, filled, each, Row, Group, Known, under, with_value, with_raw, cut_in, holds}
-use Rattle.mqtt5_base.specs.Fields.{Takes, IsNumber, IsContent, IsText, IsKind, IsProperty, TakesField, Fields, Kept, number_at_place, repeated, IsPart}
+use Rattle.mqtt5_base.specs.Grammar.{Kind, u8, u16, u32, varint, bytes, text, pair, Atom, Entry, allows, kinds, kind_among, number_of, passes, fault_of, Value, plain, Field, one, checked, block, remainder, Step, field, raw, note, judge, more, Part, choice, filled, each, Row, Group, Known, under, with_value, with_raw, cut_in, holds, number_in}
+use Rattle.mqtt5_base.specs.Fields.{Takes, IsNumber, IsContent, IsText, IsKind, IsProperty, TakesField, Fields, Kept, repeated, IsPart}
 
 -- ---- one value
 
@@ -105,8 +105,8 @@ ChoiceFault false off on n body e = Faulty off (under n 0) body e
 
 -- the fault of a part, behind the values of the row (3)
 abbrev pub PartFault : Part → List Value → List ℕ → Error → Type 0
-PartFault (choice k c off on) values body e = let n = number_at_place values k in ChoiceFault (holds (under n 0) c) off on n body e
-PartFault (filled k steps) values body e = Faulty steps (under (number_at_place values k) 0) body e
+PartFault (choice k c off on) values body e = let n = number_in values k in ChoiceFault (holds (under n 0) c) off on n body e
+PartFault (filled k steps) values body e = Faulty steps (under (number_in values k) 0) body e
 PartFault (each f steps) values body e = (all : List (List Value)) × RepeatFault (repeated f steps) body all e
 
 -- the fault of the first part that can't be read (3)

@@ -4,7 +4,7 @@ use Rattle.std.specs.Prelude.{◌≡◌, ℕ, ◌<◌, Bool, true, false, List, 
 use Rattle.std.specs.Int.{Width, w8, w16, w32, byte_len, from_be_bytes}
 use Rattle.std.specs.Str.{is_utf8}
 use Rattle.mqtt5_base.specs.VarInt.{VarInt}
-use Rattle.mqtt5_base.specs.Grammar.{Kind, u8, u16, u32, varint, bytes, text, pair, Atom, number, content, couple, number_of, Entry, Found, allows, kinds, kind_among, passes, Value, plain, properties, Field, one, checked, block, remainder, always, Step, field, raw, note, judge, more, Part, choice, filled, each, Row, Group, optional, several, Content, Known, under, with_value, with_raw, atom_in, cut_in, holds, unless_empty}
+use Rattle.mqtt5_base.specs.Grammar.{Kind, u8, u16, u32, varint, bytes, text, pair, Atom, number, content, couple, Entry, Found, allows, kinds, kind_among, passes, Value, plain, properties, Field, one, checked, block, remainder, always, Step, field, raw, note, judge, more, Part, choice, filled, each, Row, Group, optional, several, Content, Known, under, with_value, with_raw, number_in, cut_in, holds, unless_empty}
 
 -- the body begins with such bytes, and these are after them
 abbrev pub Takes : (List ℕ → Type 0) → List ℕ → List ℕ → Type 0
@@ -119,15 +119,11 @@ Choice false off on n body g rest = (vs : List Value) × Kept off n body vs rest
 abbrev pub repeated : Field → List Step → List Step
 repeated f steps = field always f (plain (number 0)) ∷ steps
 
--- the number that a part's steps stand under
-abbrev pub number_at_place : List Value → ℕ → ℕ
-number_at_place values k = number_of (atom_in values k)
-
--- the body begins with a part, which gives that
+-- the body begins with a part, which gives that; the number that its steps stand under is that of a value read before
 abbrev pub IsPart : Part → List Value → List ℕ → Group → List ℕ → Type 0
 IsPart (choice k c off on) values body g rest =
-    let n = number_at_place values k in (o : Option (List Value)) × Choice (holds (under n 0) c) off on n body o rest × (g ≡ optional o)
-IsPart (filled k steps) values body g rest = (vs : List Value) × Kept steps (number_at_place values k) body vs rest × (g ≡ optional (unless_empty vs))
+    let n = number_in values k in (o : Option (List Value)) × Choice (holds (under n 0) c) off on n body o rest × (g ≡ optional o)
+IsPart (filled k steps) values body g rest = (vs : List Value) × Kept steps (number_in values k) body vs rest × (g ≡ optional (unless_empty vs))
 IsPart (each f steps) values body g rest = (all : List (List Value)) × Repeats (repeated f steps) body all × (g ≡ several all) × (rest ≡ [])
 
 -- the body begins with the parts in order, which give these

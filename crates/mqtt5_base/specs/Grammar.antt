@@ -226,6 +226,10 @@ atom_in [] k = number 0
 atom_in (v ∷ vs) zero = atom_of v
 atom_in (v ∷ vs) (suc k) = atom_in vs k
 
+-- its number
+abbrev pub number_in : List Value → ℕ → ℕ
+number_in vs k = number_of (atom_in vs k)
+
 -- the value of a source
 abbrev pub source_in : Known → Source → Atom
 source_in known given = number known.first

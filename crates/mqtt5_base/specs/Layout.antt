@@ -4,8 +4,8 @@ use Rattle.std.specs.Int.{w16, w32, to_be_bytes}
 use Rattle.mqtt5_base.specs.declared.error.Error.{Error}
 use Rattle.mqtt5_base.specs.declared.error.Error.TheVariants.{PayloadTooLong}
 use Rattle.mqtt5_base.specs.VarInt.{var_int}
-use Rattle.mqtt5_base.specs.Grammar.{Kind, u8, u16, u32, varint, bytes, text, pair, Atom, number, content, couple, number_of, content_of, Entry, Found, kinds, kind_among, passes, fault_of, Value, plain, properties, atom_of, Field, one, checked, block, remainder, Condition, always, longer, set, Step, field, raw, note, judge, more, Part, choice, filled, each, Row, Group, optional, several, Content, Known, under, with_value, with_raw, cut_in}
-use Rattle.mqtt5_base.specs.Fields.{number_at_place, repeated}
+use Rattle.mqtt5_base.specs.Grammar.{Kind, u8, u16, u32, varint, bytes, text, pair, Atom, number, content, couple, number_of, content_of, Entry, Found, kinds, kind_among, passes, fault_of, Value, plain, properties, atom_of, Field, one, checked, block, remainder, Condition, always, longer, set, Step, field, raw, note, judge, more, Part, choice, filled, each, Row, Group, optional, several, Content, Known, under, with_value, with_raw, cut_in, number_in}
+use Rattle.mqtt5_base.specs.Fields.{repeated}
 
 -- ---- a packet as it is written (3)
 
@@ -160,8 +160,8 @@ listed_bytes steps (w ∷ ws) = written_bytes steps 0 w ++ listed_bytes steps ws
 
 -- the bytes of a part
 abbrev pub part_bytes : Part → List Value → WrittenGroup → List ℕ
-part_bytes (choice k c off on) values (one_or_none w) = optional_bytes on (number_at_place values k) w
-part_bytes (filled k steps) values (one_or_none w) = optional_bytes steps (number_at_place values k) w
+part_bytes (choice k c off on) values (one_or_none w) = optional_bytes on (number_in values k) w
+part_bytes (filled k steps) values (one_or_none w) = optional_bytes steps (number_in values k) w
 part_bytes (each f steps) values (listed ws) = listed_bytes (repeated f steps) ws
 part_bytes p values g = []
 

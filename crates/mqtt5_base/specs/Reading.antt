@@ -1,12 +1,12 @@
 -- This file serves the logic alone: reading from left to right, which is proved to be what Fields and Faults say.
-use Rattle.std.specs.Prelude.{◌≡◌, ℕ, zero, suc, ◌/◌, Bool, true, false, List, [], ◌∷◌, ◌++◌, length, take, drop, Option, Some, None, Result, Ok, Err, nat_lt, ◌==◌, if◌then◌else◌}
+use Rattle.std.specs.Prelude.{ℕ, zero, suc, ◌/◌, Bool, true, false, List, [], ◌∷◌, ◌++◌, length, take, drop, Option, Some, None, Result, Ok, Err, nat_lt, ◌==◌, if◌then◌else◌}
 use Rattle.std.specs.Int.{Width, w8, w16, w32, byte_len, from_be_bytes}
 use Rattle.std.specs.Str.{is_utf8}
 use Rattle.mqtt5_base.specs.declared.error.Error.{Error}
-use Rattle.mqtt5_base.specs.declared.error.Error.TheVariants.{OutOfMemory, MalformedPacket, MalformedRemainingLength, BoundaryCrossed, TopicNotUtf8, InvalidPropertyType, InvalidPacketType, PayloadRequired}
+use Rattle.mqtt5_base.specs.declared.error.Error.TheVariants.{MalformedPacket, MalformedRemainingLength, BoundaryCrossed, TopicNotUtf8, InvalidPropertyType, InvalidPacketType, PayloadRequired}
 use Rattle.mqtt5_base.specs.VarInt.{Length, Overlong, Unfinished, Finished, length_at}
-use Rattle.mqtt5_base.specs.Grammar.{Kind, u8, u16, u32, varint, bytes, text, pair, Atom, number, content, couple, Entry, Found, allows, kinds, kind_among, Test, Wrong, fault_of, number_of, passes, Value, plain, properties, Field, one, checked, block, remainder, Step, field, raw, note, judge, more, Part, choice, filled, each, Row, Group, optional, several, Content, Known, under, with_value, with_raw, cut_in, holds, unless_empty}
-use Rattle.mqtt5_base.specs.Fields.{number_at_place, repeated}
+use Rattle.mqtt5_base.specs.Grammar.{Kind, u8, u16, u32, varint, bytes, text, pair, Atom, number, content, couple, Entry, Found, allows, kinds, kind_among, Test, Wrong, fault_of, number_of, passes, Value, plain, properties, Field, one, checked, block, remainder, Step, field, raw, note, judge, more, Part, choice, filled, each, Row, Group, optional, several, Content, Known, under, with_value, with_raw, cut_in, holds, unless_empty, number_in}
+use Rattle.mqtt5_base.specs.Fields.{repeated}
 use Rattle.mqtt5_base.specs.Frames.{Rows, row_among, lacks_body}
 
 -- one after the other, to the first error
@@ -14,11 +14,6 @@ infixl 10 ◌>>=◌
 abbrev pub ◌>>=◌ : {A B : Type 0} → Result A Error → (A → Result B Error) → Result B Error
 (Ok x) >>= f = f x
 (Err e) >>= f = Err e
-
--- What a function answered, seen by view, is what reading gives, unless memory ran out. The contracts of readers say this.
-abbrev pub Gives : {X Y : Type 0} → (X → Y) → Result X Error → Result Y Error → Type 0
-Gives view (Ok x) read = read ≡ Ok (view x)
-Gives view (Err e) read = (e ≡ OutOfMemory → ⊥) → read ≡ Err e
 
 -- ---- one value
 
@@ -168,8 +163,8 @@ filled_at steps n bs = kept_at steps n bs >>= λ k. Ok (unless_empty k.0, k.1)
 
 -- a part
 abbrev pub part_at : Part → List Value → List ℕ → Result (Group × List ℕ) Error
-part_at (choice k c off on) values bs = let n = number_at_place values k in choice_at (holds (under n 0) c) off on n bs >>= λ g. Ok (optional g.0, g.1)
-part_at (filled k steps) values bs = filled_at steps (number_at_place values k) bs >>= λ g. Ok (optional g.0, g.1)
+part_at (choice k c off on) values bs = let n = number_in values k in choice_at (holds (under n 0) c) off on n bs >>= λ g. Ok (optional g.0, g.1)
+part_at (filled k steps) values bs = filled_at steps (number_in values k) bs >>= λ g. Ok (optional g.0, g.1)
 part_at (each f steps) values bs = repeated_within (length bs) (repeated f steps) [] bs >>= λ g. Ok (several g, [])
 
 -- the parts in order

@@ -5,7 +5,8 @@ use Rattle.std.specs.Cmp.Lexicographic.{pointwise}
 use Rattle.std.proofs.Common.{rules, ap, refl}
 use Rattle.std.proofs.lemmas.Bool.{eqb-true}
 use mathlib.Core.Bool.{beq}
-use Rattle.mqtt5_base.specs.Texts.{Utf8, same_text}
+use Rattle.mqtt5_base.specs.Codes.{same_text}
+use Rattle.mqtt5_base.specs.Texts.{Utf8}
 use Rattle.mqtt5_base.specs.contracts.quality.QoSPartialEq.TheImpl as qos
 
 -- a test that holds of equal values alone

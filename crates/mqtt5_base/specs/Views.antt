@@ -90,11 +90,7 @@ here_in [] k = []
 here_in (here ∷ found) zero = here
 here_in (here ∷ found) (suc k) = here_in found k
 
--- the values of a packet, by their place in the row (3): a number
-abbrev pub number_in : List Value → ℕ → ℕ
-number_in vs k = number_of (atom_in vs k)
-
--- bytes
+-- the values of a packet, by their place in the row (3): bytes
 abbrev pub content_in : List Value → ℕ → List ℕ
 content_in vs k = content_of (atom_in vs k)
 

@@ -3,7 +3,8 @@
 
 ghost use Rattle.std.specs.Prelude.{◌≡◌, ◌+◌, ◌*◌, ◌^◌, ◌<◌, ◌≤◌, ℕ, drop, length, OnErr, IfOk};
 ghost use Rattle.std.specs.Int.{w8, w16, w32};
-ghost use Rattle.mqtt5_base.specs.Reading.{Gives, number_at, bytes_at, text_at, var_int_at};
+ghost use Rattle.mqtt5_base.specs.Answers.{Gives};
+ghost use Rattle.mqtt5_base.specs.Reading.{number_at, bytes_at, text_at, var_int_at};
 ghost use Rattle.mqtt5_base.specs.VarInt.{length_at};
 ghost use Rattle.mqtt5_base.specs.Lengths.{Lengths};
 

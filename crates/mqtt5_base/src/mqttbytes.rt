@@ -2,7 +2,8 @@
 
 ghost use Rattle.std.specs.Prelude.{◌≡◌, ◌<◌, IsSome, IfSome, ◌↔◌};
 ghost use Rattle.mqtt5_base.specs.Grammar.{bad_qos, is_among, is_qos, number};
-ghost use Rattle.mqtt5_base.specs.Reading.{Gives, judged};
+ghost use Rattle.mqtt5_base.specs.Answers.{Gives};
+ghost use Rattle.mqtt5_base.specs.Reading.{judged};
 ghost use Rattle.mqtt5_base.specs.Topics.{IsMatching, covers, has_wildcards, is_inner, is_reserved, is_valid_filter, is_valid_topic, levels, match_levels, stands_alone, topic_matches};
 ghost use Rattle.mqtt5_base.specs.Views.{qos_number};
 

@@ -2,7 +2,8 @@
 
 ghost use Rattle.std.specs.Prelude.{◌≡◌, ◌≤◌, Some, List, drop, length, OnOk, OnErr, IfOk, option_map, true, min};
 ghost use Rattle.mqtt5_base.specs.Grammar.{Entry, Found, allows};
-ghost use Rattle.mqtt5_base.specs.Reading.{Gives, none_of, with_item, property_at, item_at, items_within, block_at};
+ghost use Rattle.mqtt5_base.specs.Answers.{Gives};
+ghost use Rattle.mqtt5_base.specs.Reading.{none_of, with_item, property_at, item_at, items_within, block_at};
 ghost use Rattle.mqtt5_base.specs.Items.{id_of, value_of};
 ghost use Rattle.mqtt5_base.specs.Sets.{IsSetOf, IsBlockOf};
 ghost use Rattle.mqtt5_base.specs.Puts.{Puts, Appends};

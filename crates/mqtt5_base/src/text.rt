@@ -18,7 +18,8 @@ pub struct Text {
 impl Model for Text {
     ghost use Rattle.std.specs.Prelude.{string_bytes};
     ghost use Rattle.std.proofs.lemmas.Str.{is_utf8-from_IsUtf8, IsUtf8-string_bytes};
-    ghost use Rattle.mqtt5_base.specs.Texts.{Utf8, utf8_code};
+    ghost use Rattle.mqtt5_base.specs.Codes.{utf8_code};
+    ghost use Rattle.mqtt5_base.specs.Texts.{Utf8};
 
     ghost Value = { Utf8 };
 

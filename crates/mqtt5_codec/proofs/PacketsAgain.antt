@@ -29,7 +29,8 @@ use Rattle.mqtt5_subs.specs.Subscribes.{subscribe_found}
 use Rattle.mqtt5_subs.specs.Unsubscribes.{unsubscribe_found}
 use Rattle.mqtt5_connect.specs.Rows.{connect_table, will_table}
 use Rattle.mqtt5_link.specs.Rows.{connack_table, disconnect_table, auth_table}
-use Rattle.mqtt5_connect.specs.Connects.{connect_found, will_block}
+use Rattle.mqtt5_connect.specs.Short.{will_block}
+use Rattle.mqtt5_connect.specs.Connects.{connect_found}
 use Rattle.mqtt5_link.specs.ConnAcks.{connack_found}
 use Rattle.mqtt5_link.specs.Disconnects.{disconnect_found}
 use Rattle.mqtt5_link.specs.Auths.{auth_found}

@@ -4,7 +4,8 @@ use Rattle.mqtt5_base.specs.declared.error.Error.{Error}
 use Rattle.mqtt5_base.specs.declared.header.FixedHeader.{FixedHeader}
 use Rattle.mqtt5_base.specs.Grammar.{Content}
 use Rattle.mqtt5_base.specs.Headers.{IsHeader}
-use Rattle.mqtt5_base.specs.Reading.{◌>>=◌, Gives, frame_values}
+use Rattle.mqtt5_base.specs.Answers.{Gives}
+use Rattle.mqtt5_base.specs.Reading.{◌>>=◌, frame_values}
 use Rattle.mqtt5_base.proofs.HeaderLemmas.{frame_at_header}
 use Rattle.mqtt5_codec.specs.declared.packet.Packet.{Packet}
 use Rattle.mqtt5_codec.specs.Packets.{packet_rows, packet_type, packet_content, IsRead, packet_of, first_of, packet_in}

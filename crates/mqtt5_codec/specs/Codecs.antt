@@ -1,5 +1,5 @@
 -- What reading a packet from a stream answers, and what it leaves of the stream (MQTT 5.0 section 2.1).
-use Rattle.std.specs.Prelude.{◌≡◌, ℕ, List, take, drop, Option, Some, None, Result, Ok, Err, ◌⊎◌}
+use Rattle.std.specs.Prelude.{◌≡◌, ℕ, List, Option, Some, None, Result, Ok, Err, ◌⊎◌}
 use Rattle.bytes.specs.Filled.{Filled}
 use Rattle.mqtt5_base.specs.declared.error.Error.{Error}
 use Rattle.mqtt5_base.specs.declared.error.Error.TheVariants as errors
@@ -31,11 +31,3 @@ abbrev pub Reserves : Result (Option Packet) Error → Filled → Filled → Typ
 Reserves (Ok None) old new = new ≡ old
 Reserves (Ok (Some p)) old new = Unit {0}
 Reserves (Err e) old new = Unit {0}
-
--- ---- The rest of this file serves the logic alone.
-
--- A frame of so many bytes was taken out and read, or, for want of memory, perhaps neither.
-abbrev pub TakesFrame : ℕ → Result Packet Error → List ℕ → List ℕ → Type 0
-TakesFrame n (Ok p) old new = (packet_in (take n old) ≡ Ok p) × (new ≡ drop n old)
-TakesFrame n (Err e) old new =
-    ((e ≡ errors.OutOfMemory) × ((new ≡ old) ⊎ (new ≡ drop n old))) ⊎ ((packet_in (take n old) ≡ Err e) × (new ≡ drop n old))

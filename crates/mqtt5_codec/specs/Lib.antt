@@ -1,5 +1,6 @@
 pub mod Packets
 pub mod Codecs
+pub mod Taken
 pub mod Sound
 pub mod Norms
 pub mod Laws

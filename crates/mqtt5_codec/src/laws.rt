@@ -2,7 +2,7 @@
 
 ghost use Rattle.mqtt5_base.specs.Sets.{IsBlockOf};
 ghost use Rattle.mqtt5_connect.specs.Rows.{will_table};
-ghost use Rattle.mqtt5_connect.specs.Connects.{will_block};
+ghost use Rattle.mqtt5_connect.specs.Short.{will_block};
 ghost use Rattle.mqtt5_codec.specs.Norms.{IsReadBack};
 
 use crate::packet::Packet;

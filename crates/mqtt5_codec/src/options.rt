@@ -110,7 +110,7 @@ fn whole_seconds(secs: u64) -> Duration
 }
 
 /// A copy of a text.
-#[tactic(auto, using(mqtt5_base::specs::Texts::text_back))]
+#[tactic(auto, using(mqtt5_base::specs::Codes::text_back))]
 fn copy_of(alloc: Global, text: &str) -> Result<Text, Error>
     ensures { Answers result (text_of text.now) }
 {
@@ -118,7 +118,7 @@ fn copy_of(alloc: Global, text: &str) -> Result<Text, Error>
 }
 
 /// A login of these texts.
-#[tactic(auto, using(mqtt5_base::specs::Texts::text_back))]
+#[tactic(auto, using(mqtt5_base::specs::Codes::text_back))]
 fn login(alloc: Global, username: &str, password: &str) -> Result<Login, Error>
     ensures { Answers result (login_of username.now password.now) }
 {

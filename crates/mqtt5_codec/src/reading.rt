@@ -2,9 +2,10 @@
 
 ghost use Rattle.std.specs.Prelude.{◌≡◌, ◌/◌, ◌<◌, ◌≤◌, length, take, drop, IfOk, MatchResult};
 ghost use Rattle.mqtt5_base.specs.Headers.{IsHeader, frame_len};
-ghost use Rattle.mqtt5_base.specs.Reading.{Gives, frame_values};
+ghost use Rattle.mqtt5_base.specs.Answers.{Gives};
+ghost use Rattle.mqtt5_base.specs.Reading.{frame_values};
 ghost use Rattle.mqtt5_codec.specs.Packets.{packet_rows, packet_type, packet_content, packet_in, IsRead};
-ghost use Rattle.mqtt5_codec.specs.Codecs.{TakesFrame};
+ghost use Rattle.mqtt5_codec.specs.Taken.{TakesFrame};
 
 use crate::packet::Packet;
 use bytes::{Bytes, BytesMut};

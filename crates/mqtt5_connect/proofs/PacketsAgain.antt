@@ -18,7 +18,8 @@ use Rattle.mqtt5_connect.specs.declared.connect.Connect.{Connect}
 use Rattle.mqtt5_connect.specs.declared.will.LastWill.{LastWill}
 use Rattle.mqtt5_connect.specs.declared.login.Login.{Login}
 use Rattle.mqtt5_connect.specs.Rows.{protocol, connect_table, will_table, will_steps, will_part, login_part, connect_row}
-use Rattle.mqtt5_connect.specs.Connects.{connect_found, will_found, will_block, connect_values, will_values, login_values, connect_flags, will_group, login_group, connect_packet}
+use Rattle.mqtt5_connect.specs.Short.{will_block}
+use Rattle.mqtt5_connect.specs.Connects.{connect_found, will_found, connect_values, will_values, login_values, connect_flags, will_group, login_group, connect_packet}
 use Rattle.mqtt5_connect.specs.Norms.{connect_norm, will_norm, login_norm}
 use Rattle.mqtt5_connect.proofs.Flags.{AreFlags, flags_found}
 

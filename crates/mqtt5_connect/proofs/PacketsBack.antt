@@ -1,7 +1,7 @@
 -- A Connect, its will and its login are what is made again of their values.
 use Rattle.std.proofs.Common.{◌≡◌, Option, Some, None, ap, refl}
 use Rattle.mqtt5_base.specs.Layout.{content_of_packet}
-use Rattle.mqtt5_base.specs.Texts.{text_back}
+use Rattle.mqtt5_base.specs.Codes.{text_back}
 use Rattle.mqtt5_base.proofs.ViewsBack.{qos_back, bit_back, numbers_back, contents_back, texts_back, pairs_back, set_back}
 use Rattle.mqtt5_connect.specs.declared.connect.ConnectProperties.{ConnectProperties}
 use Rattle.mqtt5_connect.specs.declared.connect.Connect.{Connect}

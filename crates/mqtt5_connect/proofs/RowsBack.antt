@@ -1,9 +1,9 @@
 -- What the row of a Connect gives comes back from the Connect, the will and the login that are made of it.
 use Rattle.std.proofs.Common.{◌≡◌, ℕ, ◌/◌, ◌%◌, Bool, true, false, cond, List, [], ◌∷◌, Option, Some, None, option_map, refl, sym, ap, ◌∙◌}
 use Rattle.std.proofs.lemmas.Str.{is_utf8-from_IsUtf8, IsUtf8-nil}
-use Rattle.mqtt5_base.specs.Texts.{text_back}
-use Rattle.mqtt5_base.specs.Grammar.{u16, bytes, text, Atom, number, content, number_of, Found, Value, plain, properties, Group, optional, Content, under, holds, all_empty, unless_empty}
-use Rattle.mqtt5_base.specs.Fields.{props, Kept, Choice, number_at_place, IsRow}
+use Rattle.mqtt5_base.specs.Codes.{text_back}
+use Rattle.mqtt5_base.specs.Grammar.{u16, bytes, text, Atom, number, content, number_of, Found, Value, plain, properties, Group, optional, Content, under, holds, all_empty, unless_empty, number_in}
+use Rattle.mqtt5_base.specs.Fields.{props, Kept, Choice, IsRow}
 use Rattle.mqtt5_base.specs.Layout.{group_of, content_of_packet}
 use Rattle.mqtt5_base.proofs.SetShapes.{kept_by, ComeBack, numbers_again, contents_again, texts_again, pairs_again, set_again}
 use Rattle.mqtt5_base.proofs.FieldShapes.{one_back, properties_back, maybe_one, qos_again}
@@ -110,7 +110,7 @@ connect_row_again first len body c rest h =
     let id = one_back text g.1 t.0 t.1 t.2 in
     let set = set_again connect_table connect_found connect_set connect_set_again p.0 p.2 in
     let clean = bit_of_mod worth in
-    let n = number_at_place h.0.values 2 in
+    let n = number_in h.0.values 2 in
     let part = h.4 in
     let w = part.2 in
     let l = part.4 in

@@ -3,8 +3,8 @@ use Rattle.std.specs.Prelude.{◌≡◌, ℕ, zero, suc, ◌==◌, ◌+◌, ◌*
 use Rattle.mqtt5_base.specs.declared.error.Error.{Error}
 use Rattle.mqtt5_base.specs.declared.error.Error.TheVariants.{OutOfMemory}
 use Rattle.mqtt5_base.specs.Texts.{Utf8, text_of}
-use Rattle.mqtt5_base.specs.Grammar.{number, content, Found, Value, plain, properties, Group, optional, several, Content}
-use Rattle.mqtt5_base.specs.Views.{qos_number, qos_of, bit, numbers, contents, texts, pairs, one_number, one_content, one_text, all_pairs, here_in, number_in, content_in, found_in}
+use Rattle.mqtt5_base.specs.Grammar.{number, content, Found, Value, plain, properties, Group, optional, several, Content, number_in}
+use Rattle.mqtt5_base.specs.Views.{qos_number, qos_of, bit, numbers, contents, texts, pairs, one_number, one_content, one_text, all_pairs, here_in, content_in, found_in}
 use Rattle.mqtt5_base.specs.Layout.{Written, WrittenGroup, one_or_none, WrittenPacket, just}
 use Rattle.mqtt5_connect.specs.Rows.{protocol}
 use Rattle.mqtt5_connect.specs.declared.connect.ConnectProperties.{ConnectProperties}
@@ -38,11 +38,6 @@ will_found s =
     ∷ contents s.correlation_data
     ∷ pairs s.user_properties
     ∷ []
-
--- This word serves the logic alone: the properties of a will that may be absent.
-abbrev pub will_block : Option LastWill → Option Found
-will_block None = None
-will_block (Some w) = option_map will_found w.properties
 
 -- clean start, the keep alive, the properties and the client identifier (3.1.2, 3.1.3.1)
 abbrev pub connect_values : Connect → List Value

@@ -1,4 +1,4 @@
--- This file serves the logic alone: a will and a login that can be written are short.
+-- This file serves the logic alone: the properties of a will; a will and a login that can be written are short.
 use Rattle.std.specs.Prelude.{◌≡◌, ℕ, ◌+◌, ◌/◌, ◌%◌, ◌<◌, true, false, Bool, List, [], ◌++◌, length, Option, Some, None, option_map}
 use Rattle.std.proofs.Common.{cond, ltb, arith, length-append}
 use Rattle.std.proofs.lemmas.Bool.{ltb-true}
@@ -11,6 +11,11 @@ use Rattle.mqtt5_connect.specs.Rows.{will_table, will_steps, login_steps}
 use Rattle.mqtt5_connect.specs.Connects.{will_found, will_values, login_values}
 use Rattle.mqtt5_connect.specs.declared.will.LastWill.{LastWill}
 use Rattle.mqtt5_connect.specs.declared.login.Login.{Login}
+
+-- the properties of a will that may be absent
+abbrev pub will_block : Option LastWill → Option Found
+will_block None = None
+will_block (Some w) = option_map will_found w.properties
 
 -- a block that can be written has its length in four bytes at most
 block_short : (table : List Entry) (p : Option Found) → block_fits table p ≡ true → length (block_bytes table p) < 268435460

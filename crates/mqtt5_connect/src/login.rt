@@ -2,7 +2,8 @@
 
 ghost use Rattle.std.specs.Prelude.{◌≡◌, ◌≤◌, [], IfOk, IfErr, OnErr};
 ghost use Rattle.mqtt5_base.specs.Grammar.{plain, content, one, text};
-ghost use Rattle.mqtt5_base.specs.Reading.{Gives, optional_at, part_at};
+ghost use Rattle.mqtt5_base.specs.Answers.{Gives};
+ghost use Rattle.mqtt5_base.specs.Reading.{optional_at, part_at};
 ghost use Rattle.mqtt5_base.specs.Layout.{group_of, just, steps_writing};
 ghost use Rattle.mqtt5_connect.specs.Rows.{login_steps, login_part};
 ghost use Rattle.mqtt5_connect.specs.Connects.{login_values, text_flag, login_flags, login_group, under_flags, WritesPart};

@@ -1,7 +1,8 @@
 //! What the server publishes for a client that is lost.
 
 ghost use Rattle.std.specs.Prelude.{◌≡◌, ◌/◌, ◌%◌, Some, IfOk, IfErr, OnErr};
-ghost use Rattle.mqtt5_base.specs.Reading.{Gives, kept_at, part_at};
+ghost use Rattle.mqtt5_base.specs.Answers.{Gives};
+ghost use Rattle.mqtt5_base.specs.Reading.{kept_at, part_at};
 ghost use Rattle.mqtt5_base.specs.Layout.{group_of, just, steps_writing};
 ghost use Rattle.mqtt5_connect.specs.Rows.{will_table, will_steps, will_part};
 ghost use Rattle.mqtt5_connect.specs.Connects.{will_found, will_values, will_flags, will_group, under_flags, WritesPart};

@@ -1,9 +1,9 @@
 -- What the rows of Publish and of the acks give comes back from the packets that are made of it.
 use Rattle.std.specs.Prelude.{nat_lt}
 use Rattle.std.proofs.Common.{◌≡◌, ℕ, ◌/◌, ◌%◌, true, List, [], ◌∷◌, Option, option_map, refl, sym, ap, ◌∙◌}
-use Rattle.mqtt5_base.specs.Grammar.{u8, u16, bytes, Atom, number, number_of, Entry, Found, Test, not_zero, passes, zero_id, plain, properties, atom_of, Content}
+use Rattle.mqtt5_base.specs.Grammar.{u8, u16, bytes, Atom, number, number_of, Entry, Found, Test, not_zero, passes, zero_id, plain, properties, atom_of, Content, number_in}
 use Rattle.mqtt5_base.specs.Fields.{props, IsRow}
-use Rattle.mqtt5_base.specs.Views.{number_in, found_in}
+use Rattle.mqtt5_base.specs.Views.{found_in}
 use Rattle.mqtt5_base.specs.Layout.{content_of_packet}
 use Rattle.mqtt5_base.proofs.SetShapes.{kept_by, ComeBack, IsBack, numbers_again, contents_again, texts_again, pairs_again, identifiers_again, set_again}
 use Rattle.mqtt5_base.proofs.FieldShapes.{one_back, remainder_back, properties_back, maybe_one, maybe_checked, maybe_properties, among_each, qos_again}

@@ -1,7 +1,7 @@
 -- PubAck, PubRec, PubRel and PubComp as the values of their rows (MQTT 5.0 sections 3.4 to 3.7).
 use Rattle.std.specs.Prelude.{ℕ, ◌==◌, List, [], ◌∷◌, Option, option_map, if◌then◌else◌}
-use Rattle.mqtt5_base.specs.Grammar.{number, Found, Value, plain, properties, Content}
-use Rattle.mqtt5_base.specs.Views.{texts, pairs, one_text, all_pairs, here_in, number_in, found_in}
+use Rattle.mqtt5_base.specs.Grammar.{number, Found, Value, plain, properties, Content, number_in}
+use Rattle.mqtt5_base.specs.Views.{texts, pairs, one_text, all_pairs, here_in, found_in}
 use Rattle.mqtt5_base.specs.Layout.{WrittenPacket, plainly}
 use Rattle.mqtt5_flow.specs.declared.properties.AckProperties.{AckProperties}
 use Rattle.mqtt5_flow.specs.declared.puback.PubAckReason.{PubAckReason}

@@ -1,7 +1,7 @@
 -- A Publish as the values of its row (MQTT 5.0 section 3.3).
 use Rattle.std.specs.Prelude.{ℕ, ◌==◌, ◌+◌, ◌*◌, List, [], ◌∷◌, option_map}
-use Rattle.mqtt5_base.specs.Grammar.{number, content, Found, Value, plain, properties, Content}
-use Rattle.mqtt5_base.specs.Views.{qos_number, qos_of, bit, numbers, contents, texts, pairs, identifiers, one_number, one_content, one_text, all_pairs, all_numbers, here_in, number_in, content_in, found_in}
+use Rattle.mqtt5_base.specs.Grammar.{number, content, Found, Value, plain, properties, Content, number_in}
+use Rattle.mqtt5_base.specs.Views.{qos_number, qos_of, bit, numbers, contents, texts, pairs, identifiers, one_number, one_content, one_text, all_pairs, all_numbers, here_in, content_in, found_in}
 use Rattle.mqtt5_base.specs.Layout.{WrittenPacket, plainly}
 use Rattle.mqtt5_flow.specs.declared.publish.PublishProperties.{PublishProperties}
 use Rattle.mqtt5_flow.specs.declared.publish.Publish.{Publish}

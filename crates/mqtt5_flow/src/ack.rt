@@ -2,7 +2,8 @@
 
 ghost use Rattle.std.specs.Prelude.{◌≡◌, ℕ, ◌+◌, ◌≤◌, true, drop, length, min, option_map};
 ghost use Rattle.mqtt5_base.specs.Grammar.{Test, bad_reason, number, passes, content_of, Content};
-ghost use Rattle.mqtt5_base.specs.Reading.{Gives, judged, values_in};
+ghost use Rattle.mqtt5_base.specs.Answers.{Gives};
+ghost use Rattle.mqtt5_base.specs.Reading.{judged, values_in};
 ghost use Rattle.mqtt5_base.specs.Puts.{Puts, Writes};
 ghost use Rattle.mqtt5_base.specs.Layout.{block_fits, layout, writing, content_of_packet};
 ghost use Rattle.mqtt5_flow.specs.Rows.{ack_row};

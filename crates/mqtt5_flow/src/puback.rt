@@ -1,7 +1,8 @@
 //! The answer to a publish of QoS 1.
 
 ghost use Rattle.std.specs.Prelude.{◌≡◌, ◌+◌, ◌≤◌, Some, None, drop, length, min, option_map};
-ghost use Rattle.mqtt5_base.specs.Reading.{Gives, values_in};
+ghost use Rattle.mqtt5_base.specs.Answers.{Gives};
+ghost use Rattle.mqtt5_base.specs.Reading.{values_in};
 ghost use Rattle.mqtt5_base.specs.Puts.{Writes};
 ghost use Rattle.mqtt5_base.specs.Layout.{layout, writing, content_of_packet};
 ghost use Rattle.mqtt5_flow.specs.Rows.{puback_codes, puback_row};

@@ -2,7 +2,8 @@
 
 ghost use Rattle.std.specs.Prelude.{◌≡◌, ◌+◌, ◌≤◌, ◌/◌, ◌%◌, ◌<◌, nat_lt, true, false, IfOk, IfErr, drop, length, min, option_map};
 ghost use Rattle.mqtt5_base.specs.Grammar.{plain, number, content, bytes};
-ghost use Rattle.mqtt5_base.specs.Reading.{Gives, optional_at, values_in};
+ghost use Rattle.mqtt5_base.specs.Answers.{Gives};
+ghost use Rattle.mqtt5_base.specs.Reading.{optional_at, values_in};
 ghost use Rattle.mqtt5_base.specs.Views.{bit, qos_number};
 ghost use Rattle.mqtt5_base.specs.Puts.{Puts, Writes};
 ghost use Rattle.mqtt5_base.specs.Layout.{atom_fits, block_fits, body_bytes, layout, writing, content_of_packet};

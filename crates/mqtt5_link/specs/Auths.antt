@@ -1,7 +1,7 @@
 -- An Auth as the values of its row (MQTT 5.0 section 3.15).
 use Rattle.std.specs.Prelude.{ℕ, ◌==◌, [], ◌∷◌, Option, option_map, if◌then◌else◌}
-use Rattle.mqtt5_base.specs.Grammar.{number, Found, plain, properties, Content}
-use Rattle.mqtt5_base.specs.Views.{contents, texts, pairs, one_content, one_text, all_pairs, here_in, number_in, found_in}
+use Rattle.mqtt5_base.specs.Grammar.{number, Found, plain, properties, Content, number_in}
+use Rattle.mqtt5_base.specs.Views.{contents, texts, pairs, one_content, one_text, all_pairs, here_in, found_in}
 use Rattle.mqtt5_base.specs.Layout.{WrittenPacket, plainly}
 use Rattle.mqtt5_link.specs.declared.auth.AuthReasonCode.{AuthReasonCode}
 use Rattle.mqtt5_link.specs.declared.auth.AuthReasonCode.TheVariants as reasons

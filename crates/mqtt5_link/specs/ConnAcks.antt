@@ -1,7 +1,7 @@
 -- A ConnAck as the values of its row (MQTT 5.0 section 3.2).
 use Rattle.std.specs.Prelude.{ℕ, ◌==◌, [], ◌∷◌, ◌++◌, option_map, Option, if◌then◌else◌}
-use Rattle.mqtt5_base.specs.Grammar.{number, Found, plain, properties, Content}
-use Rattle.mqtt5_base.specs.Views.{bit, numbers, contents, texts, pairs, one_number, one_content, one_text, all_pairs, here_in, number_in, found_in}
+use Rattle.mqtt5_base.specs.Grammar.{number, Found, plain, properties, Content, number_in}
+use Rattle.mqtt5_base.specs.Views.{bit, numbers, contents, texts, pairs, one_number, one_content, one_text, all_pairs, here_in, found_in}
 use Rattle.mqtt5_base.specs.Layout.{WrittenPacket}
 use Rattle.mqtt5_link.specs.declared.connack.ConnectReturnCode.{ConnectReturnCode}
 use Rattle.mqtt5_link.specs.declared.connack.ConnectReturnCode.TheVariants as reasons

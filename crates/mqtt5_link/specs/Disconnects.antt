@@ -1,7 +1,7 @@
 -- A Disconnect as the values of its row (MQTT 5.0 section 3.14).
-use Rattle.std.specs.Prelude.{ℕ, ◌==◌, Bool, false, [], ◌∷◌, Option, is_none, option_map, if◌then◌else◌}
-use Rattle.mqtt5_base.specs.Grammar.{number, Found, plain, properties, Content}
-use Rattle.mqtt5_base.specs.Views.{numbers, texts, pairs, one_number, one_text, all_pairs, here_in, number_in, found_in}
+use Rattle.std.specs.Prelude.{ℕ, ◌==◌, [], ◌∷◌, Option, option_map, if◌then◌else◌}
+use Rattle.mqtt5_base.specs.Grammar.{number, Found, plain, properties, Content, number_in}
+use Rattle.mqtt5_base.specs.Views.{numbers, texts, pairs, one_number, one_text, all_pairs, here_in, found_in}
 use Rattle.mqtt5_base.specs.Layout.{WrittenPacket, plainly}
 use Rattle.mqtt5_link.specs.declared.disconnect.DisconnectReasonCode.{DisconnectReasonCode}
 use Rattle.mqtt5_link.specs.declared.disconnect.DisconnectReasonCode.TheVariants as reasons
@@ -47,10 +47,6 @@ disconnect_found s = numbers s.session_expiry_interval ∷ texts s.reason_string
 -- a Disconnect of that code and those properties as it is written
 abbrev pub disconnect_written : ℕ → Option Found → WrittenPacket
 disconnect_written code p = plainly 224 (plain (number code) ∷ properties p ∷ [])
-
--- This word serves the logic alone: a normal disconnection without properties is written without a body (3.14.2.1).
-abbrev pub disconnect_is_bare : ℕ → Option Found → Bool
-disconnect_is_bare code p = if code == 0 then is_none p else false
 
 -- a Disconnect by its fields
 abbrev pub disconnect_packet : Disconnect → WrittenPacket

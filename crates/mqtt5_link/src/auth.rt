@@ -2,7 +2,8 @@
 
 ghost use Rattle.std.specs.Prelude.{◌≡◌, ◌+◌, ◌≤◌, true, Some, None, drop, length, min, nat_lt, option_map};
 ghost use Rattle.mqtt5_base.specs.Grammar.{u8, number, plain, checked, malformed};
-ghost use Rattle.mqtt5_base.specs.Reading.{Gives, judged, optional_at, values_in};
+ghost use Rattle.mqtt5_base.specs.Answers.{Gives};
+ghost use Rattle.mqtt5_base.specs.Reading.{judged, optional_at, values_in};
 ghost use Rattle.mqtt5_base.specs.Puts.{Puts, Writes};
 ghost use Rattle.mqtt5_base.specs.Layout.{block_fits, body_bytes, layout, writing, content_of_packet};
 ghost use Rattle.mqtt5_link.specs.Rows.{auth_table, auth_codes, auth_row};

@@ -2,7 +2,8 @@
 
 ghost use Rattle.std.specs.Prelude.{◌≡◌, ◌+◌, ◌≤◌, true, Some, None, drop, length, min, option_map};
 ghost use Rattle.mqtt5_base.specs.Grammar.{number, bad_reason};
-ghost use Rattle.mqtt5_base.specs.Reading.{Gives, judged, values_in};
+ghost use Rattle.mqtt5_base.specs.Answers.{Gives};
+ghost use Rattle.mqtt5_base.specs.Reading.{judged, values_in};
 ghost use Rattle.mqtt5_base.specs.Sets.{IsSetOf};
 ghost use Rattle.mqtt5_base.specs.Puts.{Puts, Writes};
 ghost use Rattle.mqtt5_base.specs.Layout.{items_fit, items_bytes, block_fits, body_bytes, layout, writing, content_of_packet};

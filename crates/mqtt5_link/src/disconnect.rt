@@ -2,11 +2,13 @@
 
 ghost use Rattle.std.specs.Prelude.{◌≡◌, ◌+◌, ◌/◌, ◌%◌, ◌≤◌, true, Some, None, OnErr, drop, length, min, nat_lt, option_map};
 ghost use Rattle.mqtt5_base.specs.Grammar.{u8, number, plain, properties, checked, block, is, bad_reason, bad_type, malformed};
-ghost use Rattle.mqtt5_base.specs.Reading.{Gives, judged, optional_at, block_at, values_in};
+ghost use Rattle.mqtt5_base.specs.Answers.{Gives};
+ghost use Rattle.mqtt5_base.specs.Reading.{judged, optional_at, block_at, values_in};
 ghost use Rattle.mqtt5_base.specs.Puts.{Puts, Writes};
 ghost use Rattle.mqtt5_base.specs.Layout.{block_fits, body_bytes, layout, writing, content_of_packet};
 ghost use Rattle.mqtt5_link.specs.Rows.{Finds, disconnect_table, disconnect_codes, disconnect_row};
-ghost use Rattle.mqtt5_link.specs.Disconnects.{disconnect_code, disconnect_found, disconnect_is_bare, disconnect_packet};
+ghost use Rattle.mqtt5_link.specs.DisconnectBody.{disconnect_is_bare};
+ghost use Rattle.mqtt5_link.specs.Disconnects.{disconnect_code, disconnect_found, disconnect_packet};
 
 use crate::optional::read_block_if;
 use bytes::{Bytes, BytesMut};

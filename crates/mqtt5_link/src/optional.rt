@@ -2,7 +2,8 @@
 
 ghost use Rattle.std.specs.Prelude.{◌≡◌, Some, None, option_map};
 ghost use Rattle.mqtt5_base.specs.Grammar.{properties, block};
-ghost use Rattle.mqtt5_base.specs.Reading.{Gives, optional_at};
+ghost use Rattle.mqtt5_base.specs.Answers.{Gives};
+ghost use Rattle.mqtt5_base.specs.Reading.{optional_at};
 
 use bytes::Bytes;
 use mqtt5_base::{Error, PropertySet, read_block};

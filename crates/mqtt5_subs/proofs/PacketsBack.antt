@@ -1,6 +1,7 @@
 -- Packets are what is made again of their values.
 use Rattle.std.proofs.Common.{◌≡◌, List, [], ◌∷◌, map, refl, ◌∙◌, rules}
-use Rattle.mqtt5_base.specs.Texts.{Utf8, text_back}
+use Rattle.mqtt5_base.specs.Codes.{text_back}
+use Rattle.mqtt5_base.specs.Texts.{Utf8}
 use Rattle.mqtt5_base.specs.Grammar.{Value}
 use Rattle.mqtt5_base.specs.Layout.{Written, content_of_packet, all_kept}
 use Rattle.mqtt5_base.proofs.ViewsBack.{qos_back, bit_back, numbers_back, pairs_back, set_back}

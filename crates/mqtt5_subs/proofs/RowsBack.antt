@@ -1,8 +1,8 @@
 -- What the rows of Subscribe, SubAck, Unsubscribe and UnsubAck give comes back from the packets that are made of it.
 use Rattle.std.proofs.Common.{◌≡◌, ℕ, ◌/◌, ◌%◌, Bool, true, false, cond, eqb, List, [], ◌∷◌, map, Option, Some, None, option_map, refl, sym, ap, ◌∙◌}
-use Rattle.mqtt5_base.specs.Grammar.{u8, u16, text, Atom, number, number_of, Entry, Found, Test, passes, is_among, Wrong, bad_subscribe_reason, no_filters, malformed, Value, plain, properties, Field, one, checked, Step, several, Known, Content}
+use Rattle.mqtt5_base.specs.Grammar.{u8, u16, text, Atom, number, number_of, Entry, Found, Test, passes, is_among, Wrong, bad_subscribe_reason, no_filters, malformed, Value, plain, properties, Field, one, checked, Step, several, Known, Content, number_in}
 use Rattle.mqtt5_base.specs.Fields.{props, Fields, Kept, Repeats, repeated, IsRow}
-use Rattle.mqtt5_base.specs.Views.{number_in, found_in}
+use Rattle.mqtt5_base.specs.Views.{found_in}
 use Rattle.mqtt5_base.specs.Layout.{Written, content_of_packet, all_kept}
 use Rattle.mqtt5_base.proofs.SetShapes.{ComeBack, numbers_again, pairs_again, set_again}
 use Rattle.mqtt5_base.proofs.FieldShapes.{one_back, checked_back, properties_back, among_each, qos_again}

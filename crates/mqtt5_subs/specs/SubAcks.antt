@@ -1,7 +1,7 @@
 -- A SubAck as the values of its row (MQTT 5.0 section 3.9).
 use Rattle.std.specs.Prelude.{ℕ, ◌==◌, List, [], ◌∷◌, map, option_map, if◌then◌else◌}
-use Rattle.mqtt5_base.specs.Grammar.{number, Value, plain, Content}
-use Rattle.mqtt5_base.specs.Views.{qos_number, qos_of, number_in, found_in}
+use Rattle.mqtt5_base.specs.Grammar.{number, Value, plain, Content, number_in}
+use Rattle.mqtt5_base.specs.Views.{qos_number, qos_of, found_in}
 use Rattle.mqtt5_base.specs.Layout.{Written, just, WrittenPacket}
 use Rattle.mqtt5_flow.specs.Acks.{ack_found, ack_set}
 use Rattle.mqtt5_subs.specs.declared.suback.SubscribeReasonCode.{SubscribeReasonCode}

@@ -2,9 +2,9 @@
 use Rattle.std.specs.Prelude.{ℕ, ◌==◌, ◌+◌, ◌*◌, List, [], ◌∷◌, map, option_map, Result, if◌then◌else◌}
 use Rattle.mqtt5_base.specs.declared.error.Error.{Error}
 use Rattle.mqtt5_base.specs.Texts.{text_of}
-use Rattle.mqtt5_base.specs.Grammar.{text, number, Found, Value, plain, one, Group, several, Part, each, Content}
+use Rattle.mqtt5_base.specs.Grammar.{text, number, Found, Value, plain, one, Group, several, Part, each, Content, number_in}
 use Rattle.mqtt5_base.specs.Fields.{repeated}
-use Rattle.mqtt5_base.specs.Views.{qos_number, qos_of, bit, numbers, pairs, text_atom, one_number, all_pairs, here_in, number_in, content_in, found_in}
+use Rattle.mqtt5_base.specs.Views.{qos_number, qos_of, bit, numbers, pairs, text_atom, one_number, all_pairs, here_in, content_in, found_in}
 use Rattle.mqtt5_base.specs.Layout.{Written, WrittenPacket, all_kept, steps_writing}
 use Rattle.mqtt5_subs.specs.declared.filter.RetainForwardRule.{RetainForwardRule}
 use Rattle.mqtt5_subs.specs.declared.filter.RetainForwardRule.TheVariants.{OnEverySubscribe, OnNewSubscribe, Never}

@@ -1,7 +1,7 @@
 -- An UnsubAck as the values of its row (MQTT 5.0 section 3.11).
 use Rattle.std.specs.Prelude.{ℕ, ◌==◌, List, [], ◌∷◌, map, option_map, if◌then◌else◌}
-use Rattle.mqtt5_base.specs.Grammar.{number, Value, plain, Content}
-use Rattle.mqtt5_base.specs.Views.{number_in, found_in}
+use Rattle.mqtt5_base.specs.Grammar.{number, Value, plain, Content, number_in}
+use Rattle.mqtt5_base.specs.Views.{found_in}
 use Rattle.mqtt5_base.specs.Layout.{Written, just, WrittenPacket}
 use Rattle.mqtt5_flow.specs.Acks.{ack_found, ack_set}
 use Rattle.mqtt5_subs.specs.declared.unsuback.UnsubAckReason.{UnsubAckReason}

@@ -1,8 +1,8 @@
 -- An Unsubscribe as the values of its row (MQTT 5.0 section 3.10).
 use Rattle.std.specs.Prelude.{List, [], ◌∷◌, map, option_map}
 use Rattle.mqtt5_base.specs.Texts.{Utf8, text_of}
-use Rattle.mqtt5_base.specs.Grammar.{Found, Value, plain, Content}
-use Rattle.mqtt5_base.specs.Views.{pairs, text_atom, all_pairs, here_in, number_in, content_in, found_in}
+use Rattle.mqtt5_base.specs.Grammar.{Found, Value, plain, Content, number_in}
+use Rattle.mqtt5_base.specs.Views.{pairs, text_atom, all_pairs, here_in, content_in, found_in}
 use Rattle.mqtt5_base.specs.Layout.{Written, just, WrittenPacket}
 use Rattle.mqtt5_subs.specs.declared.unsubscribe.UnsubscribeProperties.{UnsubscribeProperties}
 use Rattle.mqtt5_subs.specs.declared.unsubscribe.Unsubscribe.{Unsubscribe}

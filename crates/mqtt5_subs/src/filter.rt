@@ -2,7 +2,8 @@
 
 ghost use Rattle.std.specs.Prelude.{◌≡◌, ◌*◌, [], OnErr, IfOk, IfErr, false};
 ghost use Rattle.mqtt5_base.specs.Grammar.{one, text, number, bad_rule};
-ghost use Rattle.mqtt5_base.specs.Reading.{Gives, judged, part_at};
+ghost use Rattle.mqtt5_base.specs.Answers.{Gives};
+ghost use Rattle.mqtt5_base.specs.Reading.{judged, part_at};
 ghost use Rattle.mqtt5_base.specs.Puts.{Appends};
 ghost use Rattle.mqtt5_subs.specs.Rows.{is_rule, option_steps};
 ghost use Rattle.mqtt5_subs.specs.Subscribes.{rule_number, filter_options, filter_written, filters_part, filters_group, filter_writing};

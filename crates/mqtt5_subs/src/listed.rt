@@ -3,7 +3,8 @@
 ghost use Rattle.std.specs.Prelude.{◌≡◌, ◌≤◌, List, [], map, true, length, min, IfOk};
 ghost use Rattle.mqtt5_base.specs.Grammar.{Field, Step};
 ghost use Rattle.mqtt5_base.specs.Fields.{repeated};
-ghost use Rattle.mqtt5_base.specs.Reading.{Gives, kept_at, repeated_within};
+ghost use Rattle.mqtt5_base.specs.Answers.{Gives};
+ghost use Rattle.mqtt5_base.specs.Reading.{kept_at, repeated_within};
 ghost use Rattle.mqtt5_base.specs.Puts.{Puts};
 ghost use Rattle.mqtt5_base.specs.Layout.{Written, all_kept, written_bytes, written_fits, listed_bytes, listed_fit};
 

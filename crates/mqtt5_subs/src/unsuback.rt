@@ -2,7 +2,8 @@
 
 ghost use Rattle.std.specs.Prelude.{◌≡◌, ◌+◌, [], drop, length, min};
 ghost use Rattle.mqtt5_base.specs.Grammar.{checked, u8, number, bad_subscribe_reason};
-ghost use Rattle.mqtt5_base.specs.Reading.{Gives, judged, values_in};
+ghost use Rattle.mqtt5_base.specs.Answers.{Gives};
+ghost use Rattle.mqtt5_base.specs.Reading.{judged, values_in};
 ghost use Rattle.mqtt5_base.specs.Puts.{Writes};
 ghost use Rattle.mqtt5_base.specs.Layout.{layout, writing, content_of_packet};
 ghost use Rattle.mqtt5_subs.specs.Rows.{unsuback_codes, unsuback_row};

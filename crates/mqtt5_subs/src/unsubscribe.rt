@@ -3,7 +3,8 @@
 ghost use Rattle.std.specs.Prelude.{◌≡◌, ◌+◌, [], ◌∷◌, drop, length, min, IfOk, IfErr};
 ghost use Rattle.mqtt5_base.specs.Texts.{Utf8};
 ghost use Rattle.mqtt5_base.specs.Grammar.{one, text};
-ghost use Rattle.mqtt5_base.specs.Reading.{Gives, values_in};
+ghost use Rattle.mqtt5_base.specs.Answers.{Gives};
+ghost use Rattle.mqtt5_base.specs.Reading.{values_in};
 ghost use Rattle.mqtt5_base.specs.Puts.{Writes};
 ghost use Rattle.mqtt5_base.specs.Layout.{layout, writing, content_of_packet};
 ghost use Rattle.mqtt5_subs.specs.Rows.{unsubscribe_table, unsubscribe_row};

@@ -1,6 +1,6 @@
 use Rattle.std.proofs.Common.{◌≡◌, drop}
 use Rattle.mqtt5_base.specs.Front.{front}
-use Rattle.mqtt5.specs.Course.{LeadsTo}
+use Rattle.mqtt5.specs.Ways.{LeadsTo}
 use Rattle.mqtt5.specs.Run.{run, atoms, IsMore}
 use Rattle.mqtt5.proofs.run.drive.Given as goal
 

@@ -1,5 +1,5 @@
 use Rattle.std.proofs.Common.{length}
-use Rattle.mqtt5.specs.Run.{Drained}
+use Rattle.mqtt5.specs.Ways.{Drained}
 use Rattle.mqtt5.proofs.run.take_frames.Given as goal
 
 abbrev pub invariant-loop-packet : goal.invariant-loop-packet

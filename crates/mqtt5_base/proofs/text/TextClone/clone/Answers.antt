@@ -1,5 +1,5 @@
 use Rattle.std.proofs.Common.{ap, ◌∙◌}
-use Rattle.mqtt5_base.specs.Texts.{same_text}
+use Rattle.mqtt5_base.specs.Codes.{same_text}
 use Rattle.mqtt5_base.proofs.text.TextClone.clone.Goals as goal
 
 pub returns : goal.returns
