@@ -4,7 +4,8 @@ use Rattle.std.proofs.Common.{◌≡◌, ℕ, Bool, true, false, eqb, List, [], 
 use Rattle.std.proofs.lemmas.Bool.{eqb-true}
 use Rattle.mqtt5_base.specs.Grammar.{Kind, bytes, Atom, content, Entry, Found, Test, passes, is_among, Wrong, Value, plain, properties, one, checked, block, remainder}
 use Rattle.mqtt5_base.specs.Fields.{Takes, IsField, TakesField}
-use Rattle.mqtt5_base.specs.Views.{qos_number, qos_of}
+use Rattle.mqtt5_base.specs.Views.{qos_number}
+use Rattle.mqtt5_base.specs.FromValues.{qos_of}
 use Rattle.mqtt5_base.proofs.SetShapes.{kept_by, kind_again, IsBack, block_back}
 
 -- a value of that kind, which comes back

@@ -57,7 +57,7 @@ row_of_reads (Some row) first body = reads_like (reads_unless (lacks_body row bo
     from e (inr f) = rw (same row f.0 f.1) f.2
 
 -- The values of a row are read.
-values_read : (row : Row) (first len : ℕ) (body : List ℕ) → Reads (values_in row first len body) (λ p. (rest : List ℕ) × IsRow row first len body p rest) (RowFault row first len body)
+pub values_read : (row : Row) (first len : ℕ) (body : List ℕ) → Reads (values_in row first len body) (λ p. (rest : List ℕ) × IsRow row first len body p rest) (RowFault row first len body)
 values_read row first len body = reads_values (reads_map (λ r. r.0) (row_reads row first len body)) (λ p. (λ h. (h.0.1, rw h.2 h.1), λ h. ((p, h.0), h.1, refl)))
 
 -- Frames are read.

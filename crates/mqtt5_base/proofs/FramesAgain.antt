@@ -3,11 +3,13 @@ use Rattle.std.proofs.Common.{◌≡◌, ℕ, ◌+◌, ◌/◌, ◌<◌, ◌≤�
 use Rattle.std.proofs.lemmas.Bool.{ltb-true}
 use Rattle.mqtt5_base.specs.declared.error.Error.{Error}
 use Rattle.mqtt5_base.specs.declared.error.Error.TheVariants.{PayloadTooLong}
-use Rattle.mqtt5_base.specs.VarInt.{var_int, Finished, length_at}
+use Rattle.mqtt5_base.specs.VarInt.{var_int}
+use Rattle.mqtt5_base.specs.Lengths.{Finished, length_at}
 use Rattle.mqtt5_base.specs.Grammar.{Value, Row, Group, Content, Known, under}
 use Rattle.mqtt5_base.specs.Frames.{Rows, row_among, lacks_body}
 use Rattle.mqtt5_base.specs.Reading.{◌>>=◌, parts_at, values_in, row_values, frame_values, body_in, frame_at}
-use Rattle.mqtt5_base.specs.Front.{Whole, front}
+use Rattle.mqtt5_base.specs.Front.{Whole}
+use Rattle.mqtt5_base.specs.FrontAt.{front}
 use Rattle.mqtt5_base.specs.Layout.{WrittenPacket, steps_bytes, in_order, parts_bytes, is_short, body_bytes, frame_of, layout, steps_fit, parts_fit, fits, unless_wrong, writing}
 use Rattle.mqtt5_base.proofs.VarIntLemmas.{var_int_stands, var_int_finds}
 use Rattle.mqtt5_base.proofs.KindLaws.{cut_at}

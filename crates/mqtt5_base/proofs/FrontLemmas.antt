@@ -7,9 +7,10 @@ use Rattle.mqtt5_base.specs.declared.error.Error.{Error}
 use Rattle.mqtt5_base.specs.declared.error.Error.TheVariants.{PayloadSizeLimitExceeded, OutOfMemory}
 use Rattle.mqtt5_base.specs.declared.header.FixedHeader.{FixedHeader}
 use Rattle.mqtt5_base.specs.Frames.{IsWhole}
-use Rattle.mqtt5_base.specs.Front.{Front, Bad, More, Whole, cut, within, by_remaining, front, IsFront}
+use Rattle.mqtt5_base.specs.Front.{Front, Bad, More, Whole, IsFront}
+use Rattle.mqtt5_base.specs.FrontAt.{cut, within, by_remaining, front}
 use Rattle.mqtt5_base.specs.Headers.{IsHeader, Checks, frame_len}
-use Rattle.mqtt5_base.specs.VarInt.{Length, Overlong, Unfinished, Finished, length_at}
+use Rattle.mqtt5_base.specs.Lengths.{Length, Overlong, Unfinished, Finished, length_at}
 use Rattle.mqtt5_base.proofs.LengthLemmas.{Keeps, length_keeps, finished_some, finished_stands, unfinished_before}
 
 -- ---- what is decided stays so
@@ -234,14 +235,13 @@ front_wants limit s more n frame rest e h =
 -- ---- the laws
 
 -- nothing needs a first byte and one of a length
-front_nothing : (limit : Option ℕ) → front limit [] ≡ More 2
+pub front_nothing : (limit : Option ℕ) → front limit [] ≡ More 2
 unfolding front
 front_nothing limit = refl
 
 -- the front of a stream has its laws under each limit
 pub front_is : (limit : Option ℕ) → IsFront (front limit)
 front_is limit = record {
-  nothing = front_nothing limit;
   bad = λ s more e h. let stays = front_stays limit s more in rw h at stays;
   whole = λ s more frame rest h. let stays = front_stays limit s more in rw h at stays;
   parts = λ s frame rest e. cut_joined s frame rest (front_parts limit s frame rest e);

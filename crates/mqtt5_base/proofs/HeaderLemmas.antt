@@ -2,7 +2,8 @@
 use Rattle.std.proofs.Common.{◌≡◌, ℕ, List, [], ◌∷◌, ◌++◌, length, drop, refl, sym, ap, ◌∙◌}
 use Rattle.std.proofs.lemmas.List.{drop_at}
 use Rattle.mqtt5_base.specs.declared.header.FixedHeader.{FixedHeader}
-use Rattle.mqtt5_base.specs.VarInt.{VarInt, length_at}
+use Rattle.mqtt5_base.specs.VarInt.{VarInt}
+use Rattle.mqtt5_base.specs.Lengths.{length_at}
 use Rattle.mqtt5_base.specs.Frames.{Rows, IsWhole}
 use Rattle.mqtt5_base.specs.Headers.{IsHeader}
 use Rattle.mqtt5_base.specs.Reading.{frame_values, body_in, frame_at}

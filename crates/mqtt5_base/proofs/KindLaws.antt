@@ -5,7 +5,8 @@ use Rattle.std.specs.Str.{is_utf8}
 use Rattle.std.proofs.lemmas.List.{take_at, drop_at, take-append-drop}
 use Rattle.mqtt5_base.specs.declared.error.Error.{Error}
 use Rattle.mqtt5_base.specs.declared.error.Error.TheVariants.{MalformedPacket, MalformedRemainingLength, BoundaryCrossed, TopicNotUtf8}
-use Rattle.mqtt5_base.specs.VarInt.{VarInt, Length, Overlong, Unfinished, Finished, length_at}
+use Rattle.mqtt5_base.specs.VarInt.{VarInt}
+use Rattle.mqtt5_base.specs.Lengths.{Length, Overlong, Unfinished, Finished, length_at}
 use Rattle.mqtt5_base.specs.Grammar.{Kind, u8, u16, u32, varint, bytes, text, pair, number, content, couple}
 use Rattle.mqtt5_base.specs.Fields.{IsNumber, IsContent, IsText, IsKind, Takes}
 use Rattle.mqtt5_base.specs.Faults.{NumberFault, VarIntFault, ContentFault, TextFault, KindFault}

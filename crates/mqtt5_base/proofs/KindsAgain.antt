@@ -1,5 +1,5 @@
 -- A value of each kind that is written is read again, whatever follows.
-use Rattle.std.proofs.Common.{◌≡◌, ℕ, ◌<◌, Bool, true, false, cond, ltb, List, ◌++◌, length, Ok, refl, ap, ◌∙◌, append_assoc, arith, length-append}
+use Rattle.std.proofs.Common.{◌&&◌, ◌≡◌, ℕ, ◌<◌, Bool, true, false, ltb, List, ◌++◌, length, Ok, refl, ap, ◌∙◌, append_assoc, arith, length-append}
 use Rattle.std.specs.Int.{Width, w16, w32, byte_len, from_be_bytes, to_be_bytes}
 use Rattle.std.specs.Str.{is_utf8}
 use Rattle.std.proofs.lemmas.Bool.{le-ltb, ltb-true}
@@ -14,7 +14,7 @@ use Rattle.mqtt5_base.proofs.KindLaws.{cut_at}
 use Rattle.mqtt5_base.proofs.Shorter.{byte_again}
 
 -- two tests that both hold
-pub both_hold : (a b : Bool) → cond a b false ≡ true → (a ≡ true) × (b ≡ true)
+pub both_hold : (a b : Bool) → (a && b) ≡ true → (a ≡ true) × (b ≡ true)
 both_hold true b e = (refl, e)
 both_hold false b e = absurd cc
 

@@ -2,7 +2,8 @@
 use Rattle.std.proofs.Common.{◌≡◌, ℕ, zero, suc, ◌<◌, ◌≤◌, Bool, true, false, cond, ltb, ◌⊎◌, List, [], ◌∷◌, ◌++◌, length, take, drop, refl, sym, ap, ◌∙◌, arith, inl, inr}
 use Rattle.std.proofs.lemmas.Bool.{cases_lt}
 use Rattle.std.proofs.lemmas.List.{take_at, take-append-le, take-append-drop}
-use Rattle.mqtt5_base.specs.VarInt.{VarInt, sevens, Length, Overlong, Unfinished, Finished, after_byte, length_at}
+use Rattle.mqtt5_base.specs.VarInt.{VarInt, sevens}
+use Rattle.mqtt5_base.specs.Lengths.{Length, Overlong, Unfinished, Finished, after_byte, length_at}
 use Rattle.mqtt5_base.proofs.VarIntLemmas.{ended_long, finished, finished_of, var_int_found}
 
 -- a length that is decided is that of the longer bytes

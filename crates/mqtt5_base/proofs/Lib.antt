@@ -6,6 +6,7 @@ pub mod Shorter
 pub mod ItemsLemmas
 pub mod LengthLemmas
 pub mod FrontLemmas
+pub mod FrontFound
 pub mod Worked
 pub mod VarIntLemmas
 pub mod ReadsLemmas
@@ -29,3 +30,4 @@ pub mod Wildcards
 pub mod Levels
 pub mod Matching
 pub mod Bits
+pub mod AnswersLemmas

@@ -7,7 +7,8 @@ use Rattle.mqtt5_base.specs.Codes.{text_back}
 use Rattle.mqtt5_base.specs.Texts.{text_of}
 use Rattle.mqtt5_base.specs.Grammar.{Kind, u8, u16, u32, varint, bytes, text, pair, Atom, number, content, number_of, content_of, couple, Entry, Found, kinds, kind_among}
 use Rattle.mqtt5_base.specs.Fields.{IsKind, Items, values_of, last_of, props, IsBlock}
-use Rattle.mqtt5_base.specs.Views.{text_atom, pair_atom, pair_of, numbers, contents, texts, pairs, identifiers, one_number, one_content, one_text, all_pairs, all_numbers}
+use Rattle.mqtt5_base.specs.Views.{text_atom, pair_atom, numbers, contents, texts, pairs, identifiers}
+use Rattle.mqtt5_base.specs.FromValues.{pair_of, one_number, one_content, one_text, all_pairs, all_numbers}
 
 -- ---- one value
 

@@ -4,7 +4,7 @@ use Rattle.std.specs.Int.{Width, w8, w16, w32, byte_len, from_be_bytes}
 use Rattle.std.specs.Str.{is_utf8}
 use Rattle.mqtt5_base.specs.declared.error.Error.{Error}
 use Rattle.mqtt5_base.specs.declared.error.Error.TheVariants.{MalformedPacket, BoundaryCrossed, TopicNotUtf8, InvalidPropertyType}
-use Rattle.mqtt5_base.specs.VarInt.{Length, Overlong, Unfinished, Finished, length_at}
+use Rattle.mqtt5_base.specs.Lengths.{Length, Overlong, Unfinished, Finished, length_at}
 use Rattle.mqtt5_base.specs.Grammar.{Kind, u8, u16, u32, varint, bytes, text, pair, Entry, Found, allows, kinds, kind_among}
 use Rattle.mqtt5_base.specs.Reading.{◌>>=◌, number_at, bytes_at, text_at, by_length, var_int_at, atom_at, atom_of_kind, property_at, item_at, with_item}
 

@@ -2,7 +2,8 @@
 use Rattle.std.proofs.Common.{◌≡◌, ℕ, zero, suc, ◌+◌, ◌*◌, ◌/◌, ◌%◌, ◌<◌, ◌≤◌, List, [], ◌∷◌, ◌++◌, length, take, ◌⊎◌, inl, inr, refl, sym, ap, ◌∙◌, arith, length-append}
 use Rattle.std.proofs.lemmas.List.{take_at}
 use Rattle.std.proofs.lemmas.Bool.{cases_lt, lt-ltb, le-ltb}
-use Rattle.mqtt5_base.specs.VarInt.{IsEnded, sevens, VarInt, var_int_in, var_int, Length, Overlong, Unfinished, Finished, after_byte, length_at}
+use Rattle.mqtt5_base.specs.VarInt.{IsEnded, sevens, VarInt, var_int_in, var_int}
+use Rattle.mqtt5_base.specs.Lengths.{Length, Overlong, Unfinished, Finished, after_byte, length_at}
 use Rattle.mqtt5_base.specs.Faults.{GoOn}
 
 -- ---- one byte

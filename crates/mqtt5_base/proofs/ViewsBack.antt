@@ -5,7 +5,8 @@ use Rattle.mqtt5_base.specs.declared.quality.QoS.TheVariants.{AtMostOnce, AtLeas
 use Rattle.mqtt5_base.specs.Codes.{text_back}
 use Rattle.mqtt5_base.specs.Texts.{Utf8}
 use Rattle.mqtt5_base.specs.Grammar.{Found}
-use Rattle.mqtt5_base.specs.Views.{qos_number, qos_of, bit, numbers, contents, texts, pairs, identifiers, one_number, one_content, one_text, all_pairs, all_numbers}
+use Rattle.mqtt5_base.specs.Views.{qos_number, bit, numbers, contents, texts, pairs, identifiers}
+use Rattle.mqtt5_base.specs.FromValues.{qos_of, one_number, one_content, one_text, all_pairs, all_numbers}
 
 -- a QoS is that of its number
 pub qos_back : (q : QoS) → qos_of (qos_number q) ≡ q

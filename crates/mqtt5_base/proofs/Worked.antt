@@ -1,9 +1,11 @@
 -- Examples of the documents: what the definitions compute to. Each lemma's comment has the bytes in hexadecimal.
 use Rattle.std.proofs.Common.{◌≡◌, [], ◌∷◌, Some, None, Ok, refl}
 use Rattle.mqtt5_base.specs.declared.error.Error.TheVariants.{MalformedRemainingLength, PayloadSizeLimitExceeded}
-use Rattle.mqtt5_base.specs.Front.{Bad, More, front}
+use Rattle.mqtt5_base.specs.Front.{Bad, More}
+use Rattle.mqtt5_base.specs.FrontAt.{front}
 use Rattle.mqtt5_base.specs.Reading.{var_int_at}
-use Rattle.mqtt5_base.specs.VarInt.{Finished, length_at, var_int}
+use Rattle.mqtt5_base.specs.VarInt.{var_int}
+use Rattle.mqtt5_base.specs.Lengths.{Finished, length_at}
 
 -- ---- the shortest bytes of the least and the greatest number of each length
 

@@ -1,6 +1,6 @@
 -- Which bytes stand for which values: those of each field in order, and every judgement holds (MQTT 5.0 sections 1.5,
 -- 2.2.2 and 3).
-use Rattle.std.specs.Prelude.{◌≡◌, ℕ, ◌<◌, Bool, true, false, List, [], ◌∷◌, ◌++◌, length, Option, Some, None, ◌==◌, if◌then◌else◌}
+use Rattle.std.specs.Prelude.{◌≡◌, ℕ, ◌<◌, Bool, true, false, List, [], ◌∷◌, ◌++◌, length, Option, Some, None, ◌==◌, if◌then◌else◌, map}
 use Rattle.std.specs.Int.{Width, w8, w16, w32, byte_len, from_be_bytes}
 use Rattle.std.specs.Str.{is_utf8}
 use Rattle.mqtt5_base.specs.VarInt.{VarInt}
@@ -63,8 +63,7 @@ chosen false here = last_of here
 
 -- what items make of a set (2.2.2)
 abbrev pub props : List Entry → List (ℕ × Atom) → Found
-props [] items = []
-props (e ∷ es) items = chosen e.many (values_of e.id items) ∷ props es items
+props table items = map (λ e. chosen e.many (values_of e.id items)) table
 
 -- no set of no bytes, else the set of the items (2.2.2.1)
 abbrev pub IsSet : List Entry → List ℕ → Option Found → Type 0

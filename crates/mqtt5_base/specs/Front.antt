@@ -1,8 +1,9 @@
 -- What stands at the front of a stream of frames, under a limit on the remaining length (MQTT 5.0 section 2.1).
-use Rattle.std.specs.Prelude.{◌≡◌, ℕ, ◌+◌, ◌-◌, ◌<◌, ◌≤◌, List, [], ◌∷◌, ◌++◌, length, take, drop, Option, Some, None, nat_lt, if◌then◌else◌}
+use Rattle.std.specs.Prelude.{◌≡◌, ℕ, ◌-◌, ◌<◌, ◌≤◌, List, [], ◌∷◌, ◌++◌, length, Option, Some, None}
 use Rattle.mqtt5_base.specs.declared.error.Error.{Error}
 use Rattle.mqtt5_base.specs.declared.error.Error.TheVariants.{MalformedRemainingLength, PayloadSizeLimitExceeded, InsufficientBytes}
-use Rattle.mqtt5_base.specs.VarInt.{Length, Overlong, Unfinished, Finished, length_at}
+use Rattle.mqtt5_base.specs.VarInt.{VarInt}
+use Rattle.mqtt5_base.specs.Faults.{GoOn}
 use Rattle.mqtt5_base.specs.Frames.{IsWhole}
 
 -- nothing that is read, so many bytes more are needed, or a whole frame and the bytes after it
@@ -11,29 +12,24 @@ pub data Front : Type 0 where
   More : ℕ → Front
   Whole : (frame rest : List ℕ) → Front
 
--- a frame of n bytes is whole once they are there
-abbrev pub cut : ℕ → List ℕ → Front
-cut n stream = if nat_lt (length stream) n then More (n - length stream) else Whole (take n stream) (drop n stream)
+-- a limit, if there is one, admits a remaining length (2.1.4)
+abbrev pub Admits : Option ℕ → ℕ → Type 0
+Admits None n = Unit {0}
+Admits (Some max) n = n ≤ max
 
--- the limit is compared with the remaining length, before the frame is whole
-abbrev pub within : Option ℕ → ℕ → ℕ → List ℕ → Front
-within None count n stream = cut (1 + count + n) stream
-within (Some max) count n stream = if nat_lt max n then Bad (PayloadSizeLimitExceeded n max) else cut (1 + count + n) stream
-
--- by the remaining length (2.1.4): four bytes that go on are bad, and bytes that don't end need one more
-abbrev pub by_remaining : Option ℕ → Length → List ℕ → Front
-by_remaining limit Overlong stream = Bad MalformedRemainingLength
-by_remaining limit Unfinished stream = More 1
-by_remaining limit (Finished count n) stream = within limit count n stream
-
--- the first byte, then the remaining length, then so many bytes
-unfoldable pub front : Option ℕ → List ℕ → Front
-front limit [] = More 2
-front limit (b ∷ bs) = by_remaining limit (length_at 4 bs) (b ∷ bs)
+-- Which front each stream has under a limit: of no byte, of four bytes of the remaining length that each say that another
+-- follows, of a remaining length over the limit, also before the frame is whole, of a first byte and at most three bytes that
+-- each say that another follows, of a body that is cut short, and of a whole frame and what follows it (2.1.4).
+pub record IsFound (limit : Option ℕ) (f : List ℕ → Front) : Type 0 where
+  pub nothing : f [] ≡ More 2
+  pub overlong : (first : ℕ) (len rest : List ℕ) → GoOn len → length len ≡ 4 → f (first ∷ (len ++ rest)) ≡ Bad MalformedRemainingLength
+  pub over : (first n max : ℕ) (len rest : List ℕ) → limit ≡ Some max → VarInt len n → max < n → f (first ∷ (len ++ rest)) ≡ Bad (PayloadSizeLimitExceeded n max)
+  pub unfinished : (first : ℕ) (len : List ℕ) → GoOn len → length len < 4 → f (first ∷ len) ≡ More 1
+  pub missing : (first n : ℕ) (len body : List ℕ) → VarInt len n → Admits limit n → length body < n → f (first ∷ (len ++ body)) ≡ More (n - length body)
+  pub found : (first : ℕ) (frame body rest : List ℕ) → IsWhole frame first body → Admits limit (length body) → f (frame ++ rest) ≡ Whole frame rest
 
 -- What is decided of a stream stays so when bytes come, and a frame is whole with its last byte.
 pub record IsFront (f : List ℕ → Front) : Type 0 where
-  pub nothing : f [] ≡ More 2
   pub bad : (s more : List ℕ) (e : Error) → f s ≡ Bad e → f (s ++ more) ≡ Bad e
   pub whole : (s more frame rest : List ℕ) → f s ≡ Whole frame rest → f (s ++ more) ≡ Whole frame (rest ++ more)
   -- the parts are the stream, and the first a frame

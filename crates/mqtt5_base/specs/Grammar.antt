@@ -1,5 +1,6 @@
 -- What packets are made of, as data (MQTT 5.0 sections 1.5, 2 and 3).
-use Rattle.std.specs.Prelude.{ℕ, zero, suc, ◌/◌, ◌%◌, Bool, true, false, List, [], ◌∷◌, ◌++◌, length, Option, Some, None, nat_lt, ◌==◌, ◌||◌, if◌then◌else◌}
+use Rattle.std.specs.Prelude.{ℕ, zero, suc, ◌/◌, ◌%◌, Bool, true, false, List, [], ◌∷◌, ◌++◌, length, Option, Some, None, nat_lt, ◌==◌, if◌then◌else◌}
+use Rattle.std.specs.List.{list_all, list_any}
 use Rattle.std.specs.Str.{bytes_eq}
 use Rattle.mqtt5_base.specs.declared.error.Error.{Error}
 use Rattle.mqtt5_base.specs.declared.error.Error.TheVariants.{InvalidConnectReturnCode, InvalidProtocol, InvalidProtocolLevel, IncorrectPacketFormat, InvalidPacketType, InvalidRetainForwardRule, InvalidQoS, InvalidSubscribeReasonCode, PacketIdZero, EmptySubscription, MalformedPacket}
@@ -55,8 +56,7 @@ Found = List (List Atom)
 
 -- whether a table has an identifier
 abbrev pub allows : List Entry → ℕ → Bool
-allows [] id = false
-allows (e ∷ es) id = id == e.id || allows es id
+allows table id = list_any (λ e. id == e.id) table
 
 -- each identifier's kind (2.2.2.2)
 abbrev pub kinds : List (ℕ × Kind)
@@ -108,8 +108,7 @@ fault_of malformed n = MalformedPacket
 
 -- whether a number is one of these
 abbrev pub is_among : List ℕ → ℕ → Bool
-is_among [] n = false
-is_among (x ∷ xs) n = n == x || is_among xs n
+is_among ns n = list_any (λ x. n == x) ns
 
 -- whether a value is what it must be
 abbrev pub passes : Test → Atom → Bool
@@ -246,14 +245,9 @@ holds known always = true
 holds known (longer n) = nat_lt n known.length
 holds known (set c) = nat_lt 0 (number_of (cut_in known c))
 
--- whether a value has no bytes
-abbrev pub is_empty : Value → Bool
-is_empty v = length (content_of (atom_of v)) == 0
-
 -- whether none of the values has bytes
 abbrev pub all_empty : List Value → Bool
-all_empty [] = true
-all_empty (v ∷ vs) = if is_empty v then all_empty vs else false
+all_empty vs = list_all (λ v. length (content_of (atom_of v)) == 0) vs
 
 -- values that stand for nothing where each is empty
 abbrev pub unless_empty : List Value → Option (List Value)

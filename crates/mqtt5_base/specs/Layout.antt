@@ -1,10 +1,11 @@
 -- What is written for a packet, by the same rows, and why nothing is (MQTT 5.0 sections 1.5, 2.2.2 and 3).
-use Rattle.std.specs.Prelude.{ℕ, ◌==◌, Bool, true, false, not, List, [], ◌∷◌, ◌++◌, length, Option, Some, None, is_none, Result, Ok, Err, nat_lt, if◌then◌else◌}
+use Rattle.std.specs.Prelude.{ℕ, ◌==◌, ◌&&◌, Bool, true, false, not, List, [], ◌∷◌, ◌++◌, length, map, option_map, Option, Some, None, is_none, Result, Ok, Err, nat_lt, if◌then◌else◌}
 use Rattle.std.specs.Int.{w16, w32, to_be_bytes}
+use Rattle.std.specs.List.{flat_map, list_all}
 use Rattle.mqtt5_base.specs.declared.error.Error.{Error}
 use Rattle.mqtt5_base.specs.declared.error.Error.TheVariants.{PayloadTooLong}
 use Rattle.mqtt5_base.specs.VarInt.{var_int}
-use Rattle.mqtt5_base.specs.Grammar.{Kind, u8, u16, u32, varint, bytes, text, pair, Atom, number, content, couple, number_of, content_of, Entry, Found, kinds, kind_among, passes, fault_of, Value, plain, properties, atom_of, Field, one, checked, block, remainder, Condition, always, longer, set, Step, field, raw, note, judge, more, Part, choice, filled, each, Row, Group, optional, several, Content, Known, under, with_value, with_raw, cut_in, number_in}
+use Rattle.mqtt5_base.specs.Grammar.{Kind, u8, u16, u32, varint, Atom, number, content, couple, number_of, content_of, Entry, Found, kinds, kind_among, passes, fault_of, Value, plain, properties, atom_of, Field, one, checked, block, remainder, Condition, always, longer, set, Step, field, raw, note, judge, more, Part, choice, filled, each, Row, Group, optional, several, Content, Known, under, with_value, with_raw, cut_in, number_in}
 use Rattle.mqtt5_base.specs.Fields.{repeated}
 
 -- ---- a packet as it is written (3)
@@ -33,29 +34,18 @@ just kept = record { raws = []; kept = kept }
 abbrev pub plainly : ℕ → List Value → WrittenPacket
 plainly first kept = record { first = first; head = just kept; groups = [] }
 
--- what a reader keeps of a part that may be absent
-abbrev pub kept_of : Option Written → Option (List Value)
-kept_of None = None
-kept_of (Some w) = Some w.kept
-
 -- what a reader keeps of each item of a list
 abbrev pub all_kept : List Written → List (List Value)
-all_kept [] = []
-all_kept (w ∷ ws) = w.kept ∷ all_kept ws
+all_kept ws = map (λ w. w.kept) ws
 
 -- a part as it is read
 abbrev pub group_of : WrittenGroup → Group
-group_of (one_or_none w) = optional (kept_of w)
+group_of (one_or_none w) = optional (option_map (λ x. x.kept) w)
 group_of (listed ws) = several (all_kept ws)
-
--- the parts as they are read
-abbrev pub groups_of : List WrittenGroup → List Group
-groups_of [] = []
-groups_of (g ∷ gs) = group_of g ∷ groups_of gs
 
 -- the same packet as it is read
 abbrev pub content_of_packet : WrittenPacket → Content
-content_of_packet p = (p.head.kept, groups_of p.groups)
+content_of_packet p = (p.head.kept, map group_of p.groups)
 
 -- ---- bytes of values (1.5, 2.2.2)
 
@@ -75,14 +65,11 @@ atom_bytes u8 a = number_of a ∷ []
 atom_bytes u16 a = to_be_bytes w16 (number_of a)
 atom_bytes u32 a = to_be_bytes w32 (number_of a)
 atom_bytes varint a = var_int (number_of a)
-atom_bytes bytes a = content_bytes a
-atom_bytes text a = content_bytes a
-atom_bytes pair a = content_bytes a
+atom_bytes k a = content_bytes a
 
 -- the bytes of values, each behind its identifier (2.2.2.2)
 abbrev pub tagged : ℕ → Kind → List Atom → List ℕ
-tagged id k [] = []
-tagged id k (a ∷ here) = id ∷ atom_bytes k a ++ tagged id k here
+tagged id k here = flat_map (λ a. id ∷ atom_bytes k a) here
 
 -- the same of an identifier that may have no kind
 abbrev pub tagged_by : ℕ → Option Kind → List Atom → List ℕ
@@ -155,8 +142,7 @@ optional_bytes steps n (Some w) = written_bytes steps n w
 
 -- the same of each item of a list
 abbrev pub listed_bytes : List Step → List Written → List ℕ
-listed_bytes steps [] = []
-listed_bytes steps (w ∷ ws) = written_bytes steps 0 w ++ listed_bytes steps ws
+listed_bytes steps ws = flat_map (written_bytes steps 0) ws
 
 -- the bytes of a part
 abbrev pub part_bytes : Part → List Value → WrittenGroup → List ℕ
@@ -180,7 +166,7 @@ stands d v = false
 -- whether each field that a short body leaves out has that value
 abbrev pub is_spare : List Step → List Value → List Value → Bool
 is_spare [] raws kept = true
-is_spare (field (longer n) f d ∷ steps) raws (v ∷ kept) = if stands d v then is_spare steps raws kept else false
+is_spare (field (longer n) f d ∷ steps) raws (v ∷ kept) = stands d v && is_spare steps raws kept
 is_spare (field c f d ∷ steps) raws (v ∷ kept) = is_spare steps raws kept
 is_spare (note c ∷ steps) raws (v ∷ kept) = is_spare steps raws kept
 is_spare (raw k ∷ steps) (v ∷ raws) kept = is_spare steps raws kept
@@ -190,7 +176,7 @@ is_spare steps raws kept = false
 
 -- whether a body is written short (3.4.2.1, 3.14.2.1)
 abbrev pub is_short : Row → WrittenPacket → Bool
-is_short row p = if row.brief then is_spare row.steps p.head.raws p.head.kept else false
+is_short row p = row.brief && is_spare row.steps p.head.raws p.head.kept
 
 -- the bytes of a packet's steps and parts (3)
 abbrev pub body_bytes : Row → WrittenPacket → List ℕ
@@ -220,12 +206,11 @@ abbrev pub atom_fits : Kind → Atom → Bool
 atom_fits varint a = fits_var_int (number_of a)
 atom_fits k (number n) = true
 atom_fits k (content c) = fits_two_bytes c
-atom_fits k (couple a b) = if fits_two_bytes a then fits_two_bytes b else false
+atom_fits k (couple a b) = fits_two_bytes a && fits_two_bytes b
 
 -- whether each of the values fits
 abbrev pub all_fit : Kind → List Atom → Bool
-all_fit k [] = true
-all_fit k (a ∷ here) = if atom_fits k a then all_fit k here else false
+all_fit k here = list_all (atom_fits k) here
 
 -- the same of an identifier that may have no kind
 abbrev pub all_fit_by : Option Kind → List Atom → Bool
@@ -236,12 +221,12 @@ all_fit_by (Some k) here = all_fit k here
 abbrev pub items_fit : List Entry → Found → Bool
 items_fit [] found = true
 items_fit (e ∷ es) [] = true
-items_fit (e ∷ es) (here ∷ found) = if all_fit_by (kind_among kinds e.id) here then items_fit es found else false
+items_fit (e ∷ es) (here ∷ found) = all_fit_by (kind_among kinds e.id) here && items_fit es found
 
 -- whether each property fits, and the length of the items (2.2.2.1)
 abbrev pub block_fits : List Entry → Option Found → Bool
 block_fits table None = true
-block_fits table (Some found) = if items_fit table found then fits_var_int (length (items_bytes table found)) else false
+block_fits table (Some found) = items_fit table found && fits_var_int (length (items_bytes table found))
 
 -- a block's bytes, or why it isn't writable (2.2.2)
 abbrev pub block_writing : List Entry → Option Found → Result (List ℕ) Error
@@ -256,8 +241,8 @@ field_fits remainder v = true
 
 -- whether the value of each step fits
 abbrev pub steps_fit : List Step → List Value → List Value → Bool
-steps_fit (field c f d ∷ steps) raws (v ∷ kept) = if field_fits f v then steps_fit steps raws kept else false
-steps_fit (raw k ∷ steps) (v ∷ raws) kept = if atom_fits k (atom_of v) then steps_fit steps raws kept else false
+steps_fit (field c f d ∷ steps) raws (v ∷ kept) = field_fits f v && steps_fit steps raws kept
+steps_fit (raw k ∷ steps) (v ∷ raws) kept = atom_fits k (atom_of v) && steps_fit steps raws kept
 steps_fit (note c ∷ steps) raws (v ∷ kept) = steps_fit steps raws kept
 steps_fit (judge c s t w ∷ steps) raws kept = steps_fit steps raws kept
 steps_fit (more w ∷ steps) raws kept = steps_fit steps raws kept
@@ -278,8 +263,7 @@ optional_fits steps (Some w) = written_fits steps w
 
 -- the same of each item of a list
 abbrev pub listed_fit : List Step → List Written → Bool
-listed_fit steps [] = true
-listed_fit steps (w ∷ ws) = if written_fits steps w then listed_fit steps ws else false
+listed_fit steps ws = list_all (written_fits steps) ws
 
 -- whether the values of a part fit
 abbrev pub part_fits : Part → WrittenGroup → Bool
@@ -290,13 +274,12 @@ part_fits p g = true
 
 -- whether the values of each part fit
 abbrev pub parts_fit : List Part → List WrittenGroup → Bool
-parts_fit (p ∷ ps) (g ∷ gs) = if part_fits p g then parts_fit ps gs else false
+parts_fit (p ∷ ps) (g ∷ gs) = part_fits p g && parts_fit ps gs
 parts_fit ps gs = true
 
 -- each value fits, and so does the remaining length (2.1.4)
 abbrev pub fits : Row → WrittenPacket → Bool
-fits row p =
-    if steps_fit row.steps p.head.raws p.head.kept then (if parts_fit row.parts p.groups then fits_var_int (length (body_bytes row p)) else false) else false
+fits row p = steps_fit row.steps p.head.raws p.head.kept && (parts_fit row.parts p.groups && fits_var_int (length (body_bytes row p)))
 
 -- whether a list has an item
 abbrev pub is_listed : List WrittenGroup → Bool

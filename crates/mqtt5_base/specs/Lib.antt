@@ -4,6 +4,7 @@ pub mod Faults
 pub mod Fields
 pub mod Frames
 pub mod Front
+pub mod FrontAt
 pub mod Grammar
 pub mod Headers
 pub mod Laws
@@ -15,6 +16,7 @@ pub mod Sets
 pub mod Texts
 pub mod VarInt
 pub mod Views
+pub mod FromValues
 pub mod Sound
 pub mod Items
 pub mod Tidy

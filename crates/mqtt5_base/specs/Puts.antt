@@ -1,5 +1,5 @@
 -- What a function wrote to a buffer.
-use Rattle.std.specs.Prelude.{◌≡◌, ℕ, ◌+◌, ◌≤◌, List, ◌∷◌, ◌++◌, length, Result, Ok, Err, MatchResult, ◌⊎◌}
+use Rattle.std.specs.Prelude.{◌≡◌, ℕ, ◌+◌, ◌≤◌, List, ◌∷◌, ◌++◌, length, Result, Ok, Err, ◌⊎◌}
 use Rattle.bytes.specs.Filled.{Filled}
 use Rattle.mqtt5_base.specs.declared.error.Error.{Error}
 use Rattle.mqtt5_base.specs.declared.error.Error.TheVariants.{OutOfMemory}
@@ -10,16 +10,11 @@ pub record Puts (old new : Filled) (bs : List ℕ) : Type 0 where
   pub items : new.items ≡ old.items ++ bs
   pub spare : new.spare + length bs ≡ old.spare
 
--- These bytes were appended and their number answered, unless memory ran out, or else this is why not; a refusal left
--- the buffer unchanged.
-abbrev pub Writes : Result (List ℕ) Error → Result ℕ Error → List ℕ → List ℕ → Type 0
-Writes (Ok bs) result old new = MatchResult result (λ n. (n ≡ length bs) × (new ≡ old ++ bs)) (λ e. (e ≡ OutOfMemory) × (new ≡ old))
-Writes (Err e) result old new = (result ≡ Err e) × (new ≡ old)
-
--- The same of a part, whose length isn't answered.
-abbrev pub Appends : Result Unit Error → Result (List ℕ) Error → List ℕ → List ℕ → Type 0
-Appends (Ok done) value old new = (bytes : List ℕ) × (value ≡ Ok bytes) × (new ≡ old ++ bytes)
-Appends (Err e) value old new = (new ≡ old) × (((e ≡ OutOfMemory) × ((bytes : List ℕ) × (value ≡ Ok bytes))) ⊎ (value ≡ Err e))
+-- These bytes were appended and this answered of them; or nothing was appended, for want of memory, or for the reason why
+-- there are no such bytes.
+abbrev pub Writes : {A : Type 0} → (List ℕ → A) → Result (List ℕ) Error → Result A Error → List ℕ → List ℕ → Type 0
+Writes answer value (Ok a) old new = (bytes : List ℕ) × (value ≡ Ok bytes) × (a ≡ answer bytes) × (new ≡ old ++ bytes)
+Writes answer value (Err e) old new = (new ≡ old) × (((e ≡ OutOfMemory) × ((bytes : List ℕ) × (value ≡ Ok bytes))) ⊎ (value ≡ Err e))
 
 -- A frame's first byte and remaining length were appended, with room for its body, and the whole frame's length answered,
 -- unless memory ran out; then the bytes are unchanged.

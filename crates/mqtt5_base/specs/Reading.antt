@@ -4,7 +4,7 @@ use Rattle.std.specs.Int.{Width, w8, w16, w32, byte_len, from_be_bytes}
 use Rattle.std.specs.Str.{is_utf8}
 use Rattle.mqtt5_base.specs.declared.error.Error.{Error}
 use Rattle.mqtt5_base.specs.declared.error.Error.TheVariants.{MalformedPacket, MalformedRemainingLength, BoundaryCrossed, TopicNotUtf8, InvalidPropertyType, InvalidPacketType, PayloadRequired}
-use Rattle.mqtt5_base.specs.VarInt.{Length, Overlong, Unfinished, Finished, length_at}
+use Rattle.mqtt5_base.specs.Lengths.{Length, Overlong, Unfinished, Finished, length_at}
 use Rattle.mqtt5_base.specs.Grammar.{Kind, u8, u16, u32, varint, bytes, text, pair, Atom, number, content, couple, Entry, Found, allows, kinds, kind_among, Test, Wrong, fault_of, number_of, passes, Value, plain, properties, Field, one, checked, block, remainder, Step, field, raw, note, judge, more, Part, choice, filled, each, Row, Group, optional, several, Content, Known, under, with_value, with_raw, cut_in, holds, unless_empty, number_in}
 use Rattle.mqtt5_base.specs.Fields.{repeated}
 use Rattle.mqtt5_base.specs.Frames.{Rows, row_among, lacks_body}

@@ -1,12 +1,15 @@
 -- This file serves the logic alone: values that a derived test finds equal are equal.
-use Rattle.std.specs.Prelude.{◌≡◌, ℕ, Bool, true, false, ◌&&◌, List, [], ◌∷◌, Option, Some, None, nat_eq}
+use Rattle.std.specs.Prelude.{◌≡◌, ◌+◌, ◌<◌, ◌^◌, ℕ, Bool, true, false, ◌&&◌, List, [], ◌∷◌, Option, Some, None, nat_eq}
 use Rattle.std.specs.Option.{option_eq}
 use Rattle.std.specs.Cmp.Lexicographic.{pointwise}
 use Rattle.std.proofs.Common.{rules, ap, refl}
 use Rattle.std.proofs.lemmas.Bool.{eqb-true}
+use Rattle.std.proofs.Math.Bridge.{le_prop}
 use mathlib.Core.Bool.{beq}
+use mathlib.Core.HLevel.{is_prop→PathP}
 use Rattle.mqtt5_base.specs.Codes.{same_text}
 use Rattle.mqtt5_base.specs.Texts.{Utf8}
+use Rattle.mqtt5_base.specs.contracts.header.FixedHeaderPartialEq.TheImpl as header
 use Rattle.mqtt5_base.specs.contracts.quality.QoSPartialEq.TheImpl as qos
 
 -- a test that holds of equal values alone
@@ -47,3 +50,9 @@ pair_sound e f x y h = let p = both (e x.0 y.0) (f x.1 y.1) h in λ i. (p.0 i, p
 
 pub qos_sound : Sound qos.eq-value.it
 qos_sound = search rules
+
+-- of headers, whose lengths are bounded
+pub header_sound : Sound header.eq-value.it
+header_sound x y h =
+    let e = both (number_sound x.byte1 y.byte1) (both (number_sound x.fixed_header_len y.fixed_header_len) (number_sound x.remaining_len y.remaining_len)) h in
+    λ i. record { byte1 = e.0 i; fixed_header_len = e.1.0 i; remaining_len = e.1.1 i; bounded = is_prop→PathP (λ j. e.1.0 j + e.1.1 j < 2 ^ 64) (λ j. le_prop) x.bounded y.bounded i }

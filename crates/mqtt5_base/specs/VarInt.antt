@@ -24,22 +24,3 @@ var_int_in (suc k) n = if nat_lt n 128 then n ∷ [] else (n % 128 + 128) ∷ va
 -- the shortest bytes of a number, up to 268,435,455
 unfoldable pub var_int : ℕ → List ℕ
 var_int n = var_int_in 3 n
-
--- What stands at the front of bytes: four bytes that each say that another follows, bytes that don't end, or a
--- number and the count of its bytes.
-pub data Length : Type 0 where
-  Overlong : Length
-  Unfinished : Length
-  Finished : (count n : ℕ) → Length
-
--- the same with a byte in front that says that another follows
-abbrev pub after_byte : ℕ → Length → Length
-after_byte b Overlong = Overlong
-after_byte b Unfinished = Unfinished
-after_byte b (Finished count n) = Finished (count + 1) (b % 128 + 128 * n)
-
--- what stands at the front, of which so many bytes at most are looked at
-unfoldable pub length_at : ℕ → List ℕ → Length
-length_at zero bs = Overlong
-length_at (suc most) [] = Unfinished
-length_at (suc most) (b ∷ bs) = if nat_lt b 128 then Finished 1 b else after_byte b (length_at most bs)

@@ -3,6 +3,7 @@
 ghost use Rattle.std.specs.Prelude.{◌≡◌, IfOk, true};
 ghost use Rattle.std.specs.Bool.{Decides};
 
+use crate::header::{FixedHeader, PacketType};
 use crate::quality::QoS;
 use crate::sequence::Sequence;
 use crate::text::Text;
@@ -70,6 +71,23 @@ impl Exact for QoS {
     ghost same = { Prim.search rules };
 
     ghost sound = { Prim.search rules };
+}
+
+impl Exact for PacketType {
+    ghost use Rattle.std.proofs.Common.{rules};
+
+    ghost same = { Prim.search rules };
+
+    ghost sound = { Prim.search rules };
+}
+
+impl Exact for FixedHeader {
+    ghost use Rattle.std.proofs.Common.{rules};
+    ghost use Rattle.mqtt5_base.specs.Sound.{header_sound};
+
+    ghost same = { Prim.search rules };
+
+    ghost sound = { header_sound };
 }
 
 impl<A: Exact, B: Exact> Exact for (A, B) {

@@ -3,9 +3,9 @@
 
 ghost use Rattle.std.specs.Prelude.{◌≡◌, ◌+◌, ◌*◌, ◌^◌, ◌<◌, ◌≤◌, ℕ, drop, length, OnErr, IfOk};
 ghost use Rattle.std.specs.Int.{w8, w16, w32};
-ghost use Rattle.mqtt5_base.specs.Answers.{Gives};
+ghost use Rattle.mqtt5_base.specs.Answers.{Finds, Gives};
 ghost use Rattle.mqtt5_base.specs.Reading.{number_at, bytes_at, text_at, var_int_at};
-ghost use Rattle.mqtt5_base.specs.VarInt.{length_at};
+ghost use Rattle.mqtt5_base.specs.Lengths.{length_at};
 ghost use Rattle.mqtt5_base.specs.Lengths.{Lengths};
 
 use crate::error::Error;
@@ -15,7 +15,7 @@ use std::alloc::Global;
 
 /// A one byte integer. E16 where there is no byte, and nothing is taken.
 pub fn read_u8(stream: &mut Bytes) -> Result<u8, Error>
-    ensures read { Gives (λ n. (n, stream.new)) result (number_at w8 stream.old) }
+    ensures read { Finds (λ n. (n, stream.new)) result (number_at w8 stream.old) }
     ensures kept { OnErr result (stream.new ≡ stream.old) }
 {
     if stream.len() < 1 {
@@ -26,7 +26,7 @@ pub fn read_u8(stream: &mut Bytes) -> Result<u8, Error>
 
 /// A two byte integer, the high byte first. E16 where it is cut short, and nothing is taken.
 pub fn read_u16(stream: &mut Bytes) -> Result<u16, Error>
-    ensures read { Gives (λ n. (n, stream.new)) result (number_at w16 stream.old) }
+    ensures read { Finds (λ n. (n, stream.new)) result (number_at w16 stream.old) }
     ensures kept { OnErr result (stream.new ≡ stream.old) }
 {
     if stream.len() < 2 {
@@ -37,7 +37,7 @@ pub fn read_u16(stream: &mut Bytes) -> Result<u16, Error>
 
 /// A four byte integer, the high byte first. E16 where it is cut short, and nothing is taken.
 pub fn read_u32(stream: &mut Bytes) -> Result<u32, Error>
-    ensures read { Gives (λ n. (n, stream.new)) result (number_at w32 stream.old) }
+    ensures read { Finds (λ n. (n, stream.new)) result (number_at w32 stream.old) }
     ensures kept { OnErr result (stream.new ≡ stream.old) }
 {
     if stream.len() < 4 {
@@ -91,7 +91,7 @@ pub fn read_text(alloc: Global, stream: &mut Bytes) -> Result<Text, Error>
 
 /// The variable byte integer at the front, in at most so many bytes: the count of its bytes, and its
 /// value. E19 where it isn't finished, E17 where each of so many bytes says that another follows.
-#[tactic(auto, using(crate::proofs::Powers::power), unfolding(crate::specs::VarInt::length_at))]
+#[tactic(auto, using(crate::proofs::Powers::power), unfolding(crate::specs::Lengths::length_at))]
 pub(crate) fn varint_in(bytes: &[u8], most: u8) -> Result<(usize, usize), Error>
     requires { most ≤ 4 }
     ensures value { Lengths result (length_at most bytes.now) }
@@ -119,7 +119,7 @@ pub(crate) fn varint_in(bytes: &[u8], most: u8) -> Result<(usize, usize), Error>
 /// E17 where its fourth byte says that another follows. After a refusal the bytes are unchanged.
 #[tactic(auto, unfolding(crate::specs::Reading::var_int_at))]
 pub fn read_varint(stream: &mut Bytes) -> Result<usize, Error>
-    ensures read { Gives (λ n. (n, stream.new)) result (var_int_at stream.old) }
+    ensures read { Finds (λ n. (n, stream.new)) result (var_int_at stream.old) }
     ensures kept { OnErr result (stream.new ≡ stream.old) }
 {
     match varint_in(stream.as_slice(), 4) {

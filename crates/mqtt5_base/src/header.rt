@@ -25,7 +25,7 @@ pub enum PacketType {
 }
 
 /// The first byte of a frame, and its lengths in bytes (MQTT 5.0 section 2.1.1).
-#[derive(Debug, Clone, Copy, PartialEq, Eq)]
+#[derive(Debug, Clone, Copy, PartialEq, Eq, PartialOrd)]
 pub struct FixedHeader {
     /// The packet type in the high four bits, flags in the low four.
     pub byte1: u8,

@@ -2,11 +2,11 @@
 
 ghost use Rattle.std.specs.Prelude.{◌≡◌, ◌≤◌, Some, List, drop, length, OnOk, OnErr, IfOk, option_map, true, min};
 ghost use Rattle.mqtt5_base.specs.Grammar.{Entry, Found, allows};
-ghost use Rattle.mqtt5_base.specs.Answers.{Gives};
+ghost use Rattle.mqtt5_base.specs.Answers.{Gives, ReadsBlock};
 ghost use Rattle.mqtt5_base.specs.Reading.{none_of, with_item, property_at, item_at, items_within, block_at};
-ghost use Rattle.mqtt5_base.specs.Items.{id_of, value_of};
+ghost use Rattle.mqtt5_base.specs.Items.{item_of};
 ghost use Rattle.mqtt5_base.specs.Sets.{IsSetOf, IsBlockOf};
-ghost use Rattle.mqtt5_base.specs.Puts.{Puts, Appends};
+ghost use Rattle.mqtt5_base.specs.Puts.{Puts, Writes};
 ghost use Rattle.mqtt5_base.specs.Layout.{items_bytes, items_fit, block_bytes, block_fits, block_writing};
 
 use crate::error::Error;
@@ -78,8 +78,8 @@ pub enum Property {
 
 #[tactic(auto, unfolding(crate::specs::Reading::property_at))]
 fn read_property(alloc: Global, id: u8, block: &mut Bytes) -> Result<Property, Error>
-    ensures read { Gives (λ p. (value_of p, block.new)) result (property_at id block.old) }
-    ensures id { IfOk result (λ p. id_of p ≡ id) }
+    ensures read { Gives (λ p. ((item_of p).1, block.new)) result (property_at id block.old) }
+    ensures id { IfOk result (λ p. (item_of p).0 ≡ id) }
 {
     Ok(match id {
         1 => Property::PayloadFormatIndicator(read_u8(block)?),
@@ -135,7 +135,7 @@ pub trait PropertySet: Drop {
     /// Adds an item that was read: to a list at its end, else in place of the last value. One that isn't
     /// of the set changes nothing. Err where memory is refused; of the set nothing is said then.
     fn add(&mut self, property: Property) -> Result<(), AllocError>
-        ensures { OnOk result (found self.new ≡ with_item table (id_of property) (value_of property) (found self.old)) };
+        ensures { OnOk result (found self.new ≡ with_item table (item_of property).0 (item_of property).1 (found self.old)) };
 
     /// Whether each of its values can be written: no text or bytes are over 65,535 bytes, and no
     /// subscription identifier is over 268,435,455.
@@ -155,40 +155,26 @@ pub trait PropertySet: Drop {
     /// Says of its values what the types of its fields do. A law: it changes nothing.
     fn set_known(&self)
         ensures { IsSetOf table (found self.now) };
-}
-
-/// A property set as the block that it is read from and written as.
-pub trait PropertyBlock: Drop {
-    /// Which properties it may have, in the order of writing.
-    ghost entries: { List Entry };
-
-    /// Their values, in that order.
-    ghost values: { Self → Found };
 
     /// The set of the block at the front, or None of a block of length 0, and takes the block out.
     /// E16 or E17 of the length, E15 with the length where fewer bytes are there, else the fault of
     /// the first item that can't be read: E18 of its identifier, E14 to E17 of its value; E21. After a
     /// refusal the bytes are unchanged.
-    fn read(alloc: Global, stream: &mut Bytes) -> Result<Option<Self>, Error>
-        ensures read { Gives (λ p. (option_map values p, stream.new)) result (block_at entries stream.old) }
-        ensures kept { OnErr result (stream.new ≡ stream.old) };
-
-    /// Appends the set as a block. E11 where a text or bytes are over 65,535 bytes, or a subscription
-    /// identifier or the block's length over 268,435,455; E21. The buffer is then unchanged.
-    fn write(&self, buffer: &mut BytesMut) -> Result<(), Error>
-        ensures { Appends result (block_writing entries (Some (values self.now))) buffer.old.items buffer.new.items };
-}
-
-impl<P: PropertySet> PropertyBlock for P {
-    ghost entries = { P.table };
-
-    ghost values = { P.found };
-
-    fn read(alloc: Global, stream: &mut Bytes) -> Result<Option<P>, Error> {
+    #[tactic(auto, using(crate::proofs::AnswersLemmas::block_said))]
+    final fn read(alloc: Global, stream: &mut Bytes) -> Result<Option<Self>, Error>
+    where
+        Self: Sized,
+        ensures read { ReadsBlock (λ p. (option_map found p, stream.new)) table stream.old result }
+        ensures kept { OnErr result (stream.new ≡ stream.old) }
+    {
         read_block(alloc, stream)
     }
 
-    fn write(&self, buffer: &mut BytesMut) -> Result<(), Error> {
+    /// Appends the set as a block. E11 where a text or bytes are over 65,535 bytes, or a subscription
+    /// identifier or the block's length over 268,435,455; E21. The buffer is then unchanged.
+    final fn write(&self, buffer: &mut BytesMut) -> Result<(), Error>
+        ensures { Writes (λ _. tt) (block_writing table (Some (found self.now))) result buffer.old.items buffer.new.items }
+    {
         let len = self.set_len();
         if !self.set_fits() || !len.fits() {
             return Err(Error::PayloadTooLong);

@@ -1,7 +1,8 @@
 //! The front of a stream of frames.
 
 ghost use Rattle.std.specs.Prelude.{ℕ, Option};
-ghost use Rattle.mqtt5_base.specs.Front.{front, IsFront};
+ghost use Rattle.mqtt5_base.specs.Front.{IsFound, IsFront};
+ghost use Rattle.mqtt5_base.specs.FrontAt.{front};
 ghost use Rattle.mqtt5_base.specs.Headers.{Checks};
 
 use crate::error::Error;
@@ -12,7 +13,7 @@ use crate::header::FixedHeader;
 /// that are missing, at least. E17 where the remaining length's fourth byte says that another
 /// follows. E12 where the remaining length is over the limit, also before the frame is whole.
 /// Takes no memory.
-#[tactic(auto, unfolding(crate::specs::Front::front))]
+#[tactic(auto, unfolding(crate::specs::FrontAt::front))]
 pub fn check(stream: &[u8], max_packet_size: Option<u32>) -> Result<FixedHeader, Error>
     ensures { Checks result stream.now (front max_packet_size stream.now) }
 {
@@ -33,9 +34,11 @@ pub fn check(stream: &[u8], max_packet_size: Option<u32>) -> Result<FixedHeader,
     }
 }
 
-/// What is decided of a stream stays so when bytes come, and a frame is whole with its last byte.
+/// Which front each stream has; and what is decided of a stream stays so when bytes come, and a frame is
+/// whole with its last byte.
 pub fn front_laws()
-    ensures { (limit : Option ℕ) → IsFront (front limit) }
+    ensures found { (limit : Option ℕ) → IsFound limit (front limit) }
+    ensures stays { (limit : Option ℕ) → IsFront (front limit) }
 {}
 
 #[cfg(test)]

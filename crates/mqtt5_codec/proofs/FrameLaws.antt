@@ -20,7 +20,8 @@ use Rattle.mqtt5_link.proofs.PacketsBack.{connack_back, disconnect_back, auth_ba
 use Rattle.mqtt5_link.proofs.RowsBack.{connack_row_again, disconnect_row_again, auth_row_again}
 use Rattle.mqtt5_codec.specs.declared.packet.Packet.{Packet}
 use Rattle.mqtt5_codec.specs.declared.packet.Packet.TheVariants as packets
-use Rattle.mqtt5_codec.specs.Packets.{packet_rows, packet_type, packet_content, IsRead, IsFrameOf, IsFaultOf, packet_of, first_of, packet_in}
+use Rattle.mqtt5_codec.specs.Packets.{packet_rows, packet_type, packet_content, IsRead, IsFrameOf, IsFaultOf}
+use Rattle.mqtt5_codec.specs.PacketsIn.{packet_of, first_of, packet_in}
 use Rattle.mqtt5_codec.specs.Laws.{IsFrames}
 use Rattle.mqtt5_codec.proofs.FrameLemmas.{first_of_whole}
 
@@ -140,7 +141,7 @@ content_again first body c h = row_each ComesBack packet_rows rows_again (first 
 
 -- Whole frames are read.
 pub frames_read : (frame : List ℕ) (first : ℕ) (body : List ℕ) → IsWhole frame first body → Reads (packet_in frame) (IsFrameOf frame) (IsFaultOf frame)
-unfolding packet_in
+unfolding packet_in IsFrameOf IsFaultOf
 frames_read frame first body w = reads_like (reads_map (λ c. packet_of (first_of frame / 16) c) whole)
     (λ p. (λ h. to p h.0 h.1 h.2, from p)) (λ e. (λ f. (first, body, w, f), fault e))
   where

@@ -3,7 +3,7 @@ use Rattle.std.proofs.Common.{◌≡◌, ℕ, List, drop, ap}
 use Rattle.mqtt5_base.specs.declared.header.FixedHeader.{FixedHeader}
 use Rattle.mqtt5_base.specs.Frames.{IsWhole}
 use Rattle.mqtt5_base.specs.Headers.{IsHeader}
-use Rattle.mqtt5_codec.specs.Packets.{first_of}
+use Rattle.mqtt5_codec.specs.PacketsIn.{first_of}
 
 -- A whole frame begins with its first byte.
 pub first_of_whole : (frame : List ℕ) (first : ℕ) (body : List ℕ) → IsWhole frame first body → first_of frame ≡ first

@@ -1,10 +1,11 @@
 -- A packet that is written is read again, as its norm.
-use Rattle.std.proofs.Common.{◌≡◌, ℕ, ◌/◌, ◌<◌, ◌≤◌, List, Option, Some, None, option_map, Result, Ok, refl, sym, ap, ◌∙◌, arith}
+use Rattle.std.proofs.Common.{◌≡◌, ℕ, ◌/◌, ◌<◌, ◌≤◌, List, ◌++◌, Option, Some, None, option_map, Result, Ok, refl, sym, ap, ◌∙◌, arith}
 use Rattle.mqtt5_base.specs.declared.error.Error.{Error}
 use Rattle.mqtt5_base.specs.Grammar.{Row, Content}
 use Rattle.mqtt5_base.specs.Reading.{◌>>=◌, frame_at}
 use Rattle.mqtt5_base.specs.Layout.{WrittenPacket, writing}
 use Rattle.mqtt5_base.specs.Sets.{IsBlockOf}
+use Rattle.mqtt5_base.specs.Front.{Admits}
 use Rattle.mqtt5_base.proofs.FramesAgain.{is_written, written_front, content_read}
 use Rattle.mqtt5_flow.specs.declared.publish.Publish.{Publish}
 use Rattle.mqtt5_flow.specs.declared.puback.PubAck.{PubAck}
@@ -44,9 +45,11 @@ use Rattle.mqtt5_flow.proofs.PublishesAgain.{publish_type, publish_again, publis
 use Rattle.mqtt5_flow.proofs.PingsAgain.{ping_again}
 use Rattle.mqtt5_codec.specs.declared.packet.Packet.{Packet}
 use Rattle.mqtt5_codec.specs.declared.packet.Packet.TheVariants as packets
-use Rattle.mqtt5_codec.specs.Packets.{packet_rows, packet_type, packet_row, written_packet, packet_content, IsRead, packet_writing, packet_of, first_of, packet_in}
-use Rattle.mqtt5_codec.specs.Norms.{norm, Admits, IsReadBack}
+use Rattle.mqtt5_codec.specs.Packets.{packet_rows, packet_type, packet_row, written_packet, packet_content, IsRead, packet_writing}
+use Rattle.mqtt5_codec.specs.PacketsIn.{packet_of, first_of, packet_in}
+use Rattle.mqtt5_codec.specs.Norms.{norm, IsReadBack}
 use Rattle.mqtt5_codec.proofs.FrameLaws.{packet_back}
+use Rattle.mqtt5_codec.proofs.CodecLemmas.{packet_taken}
 
 -- a limit that admits a length isn't under it
 admitted : (limit : Option ℕ) (n : ℕ) → Admits limit n → (max : ℕ) → limit ≡ Some max → n ≤ max
@@ -85,10 +88,10 @@ norm_read (packets.Auth p) = tt
 -- A packet is read back.
 read_back : (p : Packet) → (written_packet p).first / 16 ≡ packet_type p → packet_type (norm p) ≡ packet_type p → ReadsAgain p → norm (norm p) ≡ norm p → IsReadBack p
 read_back p first kind again once = record {
-  again = λ limit bs rest h admits. (
-    written_front (packet_row p) (written_packet p) limit bs rest h (admitted limit _ admits),
-    packet_again (packet_row p) (written_packet p) bs (packet_content (norm p)) (norm p) h (again bs h)
-        (ap (λ k. packet_of k (packet_content (norm p))) (first ∙ sym kind) ∙ packet_back (norm p) (norm_read p)),
+  again = λ limit bs rest h admits. let found = written_front (packet_row p) (written_packet p) limit bs rest h (admitted limit _ admits) in (
+    found,
+    packet_taken limit (bs ++ rest) bs rest (norm p) found (packet_again (packet_row p) (written_packet p) bs (packet_content (norm p)) (norm p) h (again bs h)
+        (ap (λ k. packet_of k (packet_content (norm p))) (first ∙ sym kind) ∙ packet_back (norm p) (norm_read p))),
   );
   once = once;
 }

@@ -4,13 +4,15 @@ use Rattle.mqtt5_base.specs.declared.error.Error.{Error}
 use Rattle.mqtt5_base.specs.declared.header.FixedHeader.{FixedHeader}
 use Rattle.mqtt5_base.specs.Grammar.{Content}
 use Rattle.mqtt5_base.specs.Headers.{IsHeader}
-use Rattle.mqtt5_base.specs.Answers.{Gives}
+use Rattle.mqtt5_base.specs.Answers.{Gives, Says}
+use Rattle.mqtt5_base.proofs.AnswersLemmas.{said}
 use Rattle.mqtt5_base.specs.Reading.{◌>>=◌, frame_values}
 use Rattle.mqtt5_base.proofs.HeaderLemmas.{frame_at_header}
 use Rattle.mqtt5_codec.specs.declared.packet.Packet.{Packet}
-use Rattle.mqtt5_codec.specs.Packets.{packet_rows, packet_type, packet_content, IsRead, packet_of, first_of, packet_in}
+use Rattle.mqtt5_codec.specs.Packets.{packet_rows, packet_type, packet_content, IsRead, IsFrameOf, IsFaultOf}
+use Rattle.mqtt5_codec.specs.PacketsIn.{packet_of, first_of, packet_in}
 use Rattle.mqtt5_codec.proofs.FrameLemmas.{first_of_header}
-use Rattle.mqtt5_codec.proofs.FrameLaws.{packet_back}
+use Rattle.mqtt5_codec.proofs.FrameLaws.{packet_back, frames_read}
 
 -- the packet of a frame is that of its body's values
 packet_in_header : (h : FixedHeader) (frame : List ℕ) → IsHeader h frame → packet_in frame ≡ (frame_values packet_rows h.byte1 (drop h.fixed_header_len frame) >>= λ c. Ok (packet_of (h.byte1 / 16) c))
@@ -20,6 +22,10 @@ packet_in_header h frame is =
     ∙ ap (λ (b : ℕ). frame_values packet_rows h.byte1 (drop h.fixed_header_len frame) >>= λ c. Ok (packet_of (b / 16) c)) (first_of_header h frame is)
 
 -- what was read by its type's reader is the packet of the frame
-pub packet_read : (h : FixedHeader) (frame : List ℕ) → IsHeader h frame → (r : Result Packet Error) → Gives packet_content r (frame_values packet_rows h.byte1 (drop h.fixed_header_len frame)) → IfOk r (λ p. packet_type p ≡ h.byte1 / 16) → IfOk r IsRead → Gives (λ p. p) r (packet_in frame)
-packet_read h frame is (Ok p) g k known = packet_in_header h frame is ∙ rw g (ap (λ (n : ℕ). Ok (packet_of n (packet_content p))) (sym k) ∙ ap (λ (q : Packet). Ok q) (packet_back p known))
-packet_read h frame is (Err e) g k known = λ none. packet_in_header h frame is ∙ rw (g none) refl
+packet_given : (h : FixedHeader) (frame : List ℕ) → IsHeader h frame → (r : Result Packet Error) → Gives packet_content r (frame_values packet_rows h.byte1 (drop h.fixed_header_len frame)) → IfOk r (λ p. packet_type p ≡ h.byte1 / 16) → IfOk r IsRead → Gives (λ p. p) r (packet_in frame)
+packet_given h frame is (Ok p) g k known = packet_in_header h frame is ∙ rw g (ap (λ (n : ℕ). Ok (packet_of n (packet_content p))) (sym k) ∙ ap (λ (q : Packet). Ok q) (packet_back p known))
+packet_given h frame is (Err e) g k known = λ none. packet_in_header h frame is ∙ rw (g none) refl
+
+-- so the frame is of it, or the error its fault
+pub packet_read : (h : FixedHeader) (frame : List ℕ) → IsHeader h frame → (r : Result Packet Error) → Gives packet_content r (frame_values packet_rows h.byte1 (drop h.fixed_header_len frame)) → IfOk r (λ p. packet_type p ≡ h.byte1 / 16) → IfOk r IsRead → Says (λ p. p) r (IsFrameOf frame) (IsFaultOf frame)
+packet_read h frame is r g k known = said (λ p. p) r (frames_read frame h.byte1 (drop h.fixed_header_len frame) is.whole) (packet_given h frame is r g k known)

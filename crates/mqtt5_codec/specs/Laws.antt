@@ -2,7 +2,8 @@
 use Rattle.std.specs.Prelude.{ℕ, List}
 use Rattle.mqtt5_base.specs.Frames.{IsWhole}
 use Rattle.mqtt5_base.specs.Laws.{Reads, ExactlyOne}
-use Rattle.mqtt5_codec.specs.Packets.{IsFrameOf, IsFaultOf, packet_in}
+use Rattle.mqtt5_codec.specs.Packets.{IsFrameOf, IsFaultOf}
+use Rattle.mqtt5_codec.specs.PacketsIn.{packet_in}
 
 -- Of every whole frame exactly one of a packet and a fault holds, and reading answers it.
 pub record IsFrames : Type 0 where

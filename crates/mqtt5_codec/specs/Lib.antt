@@ -1,4 +1,5 @@
 pub mod Packets
+pub mod PacketsIn
 pub mod Codecs
 pub mod Taken
 pub mod Sound

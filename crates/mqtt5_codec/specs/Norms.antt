@@ -1,6 +1,7 @@
 -- What a packet is read as after it was written (MQTT 5.0 sections 2.2 and 3).
-use Rattle.std.specs.Prelude.{◌≡◌, ℕ, ◌≤◌, List, ◌++◌, length, Option, Some, None, Ok}
-use Rattle.mqtt5_base.specs.Front.{Whole, front}
+use Rattle.std.specs.Prelude.{◌≡◌, ℕ, List, ◌++◌, length, Option, Ok}
+use Rattle.mqtt5_base.specs.Front.{Admits, Whole}
+use Rattle.mqtt5_base.specs.FrontAt.{front}
 use Rattle.mqtt5_base.specs.Layout.{body_bytes}
 use Rattle.mqtt5_flow.specs.Norms.{publish_norm, puback_norm, pubrec_norm, pubrel_norm, pubcomp_norm}
 use Rattle.mqtt5_subs.specs.Norms.{subscribe_norm, suback_norm, unsubscribe_norm, unsuback_norm}
@@ -8,7 +9,7 @@ use Rattle.mqtt5_connect.specs.Norms.{connect_norm, will_norm, login_norm}
 use Rattle.mqtt5_link.specs.Norms.{connack_norm, disconnect_norm, auth_norm}
 use Rattle.mqtt5_codec.specs.declared.packet.Packet.{Packet}
 use Rattle.mqtt5_codec.specs.declared.packet.Packet.TheVariants as packets
-use Rattle.mqtt5_codec.specs.Packets.{packet_row, written_packet, packet_writing, packet_in}
+use Rattle.mqtt5_codec.specs.Packets.{packet_row, written_packet, packet_writing, IsFrameOf}
 
 -- Empty property sets are none (2.2.2.1), a Publish of QoS 0 has identifier 0 (2.2.1), a failure in a SubAck is unspecified
 -- (3.9.3), and a login of two empty texts is none.
@@ -29,12 +30,7 @@ norm (packets.PingResp p) = packets.PingResp p
 norm (packets.Disconnect p) = packets.Disconnect (disconnect_norm p)
 norm (packets.Auth p) = packets.Auth (auth_norm p)
 
--- a limit that admits a remaining length (2.1.4)
-abbrev pub Admits : Option ℕ → ℕ → Type 0
-Admits None n = Unit {0}
-Admits (Some max) n = n ≤ max
-
 -- What is written for a packet is a whole frame of its norm, whatever follows, under a limit that admits it.
 pub record IsReadBack (p : Packet) : Type 0 where
-  pub again : (limit : Option ℕ) (bytes rest : List ℕ) → packet_writing p ≡ Ok bytes → Admits limit (length (body_bytes (packet_row p) (written_packet p))) → (front limit (bytes ++ rest) ≡ Whole bytes rest) × (packet_in bytes ≡ Ok (norm p))
+  pub again : (limit : Option ℕ) (bytes rest : List ℕ) → packet_writing p ≡ Ok bytes → Admits limit (length (body_bytes (packet_row p) (written_packet p))) → (front limit (bytes ++ rest) ≡ Whole bytes rest) × IsFrameOf bytes (norm p)
   pub once : norm (norm p) ≡ norm p

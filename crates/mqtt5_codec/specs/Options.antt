@@ -1,9 +1,7 @@
 -- The settings of a client. Those of its Connect are in MQTT 5.0 section 3.1.
-use Rattle.std.specs.Prelude.{◌≡◌, ℕ, Bool, true, false, List, [], Option, Some, None, Result, MatchResult, unwrap_or}
+use Rattle.std.specs.Prelude.{ℕ, Bool, true, false, [], Option, Some, None, unwrap_or}
 use Rattle.std.specs.declared.time.Duration.{Duration}
-use Rattle.mqtt5_base.specs.declared.error.Error.{Error}
-use Rattle.mqtt5_base.specs.declared.error.Error.TheVariants.{OutOfMemory}
-use Rattle.mqtt5_base.specs.Texts.{Utf8, text_of}
+use Rattle.mqtt5_base.specs.Texts.{Utf8}
 use Rattle.mqtt5_connect.specs.declared.connect.ConnectProperties.{ConnectProperties}
 use Rattle.mqtt5_connect.specs.declared.will.LastWill.{LastWill}
 use Rattle.mqtt5_connect.specs.declared.login.Login.{Login}
@@ -56,10 +54,6 @@ defaults id host port = record {
   outgoing_inflight_upper_limit = None;
 }
 
--- a user name and a password (3.1.3.5, 3.1.3.6)
-abbrev pub login_of : List ℕ → List ℕ → Login
-login_of username password = record { username = text_of username; password = text_of password }
-
 -- the properties of a Connect that has none (3.1.2.11)
 abbrev pub no_properties : ConnectProperties
 no_properties = record {
@@ -81,7 +75,3 @@ properties_of s = unwrap_or s.connect_properties no_properties
 -- the settings with these properties of the Connect (3.1.2.11)
 abbrev pub with_properties : Settings → ConnectProperties → Settings
 with_properties s p = record s { connect_properties = Some p }
-
--- This was answered, unless memory ran out.
-abbrev pub Answers : {A : Type 0} → Result A Error → A → Type 0
-Answers result x = MatchResult result (λ v. v ≡ x) (λ e. e ≡ OutOfMemory)

@@ -1,12 +1,13 @@
--- This file serves the logic alone: the derived `==` of packets finds equal values alone.
+-- This file serves the logic alone: the derived `==` of packets and codecs finds equal values alone.
 use Rattle.std.proofs.Common.{ap}
-use Rattle.mqtt5_base.specs.Sound.{Sound, both, option_sound}
+use Rattle.mqtt5_base.specs.Sound.{Sound, both, number_sound, option_sound}
 use Rattle.mqtt5_flow.specs.Sound.{publish_sound, puback_sound, pubrec_sound, pubrel_sound, pubcomp_sound, pingreq_sound, pingresp_sound}
 use Rattle.mqtt5_subs.specs.Sound.{subscribe_sound, suback_sound, unsubscribe_sound, unsuback_sound}
 use Rattle.mqtt5_connect.specs.Sound.{connect_sound, will_sound, login_sound}
 use Rattle.mqtt5_link.specs.Sound.{connack_sound, disconnect_sound, auth_sound}
 use Rattle.mqtt5_codec.specs.declared.packet.Packet.TheVariants as packets
 use Rattle.mqtt5_codec.specs.contracts.packet.PacketPartialEq.TheImpl as packet
+use Rattle.mqtt5_codec.specs.contracts.codec.CodecPartialEq.TheImpl as codec
 
 pub packet_sound : Sound packet.eq-value.it
 packet_sound (packets.Auth x) (packets.Auth y) h = ap (λ z. packets.Auth z) (auth_sound x y h)
@@ -27,3 +28,10 @@ packet_sound (packets.Unsubscribe x) (packets.Unsubscribe y) h = ap (λ z. packe
 packet_sound (packets.UnsubAck x) (packets.UnsubAck y) h = ap (λ z. packets.UnsubAck z) (unsuback_sound x y h)
 packet_sound (packets.Disconnect x) (packets.Disconnect y) h = ap (λ z. packets.Disconnect z) (disconnect_sound x y h)
 packet_sound x y h = absurd cc
+
+pub codec_sound : Sound codec.eq-value.it
+codec_sound x y h =
+    let e =
+    both (option_sound number_sound x.max_incoming_size y.max_incoming_size)
+    (option_sound number_sound x.max_outgoing_size y.max_outgoing_size) h in
+    λ i. record { max_incoming_size = e.0 i; max_outgoing_size = e.1 i }

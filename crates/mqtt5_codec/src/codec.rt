@@ -1,7 +1,7 @@
 //! The codec of a stream of packets.
 
 ghost use Rattle.std.specs.Prelude.{◌<◌, length, IfOk, IfSome};
-ghost use Rattle.mqtt5_base.specs.Puts.{Appends};
+ghost use Rattle.mqtt5_base.specs.Puts.{Writes};
 ghost use Rattle.mqtt5_codec.specs.Packets.{writing_under};
 ghost use Rattle.mqtt5_codec.specs.Codecs.{Decodes, Reserves};
 
@@ -40,7 +40,7 @@ impl Codec {
     /// Appends the packet's frame. E20, E11, E9, E10, E16, E1 or E21, as of `Packet::write` under the
     /// outgoing limit; the buffer is then unchanged.
     pub fn encode(&self, packet: &Packet, buffer: &mut BytesMut) -> Result<(), Error>
-        ensures { Appends result (writing_under self.now.max_outgoing_size packet.now) buffer.old.items buffer.new.items }
+        ensures { Writes (λ _. tt) (writing_under self.now.max_outgoing_size packet.now) result buffer.old.items buffer.new.items }
     {
         packet.write(buffer, self.max_outgoing_size)?;
         Ok(())

@@ -2,7 +2,8 @@
 //! are set a getter shows those of an empty set, and a setter makes one.
 
 ghost use Rattle.std.specs.Prelude.{◌≡◌};
-ghost use Rattle.mqtt5_codec.specs.Options.{properties_of, with_properties, Answers};
+ghost use Rattle.mqtt5_base.specs.Answers.{Answers};
+ghost use Rattle.mqtt5_codec.specs.Options.{properties_of, with_properties};
 
 use crate::options::MqttOptions;
 use bytes::Bytes;

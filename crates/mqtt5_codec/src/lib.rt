@@ -1,6 +1,7 @@
 //! Packets of every type, the codec of a stream of them, and the settings of a client.
 #![tactic(auto)]
 
+mod bodies;
 mod codec;
 mod connect_options;
 mod exact;

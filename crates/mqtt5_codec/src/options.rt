@@ -4,8 +4,10 @@ ghost use Rattle.std.specs.Prelude.{◌≡◌, ◌*◌, ◌≤◌, Some, IfErr, 
 ghost use Rattle.std.specs.Borrow.{Lends, sem};
 ghost use Rattle.std.specs.Duration.{as_nanos};
 ghost use Rattle.mqtt5_base.specs.Texts.{text_of};
+ghost use Rattle.mqtt5_base.specs.Answers.{Answers};
+ghost use Rattle.mqtt5_connect.specs.Connects.{login_of};
 ghost use Rattle.mqtt5_connect.specs.contracts.connect.ConnectProperties.{the_row as properties_row};
-ghost use Rattle.mqtt5_codec.specs.Options.{defaults, seconds, login_of, properties_of, with_properties, Answers};
+ghost use Rattle.mqtt5_codec.specs.Options.{defaults, seconds, properties_of, with_properties};
 ghost use Rattle.mqtt5_codec.specs.contracts.options.MqttOptions.{the_row};
 
 use mqtt5_base::{Error, Text, copied};

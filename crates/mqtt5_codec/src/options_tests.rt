@@ -39,7 +39,7 @@ fn fresh(alloc: Global) -> Result<MqttOptions, Error> {
 }
 
 fn will(alloc: Global) -> Result<LastWill, Error> {
-    let message = Bytes::copy_from_slice(alloc, b"m")?;
+    let message = Vec::from_slice(alloc, b"m")?;
     LastWill::new(alloc, "w", message, QoS::AtLeastOnce, true, None)
 }
 

@@ -74,7 +74,7 @@ impl Packet {
     }
 
     fn write_frame(&self, buffer: &mut BytesMut) -> Result<usize, Error>
-        ensures { Writes (packet_writing self.now) result buffer.old.items buffer.new.items }
+        ensures { Writes length (packet_writing self.now) result buffer.old.items buffer.new.items }
     {
         match self {
             Packet::Auth(auth) => auth.write(buffer),
@@ -99,7 +99,7 @@ impl Packet {
     /// greatest `u32`; else the packet type's own: E11 of what is too long, then E9 of a Publish, E10 of a
     /// Subscribe, E16 of a SubAck or UnsubAck, or E1 of a ConnAck; E21. The buffer is then unchanged.
     pub fn write(&self, buffer: &mut BytesMut, max_size: Option<u32>) -> Result<usize, Error>
-        ensures { Writes (writing_under max_size self.now) result buffer.old.items buffer.new.items }
+        ensures { Writes length (writing_under max_size self.now) result buffer.old.items buffer.new.items }
     {
         if let Some(max) = max_size {
             let size = self.size();

@@ -2,11 +2,12 @@
 
 ghost use Rattle.std.specs.Prelude.{◌≡◌, ◌/◌, ◌<◌, ◌≤◌, length, take, drop, IfOk, MatchResult};
 ghost use Rattle.mqtt5_base.specs.Headers.{IsHeader, frame_len};
-ghost use Rattle.mqtt5_base.specs.Answers.{Gives};
+ghost use Rattle.mqtt5_base.specs.Answers.{Gives, Says};
 ghost use Rattle.mqtt5_base.specs.Reading.{frame_values};
-ghost use Rattle.mqtt5_codec.specs.Packets.{packet_rows, packet_type, packet_content, packet_in, IsRead};
-ghost use Rattle.mqtt5_codec.specs.Taken.{TakesFrame};
+ghost use Rattle.mqtt5_codec.specs.Packets.{packet_rows, packet_type, packet_content, IsRead, IsFrameOf, IsFaultOf};
+ghost use Rattle.mqtt5_codec.specs.Taken.{TakesBytes};
 
+use crate::bodies;
 use crate::packet::Packet;
 use bytes::{Bytes, BytesMut};
 use mqtt5_base::{Error, FixedHeader, PacketType, check};
@@ -117,59 +118,59 @@ fn read_body(alloc: Global, header: FixedHeader, frame: Bytes) -> Result<Packet,
     match header.packet_type()? {
         PacketType::Connect => {
             needs_body(header)?;
-            Ok(as_connect(Connect::read(alloc, header, frame)?))
+            Ok(as_connect(bodies::connect(alloc, header, frame)?))
         }
         PacketType::ConnAck => {
             needs_body(header)?;
-            Ok(as_connack(ConnAck::read(alloc, header, frame)?))
+            Ok(as_connack(bodies::connack(alloc, header, frame)?))
         }
         PacketType::Publish => {
             needs_body(header)?;
-            Ok(as_publish(Publish::read(alloc, header, frame)?))
+            Ok(as_publish(bodies::publish(alloc, header, frame)?))
         }
         PacketType::PubAck => {
             needs_body(header)?;
-            Ok(as_puback(PubAck::read(alloc, header, frame)?))
+            Ok(as_puback(bodies::puback(alloc, header, frame)?))
         }
         PacketType::PubRec => {
             needs_body(header)?;
-            Ok(as_pubrec(PubRec::read(alloc, header, frame)?))
+            Ok(as_pubrec(bodies::pubrec(alloc, header, frame)?))
         }
         PacketType::PubRel => {
             needs_body(header)?;
-            Ok(as_pubrel(PubRel::read(alloc, header, frame)?))
+            Ok(as_pubrel(bodies::pubrel(alloc, header, frame)?))
         }
         PacketType::PubComp => {
             needs_body(header)?;
-            Ok(as_pubcomp(PubComp::read(alloc, header, frame)?))
+            Ok(as_pubcomp(bodies::pubcomp(alloc, header, frame)?))
         }
         PacketType::Subscribe => {
             needs_body(header)?;
-            Ok(as_subscribe(Subscribe::read(alloc, header, frame)?))
+            Ok(as_subscribe(bodies::subscribe(alloc, header, frame)?))
         }
         PacketType::SubAck => {
             needs_body(header)?;
-            Ok(as_suback(SubAck::read(alloc, header, frame)?))
+            Ok(as_suback(bodies::suback(alloc, header, frame)?))
         }
         PacketType::Unsubscribe => {
             needs_body(header)?;
-            Ok(as_unsubscribe(Unsubscribe::read(alloc, header, frame)?))
+            Ok(as_unsubscribe(bodies::unsubscribe(alloc, header, frame)?))
         }
         PacketType::UnsubAck => {
             needs_body(header)?;
-            Ok(as_unsuback(UnsubAck::read(alloc, header, frame)?))
+            Ok(as_unsuback(bodies::unsuback(alloc, header, frame)?))
         }
         PacketType::PingReq => Ok(Packet::PingReq(PingReq)),
         PacketType::PingResp => Ok(Packet::PingResp(PingResp)),
-        PacketType::Disconnect => Ok(as_disconnect(Disconnect::read(alloc, header, frame)?)),
-        PacketType::Auth => Ok(as_auth(Auth::read(alloc, header, frame)?)),
+        PacketType::Disconnect => Ok(as_disconnect(bodies::disconnect(alloc, header, frame)?)),
+        PacketType::Auth => Ok(as_auth(bodies::auth(alloc, header, frame)?)),
     }
 }
 
 /// The packet of a whole frame.
 fn read_frame(alloc: Global, header: FixedHeader, frame: Bytes) -> Result<Packet, Error>
     requires { IsHeader header frame }
-    ensures { Gives (λ p. p) result (packet_in frame) }
+    ensures { Says (λ p. p) result (IsFrameOf frame) (IsFaultOf frame) }
 {
     read_body(alloc, header, frame)
 }
@@ -182,7 +183,7 @@ pub(crate) fn take_frame(
 ) -> Result<Packet, Error>
     requires whole { frame_len header ≤ length stream.old.items }
     requires header { IsHeader header (take (frame_len header) stream.old.items) }
-    ensures { TakesFrame (frame_len header) result stream.old.items stream.new.items }
+    ensures { TakesBytes (frame_len header) result stream.old.items stream.new.items }
 {
     let frame = stream.freeze_to(header.frame_length())?;
     read_frame(alloc, header, frame)

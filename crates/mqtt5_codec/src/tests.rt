@@ -4,7 +4,7 @@ use crate::codec::Codec;
 use crate::frames::frame_laws;
 use crate::packet::Packet;
 use bytes::{Bytes, BytesMut};
-use mqtt5_base::{Error, PropertyBlock, QoS, Sequence, Text, block_len, copied, read_block, same};
+use mqtt5_base::{Error, PropertySet, QoS, Sequence, Text, block_len, copied, read_block, same};
 use mqtt5_flow::{
     AckProperties, PingReq, PingResp, PubAck, PubComp, PubCompReason, PubRec, PubRecReason, PubRel,
     PubRelReason, Publish, PublishProperties,

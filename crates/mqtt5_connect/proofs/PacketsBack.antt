@@ -8,7 +8,8 @@ use Rattle.mqtt5_connect.specs.declared.connect.Connect.{Connect}
 use Rattle.mqtt5_connect.specs.declared.will.LastWillProperties.{LastWillProperties}
 use Rattle.mqtt5_connect.specs.declared.will.LastWill.{LastWill}
 use Rattle.mqtt5_connect.specs.declared.login.Login.{Login}
-use Rattle.mqtt5_connect.specs.Connects.{connect_found, will_found, will_values, login_values, connect_packet, connect_set, will_set, will_from, login_from, connect_of, connect_will, connect_login}
+use Rattle.mqtt5_connect.specs.Connects.{connect_found, will_found, will_values, login_values, connect_packet}
+use Rattle.mqtt5_connect.specs.FromValues.{connect_set, will_set, will_from, login_from, connect_of, connect_will, connect_login}
 
 -- the properties of a Connect are those of their values
 connect_set_back : (s : ConnectProperties) → connect_set (connect_found s) ≡ s

@@ -2,13 +2,14 @@
 use Rattle.std.proofs.Common.{◌≡◌, ℕ, ◌/◌, ◌%◌, Bool, true, false, cond, List, [], ◌∷◌, Option, Some, None, option_map, refl, sym, ap, ◌∙◌}
 use Rattle.std.proofs.lemmas.Str.{is_utf8-from_IsUtf8, IsUtf8-nil}
 use Rattle.mqtt5_base.specs.Codes.{text_back}
-use Rattle.mqtt5_base.specs.Grammar.{u16, bytes, text, Atom, number, content, number_of, Found, Value, plain, properties, Group, optional, Content, under, holds, all_empty, unless_empty, number_in}
+use Rattle.mqtt5_base.specs.Grammar.{u16, bytes, text, Atom, number, content, number_of, Found, Value, plain, properties, Group, optional, Content, all_empty, unless_empty, number_in}
 use Rattle.mqtt5_base.specs.Fields.{props, Kept, Choice, IsRow}
 use Rattle.mqtt5_base.specs.Layout.{group_of, content_of_packet}
 use Rattle.mqtt5_base.proofs.SetShapes.{kept_by, ComeBack, numbers_again, contents_again, texts_again, pairs_again, set_again}
 use Rattle.mqtt5_base.proofs.FieldShapes.{one_back, properties_back, maybe_one, qos_again}
-use Rattle.mqtt5_connect.specs.Rows.{connect_table, will_table, has_will, no_will, will_steps, login_steps, connect_row}
-use Rattle.mqtt5_connect.specs.Connects.{connect_found, will_found, will_values, login_values, will_group, login_group, connect_packet, connect_set, will_set, will_from, login_from, connect_of, connect_will, connect_login}
+use Rattle.mqtt5_connect.specs.Rows.{connect_table, will_table, no_will, will_steps, login_steps, connect_row}
+use Rattle.mqtt5_connect.specs.Connects.{connect_found, will_found, will_values, login_values, will_group, login_group, connect_packet}
+use Rattle.mqtt5_connect.specs.FromValues.{connect_set, will_set, will_from, login_from, connect_of, connect_will, connect_login}
 use Rattle.mqtt5_base.proofs.Bits.{bit_of_mod}
 
 -- the properties of a Connect
@@ -115,7 +116,7 @@ connect_row_again first len body c rest h =
     let w = part.2 in
     let l = part.4 in
     let login = l.2 in
-    let will_is = choice_again (holds (under n 0) has_will) n h.1 w.0 part.1 w.1 in
+    let will_is = choice_again _ n h.1 w.0 part.1 w.1 in
     let login_is = filled_again login.0 (login_again n part.1 login.0 l.1 login.1) in
     let kept : h.0.kept ≡ (plain (number (worth % 2)) ∷ plain keep_alive.0 ∷ properties p.0 ∷ plain id.0 ∷ []) = ap (λ k. k.kept) t.3.0 ∙ (λ i. plain (number (worth % 2)) ∷ keep_alive.1 i ∷ p.1 i ∷ id.1 i ∷ []) in
     let groups : h.3 ≡ (optional w.0 ∷ optional (unless_empty login.0) ∷ []) = part.5 ∙ (λ i. w.2 i ∷ (l.5 ∙ (λ j. login.2 j ∷ l.4.0 j)) i) in

@@ -1,6 +1,6 @@
 -- The row of Connect (MQTT 5.0 section 3.1).
 use Rattle.std.specs.Prelude.{ℕ, false, List, [], ◌∷◌}
-use Rattle.mqtt5_base.specs.Grammar.{u8, u16, bytes, text, content, Entry, single, several_of, spells, bad_protocol, bad_level, bad_flags, bad_qos, plain, one, block, given, read, whole, bits, Condition, always, set, Step, field, raw, note, judge, Part, choice, filled, Row, there, bit_of, is, is_qos}
+use Rattle.mqtt5_base.specs.Grammar.{u8, u16, bytes, text, content, Entry, single, several_of, spells, bad_protocol, bad_level, bad_flags, bad_qos, plain, one, block, given, read, whole, bits, always, set, Step, field, raw, note, judge, Part, choice, filled, Row, there, bit_of, is, is_qos}
 
 -- the properties of a Connect, in the order of writing (3.1.2.11)
 abbrev pub connect_table : List Entry
@@ -15,10 +15,6 @@ abbrev pub protocol : List ℕ
 protocol = 77 ∷ 81 ∷ 84 ∷ 84 ∷ []
 
 -- ---- parts, each under the connect flags at a place among the row's values (3.1.2.3)
-
--- the will flag (3.1.2.5)
-abbrev pub has_will : Condition
-has_will = set (bit_of given 4)
 
 -- without a will its QoS and its retain are 0 (3.1.2.6, 3.1.2.7)
 abbrev pub no_will : List Step
@@ -37,7 +33,7 @@ will_steps =
 
 -- the will where its flag is set (3.1.2.5)
 abbrev pub will_part : ℕ → Part
-will_part k = choice k has_will no_will will_steps
+will_part k = choice k (set (bit_of given 4)) no_will will_steps
 
 -- the user name and the password, each where its flag is set (3.1.3.5, 3.1.3.6)
 abbrev pub login_steps : List Step

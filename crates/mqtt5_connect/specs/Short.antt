@@ -1,6 +1,6 @@
 -- This file serves the logic alone: the properties of a will; a will and a login that can be written are short.
 use Rattle.std.specs.Prelude.{◌≡◌, ℕ, ◌+◌, ◌/◌, ◌%◌, ◌<◌, true, false, Bool, List, [], ◌++◌, length, Option, Some, None, option_map}
-use Rattle.std.proofs.Common.{cond, ltb, arith, length-append}
+use Rattle.std.proofs.Common.{◌&&◌, cond, ltb, arith, length-append}
 use Rattle.std.proofs.lemmas.Bool.{ltb-true}
 use Rattle.mqtt5_base.specs.VarInt.{var_int}
 use Rattle.mqtt5_base.specs.Grammar.{Entry, Found}
@@ -32,8 +32,8 @@ content_short c h = omega (arith, ltb-true _ _ h)
 pub will_short : (w : LastWill) (n : ℕ) → written_fits will_steps (just (will_values w)) ≡ true → length (written_bytes will_steps n (just (will_values w))) < 1073741824
 will_short w n h =
     let p = option_map will_found w.properties in
-    let f = both_hold (block_fits will_table p) (cond (fits_two_bytes w.topic) (cond (fits_two_bytes w.message) true false) false) h in
-    let g = both_hold (fits_two_bytes w.topic) (cond (fits_two_bytes w.message) true false) f.1 in
+    let f = both_hold (block_fits will_table p) (fits_two_bytes w.topic && (fits_two_bytes w.message && true)) h in
+    let g = both_hold (fits_two_bytes w.topic) (fits_two_bytes w.message && true) f.1 in
     let m = both_hold (fits_two_bytes w.message) true g.1 in
     omega (arith, block_short will_table p f.0, content_short w.topic g.0, content_short w.message m.0, length-append (block_bytes will_table p) (with_length w.topic ++ (with_length w.message ++ [])), length-append (with_length w.topic) (with_length w.message ++ []), length-append (with_length w.message) [])
 
@@ -45,7 +45,7 @@ optional_short false c rest lt = omega arith
 -- A login that can be written is short.
 pub login_short : (l : Login) (n : ℕ) → written_fits login_steps (just (login_values l)) ≡ true → length (written_bytes login_steps n (just (login_values l))) < 1073741824
 login_short l n h =
-    let f = both_hold (fits_two_bytes l.username.bytes) (cond (fits_two_bytes l.password.bytes) true false) h in
+    let f = both_hold (fits_two_bytes l.username.bytes) (fits_two_bytes l.password.bytes && true) h in
     let m = both_hold (fits_two_bytes l.password.bytes) true f.1 in
     let last = optional_short (ltb 0 (n / 64 % 2)) l.password.bytes [] (content_short l.password.bytes m.0) in
     omega (arith, last, optional_short (ltb 0 (n / 128 % 2)) l.username.bytes (cond (ltb 0 (n / 64 % 2)) (with_length l.password.bytes) [] ++ []) (content_short l.username.bytes f.0))

@@ -1,9 +1,9 @@
 //! The first packet of a client.
 
-ghost use Rattle.std.specs.Prelude.{◌≡◌, ◌+◌, ◌≤◌, true, [], ◌∷◌, None, take, drop, length, min};
-ghost use Rattle.mqtt5_base.specs.Answers.{Gives};
+ghost use Rattle.std.specs.Prelude.{◌≡◌, ◌+◌, ◌≤◌, true, [], ◌∷◌, None, map, take, drop, length, min};
+ghost use Rattle.mqtt5_base.specs.Answers.{Gives, ReadsRow};
 ghost use Rattle.mqtt5_base.specs.Reading.{values_in};
-ghost use Rattle.mqtt5_base.specs.Layout.{items_bytes, items_fit, written_bytes, written_fits, parts_fit, body_bytes, groups_of, content_of_packet, layout, writing};
+ghost use Rattle.mqtt5_base.specs.Layout.{items_bytes, items_fit, written_bytes, written_fits, parts_fit, body_bytes, group_of, content_of_packet, layout, writing};
 ghost use Rattle.mqtt5_base.specs.Puts.{Puts, Writes};
 ghost use Rattle.mqtt5_connect.specs.Rows.{connect_table, connect_parts, connect_row};
 ghost use Rattle.mqtt5_connect.specs.Reading.{fields_at, groups_at, after_flags};
@@ -202,10 +202,10 @@ fn read_parts(
     flags: u8,
     stream: &mut Bytes,
 ) -> Result<(Option<LastWill>, Option<Login>), Error>
-    ensures { Gives (λ p. (groups_of (will_group p.0 ∷ login_group p.1 ∷ []), stream.new)) result (groups_at flags stream.old) }
+    ensures { Gives (λ p. (map group_of (will_group p.0 ∷ login_group p.1 ∷ []), stream.new)) result (groups_at flags stream.old) }
 {
-    let will = LastWill::read(alloc, flags, stream)?;
-    let login = Login::read(alloc, flags, stream)?;
+    let will = LastWill::read_part(alloc, flags, stream)?;
+    let login = Login::read_part(alloc, flags, stream)?;
     Ok((will, login))
 }
 
@@ -230,10 +230,8 @@ impl Connect {
         Ok((connect, will, login))
     }
 
-    /// The Connect of a frame's bytes, of which the header is, with its will and its login. E2 of a name
-    /// that isn't `MQTT`, E3 with a level that isn't 5, E4 of flags of a will without one, E7 of its QoS
-    /// of 3, E14 to E18 of a field that can't be read; E21.
-    pub fn read(
+    /// What the row gives of a frame's bytes.
+    fn read_values(
         alloc: Global,
         header: FixedHeader,
         bytes: Bytes,
@@ -253,6 +251,21 @@ impl Connect {
         }
         let flags = read_u8(&mut stream)?;
         Connect::read_after_flags(alloc, flags, stream)
+    }
+
+    /// The Connect of a frame's bytes, of which the header is, with its will and its login. E2 of a name
+    /// that isn't `MQTT`, E3 with a level that isn't 5, E4 of flags of a will without one, E7 of its QoS
+    /// of 3, E14 to E18 of a field that can't be read; E21.
+    #[tactic(auto, using(mqtt5_base::proofs::AnswersLemmas::row_said))]
+    pub fn read(
+        alloc: Global,
+        header: FixedHeader,
+        bytes: Bytes,
+    ) -> Result<(Connect, Option<LastWill>, Option<Login>), Error>
+        requires { length bytes ≡ header.fixed_header_len + header.remaining_len }
+        ensures { ReadsRow (λ p. content_of_packet (connect_packet p.0 p.1 p.2)) connect_row header bytes result }
+    {
+        Connect::read_values(alloc, header, bytes)
     }
 
     /// The connect flags: 0x02 for clean start, and those of the will and the login.
@@ -321,7 +334,7 @@ impl Connect {
         login: &Option<Login>,
         buffer: &mut BytesMut,
     ) -> Result<usize, Error>
-        ensures { Writes (writing connect_row (connect_packet self.now will.now login.now)) result buffer.old.items buffer.new.items }
+        ensures { Writes length (writing connect_row (connect_packet self.now will.now login.now)) result buffer.old.items buffer.new.items }
     {
         if !self.head_fits() || !parts_fit(will, login) {
             return Err(Error::PayloadTooLong);

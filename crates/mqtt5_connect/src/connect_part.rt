@@ -1,10 +1,9 @@
 //! The parts of a Connect that may be absent: its will and its login.
 
-ghost use Rattle.std.specs.Prelude.{◌≡◌, ℕ, ◌≤◌, ◌<◌, List, length, true, min, option_map};
+ghost use Rattle.std.specs.Prelude.{◌≡◌, ℕ, ◌≤◌, ◌<◌, List, length, true, min, option_map, unwrap_or};
 ghost use Rattle.mqtt5_base.specs.Grammar.{Step, Value};
 ghost use Rattle.mqtt5_base.specs.Layout.{just, written_bytes, written_fits, optional_bytes, optional_fits, steps_writing};
-ghost use Rattle.mqtt5_base.specs.Puts.{Puts};
-ghost use Rattle.mqtt5_connect.specs.Connects.{flags_or_none, WritesPart};
+ghost use Rattle.mqtt5_base.specs.Puts.{Puts, Writes};
 
 use bytes::BytesMut;
 use mqtt5_base::Error;
@@ -47,7 +46,7 @@ pub(crate) trait ConnectPart {
 
 /// Appends a part and answers its flags. E11, E21; then the buffer is unchanged.
 pub(crate) fn write_part<P: ConnectPart>(part: &P, buffer: &mut BytesMut) -> Result<u8, Error>
-    ensures { WritesPart (steps_writing P.steps (P.own_flags part.now) (just (P.values part.now))) (P.own_flags part.now) result buffer.old.items buffer.new.items }
+    ensures { Writes (λ _. P.own_flags part.now) (steps_writing P.steps (P.own_flags part.now) (just (P.values part.now))) result buffer.old.items buffer.new.items }
 {
     if !part.part_fits() {
         return Err(Error::PayloadTooLong);
@@ -60,7 +59,7 @@ pub(crate) fn write_part<P: ConnectPart>(part: &P, buffer: &mut BytesMut) -> Res
 
 /// The flags of a part; none where it is absent.
 pub(crate) fn flags_of<P: ConnectPart>(part: &Option<P>) -> u8
-    ensures value { result ≡ flags_or_none P.own_flags part.now }
+    ensures value { result ≡ unwrap_or (option_map P.own_flags part.now) 0 }
     ensures small { result ≤ P.most }
 {
     match part {

@@ -1,12 +1,13 @@
 //! The user name and the password of a client.
 
-ghost use Rattle.std.specs.Prelude.{◌≡◌, ◌≤◌, [], IfOk, IfErr, OnErr};
+ghost use Rattle.std.specs.Prelude.{◌≡◌, ◌≤◌, [], OnErr};
 ghost use Rattle.mqtt5_base.specs.Grammar.{plain, content, one, text};
-ghost use Rattle.mqtt5_base.specs.Answers.{Gives};
+ghost use Rattle.mqtt5_base.specs.Answers.{Answers, Gives, ReadsPart};
 ghost use Rattle.mqtt5_base.specs.Reading.{optional_at, part_at};
+ghost use Rattle.mqtt5_base.specs.Puts.{Writes};
 ghost use Rattle.mqtt5_base.specs.Layout.{group_of, just, steps_writing};
 ghost use Rattle.mqtt5_connect.specs.Rows.{login_steps, login_part};
-ghost use Rattle.mqtt5_connect.specs.Connects.{login_values, text_flag, login_flags, login_group, under_flags, WritesPart};
+ghost use Rattle.mqtt5_connect.specs.Connects.{login_values, login_of, text_flag, login_flags, login_group, under_flags};
 ghost use Rattle.mqtt5_connect.specs.Short.{login_short};
 
 use crate::connect_part::{ConnectPart, write_part};
@@ -36,9 +37,9 @@ fn read_optional(alloc: Global, is_there: bool, bytes: &mut Bytes) -> Result<Tex
 
 impl Login {
     /// A login of these texts. E21.
+    #[tactic(auto, using(mqtt5_base::specs::Codes::text_back))]
     pub fn new(alloc: Global, u: &str, p: &str) -> Result<Login, Error>
-        ensures ok { IfOk result (λ l. (l.username.bytes ≡ u.now) × (l.password.bytes ≡ p.now)) }
-        ensures err { IfErr result (λ e. e ≡ Error.OutOfMemory) }
+        ensures { Answers result (login_of u.now p.now) }
     {
         Ok(Login {
             username: Text::from(String::from_str(alloc, u)?),
@@ -46,10 +47,12 @@ impl Login {
         })
     }
 
-    /// The login at the front of the bytes, under the connect flags: a user name where 0x80 is set, a
-    /// password where 0x40 is; none where both are empty. E14 to E16 of a text that can't be read;
-    /// E21. After a refusal the bytes are unchanged.
-    pub fn read(alloc: Global, flags: u8, bytes: &mut Bytes) -> Result<Option<Login>, Error>
+    /// What the part gives of the bytes.
+    pub(crate) fn read_part(
+        alloc: Global,
+        flags: u8,
+        bytes: &mut Bytes,
+    ) -> Result<Option<Login>, Error>
         ensures read { Gives (λ l. (group_of (login_group l), bytes.new)) result (part_at (login_part 0) (under_flags flags) bytes.old) }
         ensures kept { OnErr result (bytes.new ≡ bytes.old) }
     {
@@ -63,11 +66,22 @@ impl Login {
         Ok(Some(Login { username, password }))
     }
 
+    /// The login at the front of the bytes, under the connect flags: a user name where 0x80 is set, a
+    /// password where 0x40 is; none where both are empty. E14 to E16 of a text that can't be read;
+    /// E21. After a refusal the bytes are unchanged.
+    #[tactic(auto, using(mqtt5_base::proofs::AnswersLemmas::part_said))]
+    pub fn read(alloc: Global, flags: u8, bytes: &mut Bytes) -> Result<Option<Login>, Error>
+        ensures read { ReadsPart (λ l. (group_of (login_group l), bytes.new)) (login_part 0) (under_flags flags) bytes.old result }
+        ensures kept { OnErr result (bytes.new ≡ bytes.old) }
+    {
+        Login::read_part(alloc, flags, bytes)
+    }
+
     /// Appends the user name and the password, each unless it is empty, and answers the connect
     /// flags: 0x80 for a user name, 0x40 for a password. E11 where one is over 65,535 bytes, E21; then
     /// the buffer is unchanged.
     pub fn write(&self, buffer: &mut BytesMut) -> Result<u8, Error>
-        ensures { WritesPart (steps_writing login_steps (login_flags self.now) (just (login_values self.now))) (login_flags self.now) result buffer.old.items buffer.new.items }
+        ensures { Writes (λ _. login_flags self.now) (steps_writing login_steps (login_flags self.now) (just (login_values self.now))) result buffer.old.items buffer.new.items }
     {
         write_part(self, buffer)
     }

@@ -39,7 +39,7 @@ fn connect_of_c(alloc: Global) -> Result<Connect, Error> {
 }
 
 fn will_of_m(alloc: Global) -> Result<LastWill, Error> {
-    let message = Bytes::copy_from_slice(alloc, b"m")?;
+    let message = Vec::from_slice(alloc, b"m")?;
     LastWill::new(alloc, "w", message, QoS::AtLeastOnce, true, None)
 }
 
@@ -323,8 +323,7 @@ fn refused_parts(rt: HostRuntime) -> Result<(), Fail> {
 
 /// Why a will of a long message isn't written, and how many bytes are then written.
 fn why_not_written(alloc: Global) -> Result<(Result<u8, Error>, usize), Error> {
-    let long = vec![in alloc; 0x61; 65_536]?;
-    let message = Bytes::from_vec(long).map_err(|_| Error::OutOfMemory)?;
+    let message = vec![in alloc; 0x61; 65_536]?;
     let will = LastWill::new(alloc, "w", message, QoS::AtMostOnce, false, None)?;
     let mut buffer = BytesMut::new(alloc);
     let refused = will.write(&mut buffer);

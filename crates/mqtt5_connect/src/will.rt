@@ -1,11 +1,12 @@
 //! What the server publishes for a client that is lost.
 
-ghost use Rattle.std.specs.Prelude.{◌≡◌, ◌/◌, ◌%◌, Some, IfOk, IfErr, OnErr};
-ghost use Rattle.mqtt5_base.specs.Answers.{Gives};
+ghost use Rattle.std.specs.Prelude.{◌≡◌, ◌/◌, ◌%◌, Some, IfOk, OnErr};
+ghost use Rattle.mqtt5_base.specs.Answers.{Answers, Gives, ReadsPart};
 ghost use Rattle.mqtt5_base.specs.Reading.{kept_at, part_at};
+ghost use Rattle.mqtt5_base.specs.Puts.{Writes};
 ghost use Rattle.mqtt5_base.specs.Layout.{group_of, just, steps_writing};
 ghost use Rattle.mqtt5_connect.specs.Rows.{will_table, will_steps, will_part};
-ghost use Rattle.mqtt5_connect.specs.Connects.{will_found, will_values, will_flags, will_group, under_flags, WritesPart};
+ghost use Rattle.mqtt5_connect.specs.Connects.{will_found, will_values, will_flags, will_group, under_flags};
 ghost use Rattle.mqtt5_connect.specs.Short.{will_short};
 
 use crate::connect_part::{ConnectPart, write_part};
@@ -162,32 +163,40 @@ fn read_fields(alloc: Global, flags: u8, bytes: &mut Bytes) -> Result<LastWill, 
     })
 }
 
+/// The bytes of a vector.
+fn message_of(payload: Vec<u8>) -> Result<Bytes, AllocError>
+    ensures { IfOk result (λ b. b ≡ payload.items) }
+{
+    Ok(Bytes::from_vec(payload)?)
+}
+
 impl LastWill {
     /// A will of this topic, payload, QoS, retain and properties. E21.
     pub fn new(
         alloc: Global,
         topic: &str,
-        payload: Bytes,
+        payload: Vec<u8>,
         qos: QoS,
         retain: bool,
         properties: Option<LastWillProperties>,
     ) -> Result<LastWill, Error>
-        ensures ok { IfOk result (λ w. w ≡ record { topic = topic.now; message = payload; qos = qos; retain = retain; properties = properties }) }
-        ensures err { IfErr result (λ e. e ≡ Error.OutOfMemory) }
+        ensures { Answers result (record { topic = topic.now; message = payload.items; qos = qos; retain = retain; properties = properties }) }
     {
         Ok(LastWill {
             topic: Bytes::copy_from_slice(alloc, topic.as_bytes())?,
-            message: payload,
+            message: message_of(payload)?,
             qos,
             retain,
             properties,
         })
     }
 
-    /// The will at the front of the bytes, under the connect flags; none where 0x04 isn't set. E4 of
-    /// other flags of a will without it, E7 of a QoS of 3, E14 to E18 of a field that can't be read;
-    /// E21. After a refusal the bytes are unchanged.
-    pub fn read(alloc: Global, flags: u8, bytes: &mut Bytes) -> Result<Option<LastWill>, Error>
+    /// What the part gives of the bytes.
+    pub(crate) fn read_part(
+        alloc: Global,
+        flags: u8,
+        bytes: &mut Bytes,
+    ) -> Result<Option<LastWill>, Error>
         ensures read { Gives (λ w. (group_of (will_group w), bytes.new)) result (part_at (will_part 0) (under_flags flags) bytes.old) }
         ensures kept { OnErr result (bytes.new ≡ bytes.old) }
     {
@@ -203,11 +212,21 @@ impl LastWill {
         Ok(Some(will))
     }
 
+    /// The will at the front of the bytes, under the connect flags; none where 0x04 isn't set. E4 of
+    /// other flags of a will without it, E7 of a QoS of 3, E14 to E18 of a field that can't be read;
+    /// E21. After a refusal the bytes are unchanged.
+    pub fn read(alloc: Global, flags: u8, bytes: &mut Bytes) -> Result<Option<LastWill>, Error>
+        ensures read { ReadsPart (λ w. (group_of (will_group w), bytes.new)) (will_part 0) (under_flags flags) bytes.old result }
+        ensures kept { OnErr result (bytes.new ≡ bytes.old) }
+    {
+        LastWill::read_part(alloc, flags, bytes)
+    }
+
     /// Appends the properties, the topic and the message, and answers the connect flags: 0x04, the
     /// QoS in bits 3 and 4, and 0x20 for retain. E11 where a text or bytes are over 65,535 bytes, or the
     /// properties over 268,435,455; E21. The buffer is then unchanged.
     pub fn write(&self, buffer: &mut BytesMut) -> Result<u8, Error>
-        ensures { WritesPart (steps_writing will_steps (will_flags self.now) (just (will_values self.now))) (will_flags self.now) result buffer.old.items buffer.new.items }
+        ensures { Writes (λ _. will_flags self.now) (steps_writing will_steps (will_flags self.now) (just (will_values self.now))) result buffer.old.items buffer.new.items }
     {
         write_part(self, buffer)
     }

@@ -1,5 +1,5 @@
 -- An ack that is written is read again, as its norm.
-use Rattle.std.proofs.Common.{◌≡◌, ℕ, ◌/◌, ◌<◌, Bool, true, false, cond, eqb, List, [], ◌++◌, length, Option, Some, None, option_map, is_none, Ok, refl, sym, ap, ◌∙◌, arith, length-append}
+use Rattle.std.proofs.Common.{◌&&◌, ◌≡◌, ℕ, ◌/◌, ◌<◌, Bool, true, false, eqb, List, [], ◌++◌, length, Option, Some, None, option_map, is_none, Ok, refl, sym, ap, ◌∙◌, arith, length-append}
 use Rattle.std.proofs.lemmas.Bool.{lt-ltb, eqb-true, false≢true}
 use Rattle.mqtt5_base.specs.Grammar.{number, Entry, Found, Test, Content}
 use Rattle.mqtt5_base.specs.Frames.{Rows, row_among}
@@ -16,25 +16,25 @@ use Rattle.mqtt5_flow.specs.declared.puback.PubAck.{PubAck}
 use Rattle.mqtt5_flow.specs.declared.pubrec.PubRec.{PubRec}
 use Rattle.mqtt5_flow.specs.declared.pubrel.PubRel.{PubRel}
 use Rattle.mqtt5_flow.specs.declared.pubcomp.PubComp.{PubComp}
-use Rattle.mqtt5_flow.specs.Acks.{ack_found, ack_values, ack_packet, puback_code, pubrel_code, puback_packet, pubrec_packet, pubrel_packet, pubcomp_packet}
+use Rattle.mqtt5_flow.specs.Acks.{ack_found, ack_packet, puback_code, pubrel_code, puback_packet, pubrec_packet, pubrel_packet, pubcomp_packet}
 use Rattle.mqtt5_flow.specs.Norms.{puback_norm, pubrec_norm, pubrel_norm, pubcomp_norm}
 
 -- ---- each ack
 
 -- what is none
-is_nothing : {A : Type 0} (o : Option A) → cond (is_none o) true false ≡ true → o ≡ None
+is_nothing : {A : Type 0} (o : Option A) → (is_none o && true) ≡ true → o ≡ None
 is_nothing None h = refl
 is_nothing (Some a) h = absurd cc
 
 -- the values of an ack as they are read again
 abbrev ack_content : ℕ → ℕ → Option Found → Content
-ack_content id code p = (ack_values id code p, [])
+ack_content id code p = content_of_packet (ack_packet 0 id code p)
 
 -- the row of an ack reads it, short or not
 ack_readable : (rows : Rows) (codes : Test) (table : List Entry) (first : ℕ) (short : Bool) (id code : ℕ) (p : Option Found) → is_short (ack_row codes table) (ack_packet first id code p) ≡ short → row_among rows (first / 16) ≡ Some (ack_row codes table)
     → apart [] table ≡ true → id < 65536 → IsBlockOf table p → IsReadable rows (ack_row codes table) (ack_packet first id code p) short (ack_content id code (tidy_found p))
 ack_readable rows codes table first true id code p is among once small set =
-    let s = both_hold (eqb code 0) (cond (is_none p) true false) is in
+    let s = both_hold (eqb code 0) (is_none p && true) is in
     let zero : code ≡ 0 = eqb-true code 0 s.0 in
     let none : p ≡ None = is_nothing p s.1 in
     record {

@@ -11,8 +11,9 @@ use Rattle.mqtt5_flow.specs.declared.pubrel.PubRel.{PubRel}
 use Rattle.mqtt5_flow.specs.declared.pubcomp.PubComp.{PubComp}
 use Rattle.mqtt5_flow.specs.declared.publish.PublishProperties.{PublishProperties}
 use Rattle.mqtt5_flow.specs.declared.publish.Publish.{Publish}
-use Rattle.mqtt5_flow.specs.Acks.{ack_found, ack_set, puback_code, puback_reason, pubrel_code, pubrel_reason, puback_packet, puback_of, pubrec_packet, pubrec_of, pubrel_packet, pubrel_of, pubcomp_packet, pubcomp_of}
-use Rattle.mqtt5_flow.specs.Publishes.{publish_found, publish_packet, publish_set, publish_of}
+use Rattle.mqtt5_flow.specs.Acks.{ack_found, puback_code, pubrel_code, puback_packet, pubrec_packet, pubrel_packet, pubcomp_packet}
+use Rattle.mqtt5_flow.specs.FromValues.{ack_set, puback_reason, pubrel_reason, puback_of, pubrec_of, pubrel_of, pubcomp_of, publish_set, publish_of}
+use Rattle.mqtt5_flow.specs.Publishes.{publish_found, publish_packet}
 
 -- ---- acks
 

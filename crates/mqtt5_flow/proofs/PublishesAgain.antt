@@ -1,5 +1,5 @@
 -- A Publish that is written is read again, as its norm.
-use Rattle.std.proofs.Common.{◌≡◌, ℕ, ◌/◌, ◌%◌, ◌<◌, false, cond, ltb, List, [], ◌∷◌, Option, Some, option_map, Ok, refl, ap, ◌∙◌, arith}
+use Rattle.std.proofs.Common.{◌≡◌, ℕ, ◌/◌, ◌%◌, ◌<◌, false, cond, eqb, ltb, List, [], ◌∷◌, Option, Some, option_map, Ok, refl, ap, ◌∙◌, arith}
 use Rattle.mqtt5_base.specs.declared.quality.QoS.{QoS}
 use Rattle.mqtt5_base.specs.declared.quality.QoS.TheVariants.{AtMostOnce, AtLeastOnce, ExactlyOnce}
 use Rattle.mqtt5_base.specs.Grammar.{number, content, Found, Value, plain, properties}
@@ -14,11 +14,15 @@ use Rattle.mqtt5_base.proofs.FramesAgain.{has_body, body_of, IsReadable, content
 use Rattle.mqtt5_flow.specs.Rows.{publish_row, publish_table}
 use Rattle.mqtt5_flow.specs.declared.publish.Publish.{Publish}
 use Rattle.mqtt5_flow.specs.Publishes.{publish_found, publish_first, publish_packet}
-use Rattle.mqtt5_flow.specs.Norms.{norm_id, publish_norm}
+use Rattle.mqtt5_flow.specs.Norms.{publish_norm}
 
 -- the high half of the first byte is the type
 pub publish_type : (p : Publish) → publish_first p / 16 ≡ 3
 publish_type p = omega (arith, bit_small p.dup, qos_small p.qos, bit_small p.retain)
+
+-- the norm's identifier: QoS 0 has none
+abbrev norm_id : QoS → ℕ → ℕ
+norm_id q id = cond (eqb (qos_number q) 0) 0 id
 
 -- an identifier that is read is the norm's
 id_read : (q : QoS) (id : ℕ) → cond (ltb 0 (qos_number q)) (plain (number id)) (plain (number 0)) ≡ plain (number (norm_id q id))

@@ -3,13 +3,14 @@ use Rattle.std.specs.Prelude.{nat_lt}
 use Rattle.std.proofs.Common.{◌≡◌, ℕ, ◌/◌, ◌%◌, true, List, [], ◌∷◌, Option, option_map, refl, sym, ap, ◌∙◌}
 use Rattle.mqtt5_base.specs.Grammar.{u8, u16, bytes, Atom, number, number_of, Entry, Found, Test, not_zero, passes, zero_id, plain, properties, atom_of, Content, number_in}
 use Rattle.mqtt5_base.specs.Fields.{props, IsRow}
-use Rattle.mqtt5_base.specs.Views.{found_in}
+use Rattle.mqtt5_base.specs.FromValues.{found_in}
 use Rattle.mqtt5_base.specs.Layout.{content_of_packet}
 use Rattle.mqtt5_base.proofs.SetShapes.{kept_by, ComeBack, IsBack, numbers_again, contents_again, texts_again, pairs_again, identifiers_again, set_again}
 use Rattle.mqtt5_base.proofs.FieldShapes.{one_back, remainder_back, properties_back, maybe_one, maybe_checked, maybe_properties, among_each, qos_again}
 use Rattle.mqtt5_flow.specs.Rows.{publish_table, publish_row, ack_table, ack_row, puback_codes, pubrel_codes, puback_row, pubrel_row, ping_row}
-use Rattle.mqtt5_flow.specs.Acks.{ack_found, ack_set, puback_code, puback_reason, pubrel_code, pubrel_reason, puback_packet, puback_of, pubrec_packet, pubrec_of, pubrel_packet, pubrel_of, pubcomp_packet, pubcomp_of}
-use Rattle.mqtt5_flow.specs.Publishes.{publish_found, publish_packet, publish_set, publish_of}
+use Rattle.mqtt5_flow.specs.Acks.{ack_found, puback_code, pubrel_code, puback_packet, pubrec_packet, pubrel_packet, pubcomp_packet}
+use Rattle.mqtt5_flow.specs.FromValues.{ack_set, puback_reason, pubrel_reason, puback_of, pubrec_of, pubrel_of, pubcomp_of, publish_set, publish_of}
+use Rattle.mqtt5_flow.specs.Publishes.{publish_found, publish_packet}
 use Rattle.mqtt5_base.proofs.Bits.{bit_of_mod}
 
 -- ---- Publish

@@ -1,12 +1,12 @@
 -- This file serves the logic alone: the body of an ack as its writer makes it.
-use Rattle.std.specs.Prelude.{ℕ, ◌==◌, Bool, false, List, [], ◌∷◌, ◌++◌, Option, is_none, if◌then◌else◌}
+use Rattle.std.specs.Prelude.{ℕ, ◌==◌, ◌&&◌, Bool, List, [], ◌∷◌, ◌++◌, Option, is_none, if◌then◌else◌}
 use Rattle.std.specs.Int.{w16, to_be_bytes}
 use Rattle.mqtt5_base.specs.Grammar.{Entry, Found}
 use Rattle.mqtt5_base.specs.Layout.{block_bytes}
 
 -- Success without properties is written as the identifier alone.
 abbrev pub ack_is_short : ℕ → Option Found → Bool
-ack_is_short code p = if code == 0 then is_none p else false
+ack_is_short code p = code == 0 && is_none p
 
 -- the identifier, and unless it is short the reason code and the properties
 abbrev pub ack_body : List Entry → ℕ → ℕ → Option Found → List ℕ

@@ -5,4 +5,5 @@ pub mod Pings
 pub mod Publishes
 pub mod Known
 pub mod Sound
+pub mod FromValues
 pub mod Norms

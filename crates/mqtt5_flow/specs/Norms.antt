@@ -1,7 +1,6 @@
 -- What Publish and the acks are read as after they were written (MQTT 5.0 sections 2.2 and 3.3 to 3.7).
-use Rattle.std.specs.Prelude.{ℕ}
-use Rattle.mqtt5_base.specs.declared.quality.QoS.{QoS}
-use Rattle.mqtt5_base.specs.declared.quality.QoS.TheVariants.{AtMostOnce, AtLeastOnce, ExactlyOnce}
+use Rattle.std.specs.Prelude.{◌==◌, if◌then◌else◌}
+use Rattle.mqtt5_base.specs.Views.{qos_number}
 use Rattle.mqtt5_base.specs.Tidy.{tidy}
 use Rattle.mqtt5_flow.specs.declared.puback.PubAck.{PubAck}
 use Rattle.mqtt5_flow.specs.declared.pubrec.PubRec.{PubRec}
@@ -27,12 +26,6 @@ pubrel_norm p = record { pkid = p.pkid; reason = p.reason; properties = tidy ack
 abbrev pub pubcomp_norm : PubComp → PubComp
 pubcomp_norm p = record { pkid = p.pkid; reason = p.reason; properties = tidy ack_found p.properties }
 
--- a Publish of QoS 0 has no packet identifier (2.2.1)
-abbrev pub norm_id : QoS → ℕ → ℕ
-norm_id AtMostOnce id = 0
-norm_id AtLeastOnce id = id
-norm_id ExactlyOnce id = id
-
--- a Publish without such an identifier, and without an empty property set
+-- a Publish of QoS 0 has no packet identifier (2.2.1), and an empty property set is none
 abbrev pub publish_norm : Publish → Publish
-publish_norm p = record { dup = p.dup; qos = p.qos; retain = p.retain; topic = p.topic; pkid = norm_id p.qos p.pkid; payload = p.payload; properties = tidy publish_found p.properties }
+publish_norm p = record { dup = p.dup; qos = p.qos; retain = p.retain; topic = p.topic; pkid = if qos_number p.qos == 0 then 0 else p.pkid; payload = p.payload; properties = tidy publish_found p.properties }

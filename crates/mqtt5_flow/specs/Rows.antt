@@ -1,6 +1,6 @@
 -- The rows of Publish, of the acks and of the pings (MQTT 5.0 sections 3.3 to 3.7, 3.12 and 3.13).
 use Rattle.std.specs.Prelude.{true, false, List, [], ◌∷◌, None}
-use Rattle.mqtt5_base.specs.Grammar.{u8, u16, bytes, number, Entry, single, several_of, Test, any_of, not_zero, bad_reason, bad_qos, zero_id, plain, properties, Field, one, checked, block, remainder, given, read, whole, bits, always, longer, set, field, note, judge, Row, there, bit_of, is_qos, steps_row}
+use Rattle.mqtt5_base.specs.Grammar.{u8, u16, bytes, number, Entry, single, several_of, Test, any_of, not_zero, bad_reason, bad_qos, zero_id, plain, properties, one, checked, block, remainder, given, read, whole, bits, always, longer, set, field, note, judge, Row, there, bit_of, is_qos, steps_row}
 
 -- ---- Publish (3.3)
 
@@ -8,11 +8,7 @@ use Rattle.mqtt5_base.specs.Grammar.{u8, u16, bytes, number, Entry, single, seve
 abbrev pub publish_table : List Entry
 publish_table = single 1 ∷ single 2 ∷ single 35 ∷ single 8 ∷ single 9 ∷ several_of 38 ∷ several_of 11 ∷ single 3 ∷ []
 
--- a packet identifier, which isn't 0 (2.2.1)
-abbrev pub publish_id : Field
-publish_id = checked u16 not_zero zero_id
-
--- dup, QoS and retain of the first byte, the topic, the identifier where the QoS is 1 or 2, the properties and the payload
+-- dup, QoS and retain of the first byte, the topic, where the QoS is 1 or 2 the identifier, which isn't 0 (2.2.1), the properties and the payload
 abbrev pub publish_row : Row
 publish_row =
     steps_row
@@ -21,7 +17,7 @@ publish_row =
     ∷ note (bit_of given 1)
     ∷ judge always (whole (read 1)) is_qos bad_qos
     ∷ there (one bytes)
-    ∷ field (set (whole (read 1))) publish_id (plain (number 0))
+    ∷ field (set (whole (read 1))) (checked u16 not_zero zero_id) (plain (number 0))
     ∷ there (block publish_table)
     ∷ there remainder
     ∷ [])

@@ -1,7 +1,8 @@
 //! The packets that ask whether the peer is there, and answer it.
 
+ghost use Rattle.std.specs.Prelude.{◌≡◌, length};
 ghost use Rattle.mqtt5_base.specs.Puts.{Writes};
-ghost use Rattle.mqtt5_base.specs.Layout.{writing};
+ghost use Rattle.mqtt5_base.specs.Layout.{layout, writing};
 ghost use Rattle.mqtt5_flow.specs.Rows.{ping_row};
 ghost use Rattle.mqtt5_flow.specs.Pings.{pingreq_packet, pingresp_packet};
 
@@ -15,9 +16,17 @@ pub struct PingReq;
 impl PingReq {
     /// Appends a PingReq and answers its length, 2. E21; then the buffer is unchanged.
     pub fn write(buffer: &mut BytesMut) -> Result<usize, Error>
-        ensures { Writes (writing ping_row pingreq_packet) result buffer.old.items buffer.new.items }
+        ensures { Writes length (writing ping_row pingreq_packet) result buffer.old.items buffer.new.items }
     {
         start_frame(0xC0, 0, buffer)
+    }
+
+    /// How many bytes it takes, 2. Takes no memory.
+    #[tactic(auto, unfolding(mqtt5_base::specs::VarInt::var_int))]
+    pub fn size(&self) -> usize
+        ensures { result ≡ length (layout ping_row pingreq_packet) }
+    {
+        2
     }
 }
 
@@ -28,8 +37,16 @@ pub struct PingResp;
 impl PingResp {
     /// Appends a PingResp and answers its length, 2. E21; then the buffer is unchanged.
     pub fn write(buffer: &mut BytesMut) -> Result<usize, Error>
-        ensures { Writes (writing ping_row pingresp_packet) result buffer.old.items buffer.new.items }
+        ensures { Writes length (writing ping_row pingresp_packet) result buffer.old.items buffer.new.items }
     {
         start_frame(0xD0, 0, buffer)
+    }
+
+    /// How many bytes it takes, 2. Takes no memory.
+    #[tactic(auto, unfolding(mqtt5_base::specs::VarInt::var_int))]
+    pub fn size(&self) -> usize
+        ensures { result ≡ length (layout ping_row pingresp_packet) }
+    {
+        2
     }
 }

@@ -1,8 +1,7 @@
 //! The answer to a publish of QoS 1.
 
-ghost use Rattle.std.specs.Prelude.{◌≡◌, ◌+◌, ◌≤◌, Some, None, drop, length, min, option_map};
-ghost use Rattle.mqtt5_base.specs.Answers.{Gives};
-ghost use Rattle.mqtt5_base.specs.Reading.{values_in};
+ghost use Rattle.std.specs.Prelude.{◌≡◌, ◌+◌, ◌≤◌, Some, None, length, min, option_map};
+ghost use Rattle.mqtt5_base.specs.Answers.{ReadsRow};
 ghost use Rattle.mqtt5_base.specs.Puts.{Writes};
 ghost use Rattle.mqtt5_base.specs.Layout.{layout, writing, content_of_packet};
 ghost use Rattle.mqtt5_flow.specs.Rows.{puback_codes, puback_row};
@@ -27,6 +26,25 @@ pub enum PubAckReason {
     PacketIdentifierInUse,
     QuotaExceeded,
     PayloadFormatInvalid,
+}
+
+impl PubAckReason {
+    /// The reason's code.
+    pub fn code(self) -> u8
+        ensures { result ≡ puback_code self }
+    {
+        match self {
+            PubAckReason::Success => 0,
+            PubAckReason::NoMatchingSubscribers => 16,
+            PubAckReason::UnspecifiedError => 128,
+            PubAckReason::ImplementationSpecificError => 131,
+            PubAckReason::NotAuthorized => 135,
+            PubAckReason::TopicNameInvalid => 144,
+            PubAckReason::PacketIdentifierInUse => 145,
+            PubAckReason::QuotaExceeded => 151,
+            PubAckReason::PayloadFormatInvalid => 153,
+        }
+    }
 }
 
 impl Reason for PubAckReason {
@@ -54,17 +72,7 @@ impl Reason for PubAckReason {
     }
 
     fn code(self) -> u8 {
-        match self {
-            PubAckReason::Success => 0,
-            PubAckReason::NoMatchingSubscribers => 16,
-            PubAckReason::UnspecifiedError => 128,
-            PubAckReason::ImplementationSpecificError => 131,
-            PubAckReason::NotAuthorized => 135,
-            PubAckReason::TopicNameInvalid => 144,
-            PubAckReason::PacketIdentifierInUse => 145,
-            PubAckReason::QuotaExceeded => 151,
-            PubAckReason::PayloadFormatInvalid => 153,
-        }
+        PubAckReason::code(self)
     }
 
     fn success() -> PubAckReason {
@@ -102,7 +110,7 @@ impl PubAck {
     /// then E1 with a reason code that a PubAck doesn't have; E21.
     pub fn read(alloc: Global, header: FixedHeader, bytes: Bytes) -> Result<PubAck, Error>
         requires { length bytes ≡ header.fixed_header_len + header.remaining_len }
-        ensures { Gives (λ p. content_of_packet (puback_packet p)) result (values_in puback_row header.byte1 header.remaining_len (drop header.fixed_header_len bytes)) }
+        ensures { ReadsRow (λ p. content_of_packet (puback_packet p)) puback_row header bytes result }
     {
         let (pkid, reason, properties) = read_ack(alloc, header, bytes)?;
         Ok(PubAck {
@@ -116,7 +124,7 @@ impl PubAck {
     /// E11 where a text is over 65,535 bytes, or the properties or the body over 268,435,455; E21. The
     /// buffer is then unchanged.
     pub fn write(&self, buffer: &mut BytesMut) -> Result<usize, Error>
-        ensures { Writes (writing puback_row (puback_packet self.now)) result buffer.old.items buffer.new.items }
+        ensures { Writes length (writing puback_row (puback_packet self.now)) result buffer.old.items buffer.new.items }
     {
         write_ack(0x40, self.pkid, self.reason, &self.properties, buffer)
     }

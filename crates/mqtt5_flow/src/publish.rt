@@ -1,13 +1,13 @@
 //! A message.
 
 ghost use Rattle.std.specs.Prelude.{◌≡◌, ◌+◌, ◌≤◌, ◌/◌, ◌%◌, ◌<◌, nat_lt, true, false, IfOk, IfErr, drop, length, min, option_map};
-ghost use Rattle.mqtt5_base.specs.Grammar.{plain, number, content, bytes};
-ghost use Rattle.mqtt5_base.specs.Answers.{Gives};
+ghost use Rattle.mqtt5_base.specs.Grammar.{u16, not_zero, zero_id, checked, plain, number, content, bytes};
+ghost use Rattle.mqtt5_base.specs.Answers.{Finds, Gives, ReadsRow};
 ghost use Rattle.mqtt5_base.specs.Reading.{optional_at, values_in};
 ghost use Rattle.mqtt5_base.specs.Views.{bit, qos_number};
 ghost use Rattle.mqtt5_base.specs.Puts.{Puts, Writes};
 ghost use Rattle.mqtt5_base.specs.Layout.{atom_fits, block_fits, body_bytes, layout, writing, content_of_packet};
-ghost use Rattle.mqtt5_flow.specs.Rows.{publish_table, publish_id, publish_row};
+ghost use Rattle.mqtt5_flow.specs.Rows.{publish_table, publish_row};
 ghost use Rattle.mqtt5_flow.specs.Publishes.{publish_found, publish_first, publish_packet};
 
 use bytes::{Bytes, BytesMut};
@@ -161,7 +161,7 @@ pub struct Publish {
 
 /// The packet identifier, where the QoS is 1 or 2; else 0.
 fn read_pkid(qos: QoS, stream: &mut Bytes) -> Result<u16, Error>
-    ensures { Gives (λ n. (plain (number n), stream.new)) result (optional_at (nat_lt 0 (qos_number qos)) publish_id (plain (number 0)) stream.old) }
+    ensures { Finds (λ n. (plain (number n), stream.new)) result (optional_at (nat_lt 0 (qos_number qos)) (checked u16 not_zero zero_id) (plain (number 0)) stream.old) }
 {
     if qos == QoS::AtMostOnce {
         return Ok(0);
@@ -197,10 +197,8 @@ impl Publish {
         })
     }
 
-    /// The Publish of a frame's bytes, of which the header is. E7 of a QoS of 3, E9 of a packet
-    /// identifier 0 where the QoS is 1 or 2, E14 to E18 of a field that can't be read; E21.
     #[tactic(auto, using(mqtt5_base::proofs::Bits::bit_of_mod))]
-    pub fn read(alloc: Global, header: FixedHeader, bytes: Bytes) -> Result<Publish, Error>
+    fn read_values(alloc: Global, header: FixedHeader, bytes: Bytes) -> Result<Publish, Error>
         requires { length bytes ≡ header.fixed_header_len + header.remaining_len }
         ensures { Gives (λ p. content_of_packet (publish_packet p)) result (values_in publish_row header.byte1 header.remaining_len (drop header.fixed_header_len bytes)) }
     {
@@ -219,6 +217,16 @@ impl Publish {
             payload: stream,
             properties,
         })
+    }
+
+    /// The Publish of a frame's bytes, of which the header is. E7 of a QoS of 3, E9 of a packet
+    /// identifier 0 where the QoS is 1 or 2, E14 to E18 of a field that can't be read; E21.
+    #[tactic(auto, using(mqtt5_base::proofs::AnswersLemmas::row_said))]
+    pub fn read(alloc: Global, header: FixedHeader, bytes: Bytes) -> Result<Publish, Error>
+        requires { length bytes ≡ header.fixed_header_len + header.remaining_len }
+        ensures { ReadsRow (λ p. content_of_packet (publish_packet p)) publish_row header bytes result }
+    {
+        Publish::read_values(alloc, header, bytes)
     }
 
     fn body_len(&self) -> usize
@@ -262,7 +270,7 @@ impl Publish {
     /// over 65,535 bytes, or a subscription identifier, the properties or the body over 268,435,455;
     /// else E9 where the QoS is 1 or 2 and the packet identifier 0; E21. The buffer is then unchanged.
     pub fn write(&self, buffer: &mut BytesMut) -> Result<usize, Error>
-        ensures { Writes (writing publish_row (publish_packet self.now)) result buffer.old.items buffer.new.items }
+        ensures { Writes length (writing publish_row (publish_packet self.now)) result buffer.old.items buffer.new.items }
     {
         if !self.topic.fits() || !block_fits(&self.properties) {
             return Err(Error::PayloadTooLong);

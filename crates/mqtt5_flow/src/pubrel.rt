@@ -1,8 +1,7 @@
 //! The answer to a PubRec: the publish of QoS 2 is released.
 
-ghost use Rattle.std.specs.Prelude.{◌≡◌, ◌+◌, ◌≤◌, Some, None, drop, length, min, option_map};
-ghost use Rattle.mqtt5_base.specs.Answers.{Gives};
-ghost use Rattle.mqtt5_base.specs.Reading.{values_in};
+ghost use Rattle.std.specs.Prelude.{◌≡◌, ◌+◌, ◌≤◌, Some, None, length, min, option_map};
+ghost use Rattle.mqtt5_base.specs.Answers.{ReadsRow};
 ghost use Rattle.mqtt5_base.specs.Puts.{Writes};
 ghost use Rattle.mqtt5_base.specs.Layout.{layout, writing, content_of_packet};
 ghost use Rattle.mqtt5_flow.specs.Rows.{pubrel_codes, pubrel_row};
@@ -19,6 +18,18 @@ use std::alloc::Global;
 pub enum PubRelReason {
     Success,
     PacketIdentifierNotFound,
+}
+
+impl PubRelReason {
+    /// The reason's code.
+    pub fn code(self) -> u8
+        ensures { result ≡ pubrel_code self }
+    {
+        match self {
+            PubRelReason::Success => 0,
+            PubRelReason::PacketIdentifierNotFound => 146,
+        }
+    }
 }
 
 impl Reason for PubRelReason {
@@ -39,10 +50,7 @@ impl Reason for PubRelReason {
     }
 
     fn code(self) -> u8 {
-        match self {
-            PubRelReason::Success => 0,
-            PubRelReason::PacketIdentifierNotFound => 146,
-        }
+        PubRelReason::code(self)
     }
 
     fn success() -> PubRelReason {
@@ -80,7 +88,7 @@ impl PubRel {
     /// then E1 with a reason code that a PubRel doesn't have; E21.
     pub fn read(alloc: Global, header: FixedHeader, bytes: Bytes) -> Result<PubRel, Error>
         requires { length bytes ≡ header.fixed_header_len + header.remaining_len }
-        ensures { Gives (λ p. content_of_packet (pubrel_packet p)) result (values_in pubrel_row header.byte1 header.remaining_len (drop header.fixed_header_len bytes)) }
+        ensures { ReadsRow (λ p. content_of_packet (pubrel_packet p)) pubrel_row header bytes result }
     {
         let (pkid, reason, properties) = read_ack(alloc, header, bytes)?;
         Ok(PubRel {
@@ -94,7 +102,7 @@ impl PubRel {
     /// E11 where a text is over 65,535 bytes, or the properties or the body over 268,435,455; E21. The
     /// buffer is then unchanged.
     pub fn write(&self, buffer: &mut BytesMut) -> Result<usize, Error>
-        ensures { Writes (writing pubrel_row (pubrel_packet self.now)) result buffer.old.items buffer.new.items }
+        ensures { Writes length (writing pubrel_row (pubrel_packet self.now)) result buffer.old.items buffer.new.items }
     {
         write_ack(0x62, self.pkid, self.reason, &self.properties, buffer)
     }

@@ -1,11 +1,11 @@
 -- A ConnAck, a Disconnect and an Auth that are written are read again, each as its norm.
-use Rattle.std.proofs.Common.{◌≡◌, ℕ, ◌/◌, ◌%◌, ◌<◌, Bool, true, false, cond, eqb, List, [], ◌∷◌, ◌++◌, length, Option, Some, None, option_map, is_none, Ok, refl, sym, ap, ◌∙◌, arith, rules, length-append}
+use Rattle.std.proofs.Common.{◌&&◌, ◌≡◌, ℕ, ◌/◌, ◌%◌, ◌<◌, Bool, true, false, cond, eqb, List, [], ◌∷◌, ◌++◌, length, Option, Some, None, option_map, is_none, Ok, refl, sym, ap, ◌∙◌, arith, rules, length-append}
 use Rattle.std.proofs.lemmas.Bool.{lt-ltb, eqb-true}
 use Rattle.mqtt5_base.specs.Grammar.{number, Entry, Found, Test, passes, plain, properties, Content}
 use Rattle.mqtt5_base.specs.Views.{bit}
 use Rattle.mqtt5_base.specs.Frames.{Rows, row_among}
 use Rattle.mqtt5_base.specs.Reading.{frame_at}
-use Rattle.mqtt5_base.specs.Layout.{block_bytes, is_short, writing, content_of_packet}
+use Rattle.mqtt5_base.specs.Layout.{WrittenPacket, plainly, block_bytes, is_short, writing, content_of_packet}
 use Rattle.mqtt5_base.specs.Sets.{IsBlockOf}
 use Rattle.mqtt5_base.proofs.ViewsBack.{bit_small}
 use Rattle.mqtt5_base.proofs.KindsAgain.{both_hold}
@@ -17,9 +17,9 @@ use Rattle.mqtt5_link.specs.declared.disconnect.DisconnectReasonCode.{Disconnect
 use Rattle.mqtt5_link.specs.declared.disconnect.Disconnect.{Disconnect}
 use Rattle.mqtt5_link.specs.declared.auth.AuthReasonCode.{AuthReasonCode}
 use Rattle.mqtt5_link.specs.declared.auth.Auth.{Auth}
-use Rattle.mqtt5_link.specs.ConnAcks.{connack_code, connack_found, connack_written, connack_packet}
-use Rattle.mqtt5_link.specs.Disconnects.{disconnect_code, disconnect_found, disconnect_written, disconnect_packet}
-use Rattle.mqtt5_link.specs.Auths.{auth_code, auth_found, auth_written, auth_packet}
+use Rattle.mqtt5_link.specs.ConnAcks.{connack_code, connack_found, connack_packet}
+use Rattle.mqtt5_link.specs.Disconnects.{disconnect_code, disconnect_found, disconnect_packet}
+use Rattle.mqtt5_link.specs.Auths.{auth_code, auth_found, auth_packet}
 use Rattle.mqtt5_link.specs.Norms.{connack_norm, disconnect_norm, auth_norm}
 
 -- a code and properties as they are read again
@@ -34,12 +34,16 @@ reason_and_block codes table code p known =
 
 -- ---- Disconnect
 
+-- one of that code and those properties
+abbrev disconnect_written : ℕ → Option Found → WrittenPacket
+disconnect_written code p = plainly 224 (plain (number code) ∷ properties p ∷ [])
+
 -- each reason's code is one of them
 disconnect_known : (r : DisconnectReasonCode) → passes disconnect_codes (number (disconnect_code r)) ≡ true
 disconnect_known = search rules
 
 -- what is none
-is_nothing : {A : Type 0} (o : Option A) → cond (is_none o) true false ≡ true → o ≡ None
+is_nothing : {A : Type 0} (o : Option A) → (is_none o && true) ≡ true → o ≡ None
 is_nothing None h = refl
 is_nothing (Some a) h = absurd cc
 
@@ -47,7 +51,7 @@ is_nothing (Some a) h = absurd cc
 disconnect_readable : (rows : Rows) (short : Bool) (code : ℕ) (p : Option Found) → is_short disconnect_row (disconnect_written code p) ≡ short → row_among rows 14 ≡ Some disconnect_row → passes disconnect_codes (number code) ≡ true → IsBlockOf disconnect_table p
     → IsReadable rows disconnect_row (disconnect_written code p) short (reason_content code (tidy_found p))
 disconnect_readable rows true code p is among known set =
-    let s = both_hold (eqb code 0) (cond (is_none p) true false) is in
+    let s = both_hold (eqb code 0) (is_none p && true) is in
     let zero : code ≡ 0 = eqb-true code 0 s.0 in
     let none : p ≡ None = is_nothing p s.1 in
     record {
@@ -91,6 +95,10 @@ disconnect_norm_twice d = λ i. record { reason_code = d.reason_code; properties
 
 -- ---- Auth
 
+-- one of that code and those properties
+abbrev auth_written : ℕ → Option Found → WrittenPacket
+auth_written code p = plainly 240 (plain (number code) ∷ properties p ∷ [])
+
 -- each reason's code is one of them
 auth_known : (r : AuthReasonCode) → passes auth_codes (number (auth_code r)) ≡ true
 auth_known = search rules
@@ -122,6 +130,10 @@ pub auth_norm_twice : (a : Auth) → auth_norm (auth_norm a) ≡ auth_norm a
 auth_norm_twice a = λ i. record { code = a.code; properties = tidy_twice auth_found a.properties i }
 
 -- ---- ConnAck
+
+-- one of that flag, that code and those properties
+abbrev connack_written : ℕ → ℕ → Option Found → WrittenPacket
+connack_written present code p = record { first = 32; head = record { raws = plain (number present) ∷ []; kept = plain (number present) ∷ plain (number code) ∷ properties p ∷ [] }; groups = [] }
 
 -- the values of a ConnAck as they are read again
 abbrev connack_content : ℕ → ℕ → Option Found → Content

@@ -11,9 +11,10 @@ use Rattle.mqtt5_link.specs.declared.disconnect.Disconnect.{Disconnect}
 use Rattle.mqtt5_link.specs.declared.auth.AuthReasonCode.{AuthReasonCode}
 use Rattle.mqtt5_link.specs.declared.auth.AuthProperties.{AuthProperties}
 use Rattle.mqtt5_link.specs.declared.auth.Auth.{Auth}
-use Rattle.mqtt5_link.specs.ConnAcks.{connack_code, connack_found, connack_packet, connack_reason, connack_set, connack_of}
-use Rattle.mqtt5_link.specs.Disconnects.{disconnect_code, disconnect_found, disconnect_packet, disconnect_reason, disconnect_set, disconnect_of}
-use Rattle.mqtt5_link.specs.Auths.{auth_code, auth_found, auth_packet, auth_reason, auth_set, auth_of}
+use Rattle.mqtt5_link.specs.ConnAcks.{connack_code, connack_found, connack_packet}
+use Rattle.mqtt5_link.specs.Disconnects.{disconnect_code, disconnect_found, disconnect_packet}
+use Rattle.mqtt5_link.specs.Auths.{auth_code, auth_found, auth_packet}
+use Rattle.mqtt5_link.specs.FromValues.{connack_reason, connack_set, connack_of, disconnect_reason, disconnect_set, disconnect_of, auth_reason, auth_set, auth_of}
 
 -- ---- ConnAck
 

@@ -1,21 +1,28 @@
 -- What the rows of ConnAck, Disconnect and Auth give comes back from the packets that are made of it.
 use Rattle.std.specs.Prelude.{nat_lt}
 use Rattle.std.proofs.Common.{◌≡◌, ℕ, ◌/◌, ◌%◌, Bool, true, false, List, [], ◌∷◌, refl, sym, ap, ◌∙◌, rules}
-use Rattle.mqtt5_base.specs.Grammar.{Kind, u8, Atom, number, number_of, Test, passes, Wrong, bad_reason, malformed, Value, plain, properties, checked, atom_of, Content}
+use Rattle.mqtt5_base.specs.Grammar.{Kind, u8, Atom, number, number_of, Test, any_of, not_zero, spells, passes, Wrong, bad_reason, malformed, Value, plain, properties, checked, atom_of, Content}
 use Rattle.mqtt5_base.specs.Fields.{props, TakesField, IsRow}
 use Rattle.mqtt5_base.specs.Layout.{content_of_packet}
 use Rattle.mqtt5_base.proofs.SetShapes.{kept_by, ComeBack, numbers_again, contents_again, texts_again, pairs_again, set_again}
 use Rattle.mqtt5_base.proofs.FieldShapes.{IsTested, one_back, checked_back, properties_back, maybe_properties, Each, among_each}
-use Rattle.mqtt5_link.specs.Rows.{connack_table, connack_numbers, connack_codes, connack_row, disconnect_table, disconnect_numbers, disconnect_codes, disconnect_row, auth_table, auth_numbers, auth_codes, auth_row}
-use Rattle.mqtt5_link.specs.ConnAcks.{connack_code, connack_found, connack_packet, connack_reason, connack_set, connack_of}
-use Rattle.mqtt5_link.specs.Disconnects.{disconnect_code, disconnect_found, disconnect_packet, disconnect_reason, disconnect_set, disconnect_of}
-use Rattle.mqtt5_link.specs.Auths.{auth_code, auth_found, auth_packet, auth_reason, auth_set, auth_of}
+use Rattle.mqtt5_link.specs.Rows.{connack_table, connack_codes, connack_row, disconnect_table, disconnect_codes, disconnect_row, auth_table, auth_codes, auth_row}
+use Rattle.mqtt5_link.specs.ConnAcks.{connack_code, connack_found, connack_packet}
+use Rattle.mqtt5_link.specs.Disconnects.{disconnect_code, disconnect_found, disconnect_packet}
+use Rattle.mqtt5_link.specs.Auths.{auth_code, auth_found, auth_packet}
+use Rattle.mqtt5_link.specs.FromValues.{connack_reason, connack_set, connack_of, disconnect_reason, disconnect_set, disconnect_of, auth_reason, auth_set, auth_of}
 use Rattle.mqtt5_base.proofs.Bits.{bit_of_mod}
 
 -- a value that is judged, or the one that stands for it, which passes too
 maybe_tested : (b : Bool) (k : Kind) (t : Test) (w : Wrong) (d : Atom) (body : List ℕ) (v : Value) (after : List ℕ) → kept_by k d ≡ d → passes t d ≡ true → TakesField b (checked k t w) (plain d) body v after → IsTested k t v
 maybe_tested true k t w d body v after e p h = checked_back k t w body v after h
 maybe_tested false k t w d body v after e p h = (d, h.0, e, p)
+
+-- the numbers of a test
+abbrev numbers_of : Test → List ℕ
+numbers_of (any_of ns) = ns
+numbers_of not_zero = []
+numbers_of (spells t) = []
 
 -- ---- ConnAck
 
@@ -42,12 +49,12 @@ connack_set_again items l = λ i.
     ∷ []
 
 -- each reason code comes back
-connack_codes_again : Each (λ m. connack_code (connack_reason m) ≡ m) connack_numbers
+connack_codes_again : Each (λ m. connack_code (connack_reason m) ≡ m) (numbers_of connack_codes)
 connack_codes_again = search rules
 
 -- a reason code comes back
 connack_code_again : (a : Atom) → kept_by u8 a ≡ a → passes connack_codes a ≡ true → number (connack_code (connack_reason (number_of a))) ≡ a
-connack_code_again a same passed = ap (λ n. number n) (among_each (λ m. connack_code (connack_reason m) ≡ m) connack_numbers connack_codes_again (number_of a) passed) ∙ same
+connack_code_again a same passed = ap (λ n. number n) (among_each (λ m. connack_code (connack_reason m) ≡ m) (numbers_of connack_codes) connack_codes_again (number_of a) passed) ∙ same
 
 -- What the row of a ConnAck gives comes back.
 pub connack_row_again : (first len : ℕ) (body : List ℕ) (c : Content) (rest : List ℕ) → IsRow connack_row first len body c rest → content_of_packet (connack_packet (connack_of c)) ≡ c
@@ -77,12 +84,12 @@ disconnect_set_again : (items : List (ℕ × Atom)) → ComeBack items → disco
 disconnect_set_again items l = λ i. numbers_again _ (l 17) i ∷ texts_again _ (l 31) i ∷ pairs_again _ (l 38) i ∷ texts_again _ (l 28) i ∷ []
 
 -- each reason code comes back
-disconnect_codes_again : Each (λ m. disconnect_code (disconnect_reason m) ≡ m) disconnect_numbers
+disconnect_codes_again : Each (λ m. disconnect_code (disconnect_reason m) ≡ m) (numbers_of disconnect_codes)
 disconnect_codes_again = search rules
 
 -- a reason code comes back
 disconnect_code_again : (a : Atom) → kept_by u8 a ≡ a → passes disconnect_codes a ≡ true → number (disconnect_code (disconnect_reason (number_of a))) ≡ a
-disconnect_code_again a same passed = ap (λ n. number n) (among_each (λ m. disconnect_code (disconnect_reason m) ≡ m) disconnect_numbers disconnect_codes_again (number_of a) passed) ∙ same
+disconnect_code_again a same passed = ap (λ n. number n) (among_each (λ m. disconnect_code (disconnect_reason m) ≡ m) (numbers_of disconnect_codes) disconnect_codes_again (number_of a) passed) ∙ same
 
 -- What the row of a Disconnect gives comes back.
 pub disconnect_row_again : (first len : ℕ) (body : List ℕ) (c : Content) (rest : List ℕ) → IsRow disconnect_row first len body c rest → content_of_packet (disconnect_packet (disconnect_of c)) ≡ c
@@ -105,12 +112,12 @@ auth_set_again : (items : List (ℕ × Atom)) → ComeBack items → auth_found 
 auth_set_again items l = λ i. texts_again _ (l 21) i ∷ contents_again _ (l 22) i ∷ texts_again _ (l 31) i ∷ pairs_again _ (l 38) i ∷ []
 
 -- each reason code comes back
-auth_codes_again : Each (λ m. auth_code (auth_reason m) ≡ m) auth_numbers
+auth_codes_again : Each (λ m. auth_code (auth_reason m) ≡ m) (numbers_of auth_codes)
 auth_codes_again = search rules
 
 -- a reason code comes back
 auth_code_again : (a : Atom) → kept_by u8 a ≡ a → passes auth_codes a ≡ true → number (auth_code (auth_reason (number_of a))) ≡ a
-auth_code_again a same passed = ap (λ n. number n) (among_each (λ m. auth_code (auth_reason m) ≡ m) auth_numbers auth_codes_again (number_of a) passed) ∙ same
+auth_code_again a same passed = ap (λ n. number n) (among_each (λ m. auth_code (auth_reason m) ≡ m) (numbers_of auth_codes) auth_codes_again (number_of a) passed) ∙ same
 
 -- What the row of an Auth gives comes back.
 pub auth_row_again : (first len : ℕ) (body : List ℕ) (c : Content) (rest : List ℕ) → IsRow auth_row first len body c rest → content_of_packet (auth_packet (auth_of c)) ≡ c

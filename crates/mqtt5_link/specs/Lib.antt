@@ -1,7 +1,9 @@
 pub mod Rows
 pub mod ConnAcks
+pub mod Thirds
 pub mod Disconnects
 pub mod DisconnectBody
 pub mod Auths
+pub mod FromValues
 pub mod Sound
 pub mod Norms

@@ -1,39 +1,18 @@
 -- The rows of ConnAck, Disconnect and Auth (MQTT 5.0 sections 3.2, 3.14 and 3.15).
-use Rattle.std.specs.Prelude.{◌≡◌, ℕ, true, false, List, [], ◌∷◌, ◌++◌, None, Result, Ok, Err}
-use Rattle.mqtt5_base.specs.declared.error.Error.{Error}
+use Rattle.std.specs.Prelude.{true, false, List, [], ◌∷◌, None}
 use Rattle.mqtt5_base.specs.Grammar.{u8, number, Entry, single, several_of, Test, any_of, bad_reason, bad_type, malformed, plain, properties, one, checked, block, given, read, whole, bits, always, longer, field, raw, note, judge, Row, there, bit_of, is, steps_row}
-
--- What a function that takes no memory answered, seen by view, is what reading gives.
-abbrev pub Finds : {X Y : Type 0} → (X → Y) → Result X Error → Result Y Error → Type 0
-Finds view (Ok x) r = r ≡ Ok (view x)
-Finds view (Err e) r = r ≡ Err e
 
 -- ---- ConnAck (3.2)
 
--- the properties of a ConnAck in three parts, which together are in the order of writing (3.2.2.3): the first
-abbrev pub connack_first_table : List Entry
-connack_first_table = single 17 ∷ single 33 ∷ single 36 ∷ single 37 ∷ single 39 ∷ single 18 ∷ []
-
--- the second part of them
-abbrev pub connack_second_table : List Entry
-connack_second_table = single 34 ∷ single 31 ∷ several_of 38 ∷ single 40 ∷ single 41 ∷ single 42 ∷ []
-
--- the third part
-abbrev pub connack_third_table : List Entry
-connack_third_table = single 19 ∷ single 26 ∷ single 28 ∷ single 21 ∷ single 22 ∷ []
-
--- all properties of a ConnAck
+-- the properties of a ConnAck, in the order of writing (3.2.2.3)
 abbrev pub connack_table : List Entry
-connack_table = connack_first_table ++ (connack_second_table ++ connack_third_table)
+connack_table =
+    single 17 ∷ single 33 ∷ single 36 ∷ single 37 ∷ single 39 ∷ single 18 ∷ single 34 ∷ single 31 ∷ several_of 38 ∷ single 40 ∷ single 41 ∷ single 42
+    ∷ single 19 ∷ single 26 ∷ single 28 ∷ single 21 ∷ single 22 ∷ []
 
 -- the reason codes of a ConnAck (3.2.2.2)
-abbrev pub connack_numbers : List ℕ
-connack_numbers =
-    0 ∷ 128 ∷ 129 ∷ 130 ∷ 131 ∷ 132 ∷ 133 ∷ 134 ∷ 135 ∷ 136 ∷ 137 ∷ 138 ∷ 140 ∷ 144 ∷ 149 ∷ 151 ∷ 153 ∷ 154 ∷ 155 ∷ 156 ∷ 157 ∷ 159 ∷ []
-
--- a code is one of these
 abbrev pub connack_codes : Test
-connack_codes = any_of connack_numbers
+connack_codes = any_of (0 ∷ 128 ∷ 129 ∷ 130 ∷ 131 ∷ 132 ∷ 133 ∷ 134 ∷ 135 ∷ 136 ∷ 137 ∷ 138 ∷ 140 ∷ 144 ∷ 149 ∷ 151 ∷ 153 ∷ 154 ∷ 155 ∷ 156 ∷ 157 ∷ 159 ∷ [])
 
 -- the flags, of which the session present flag is kept (3.2.2.1.1), the reason code and the properties; the reason code
 -- is judged last
@@ -47,13 +26,8 @@ abbrev pub disconnect_table : List Entry
 disconnect_table = single 17 ∷ single 31 ∷ several_of 38 ∷ single 28 ∷ []
 
 -- the reason codes of a Disconnect (3.14.2.1)
-abbrev pub disconnect_numbers : List ℕ
-disconnect_numbers =
-    0 ∷ 4 ∷ 128 ∷ 129 ∷ 130 ∷ 131 ∷ 135 ∷ 137 ∷ 139 ∷ 141 ∷ 142 ∷ 143 ∷ 144 ∷ 147 ∷ 148 ∷ 149 ∷ 150 ∷ 151 ∷ 152 ∷ 153 ∷ 154 ∷ 155 ∷ 156 ∷ 157 ∷ 158 ∷ 159 ∷ 160 ∷ 161 ∷ 162 ∷ []
-
--- a code is one of these
 abbrev pub disconnect_codes : Test
-disconnect_codes = any_of disconnect_numbers
+disconnect_codes = any_of (0 ∷ 4 ∷ 128 ∷ 129 ∷ 130 ∷ 131 ∷ 135 ∷ 137 ∷ 139 ∷ 141 ∷ 142 ∷ 143 ∷ 144 ∷ 147 ∷ 148 ∷ 149 ∷ 150 ∷ 151 ∷ 152 ∷ 153 ∷ 154 ∷ 155 ∷ 156 ∷ 157 ∷ 158 ∷ 159 ∷ 160 ∷ 161 ∷ 162 ∷ [])
 
 -- the type and the flags, which are 0 (3.14.1); an empty body is a normal disconnection; the reason code; a body of one
 -- byte ends there; the properties
@@ -77,12 +51,8 @@ abbrev pub auth_table : List Entry
 auth_table = single 21 ∷ single 22 ∷ single 31 ∷ several_of 38 ∷ []
 
 -- the reason codes of an Auth (3.15.2.1)
-abbrev pub auth_numbers : List ℕ
-auth_numbers = 0 ∷ 24 ∷ 25 ∷ []
-
--- a code is one of these
 abbrev pub auth_codes : Test
-auth_codes = any_of auth_numbers
+auth_codes = any_of (0 ∷ 24 ∷ 25 ∷ [])
 
 -- an empty body is success; the reason code and the properties (3.15.2.1)
 abbrev pub auth_row : Row

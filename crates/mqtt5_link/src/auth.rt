@@ -2,7 +2,7 @@
 
 ghost use Rattle.std.specs.Prelude.{◌≡◌, ◌+◌, ◌≤◌, true, Some, None, drop, length, min, nat_lt, option_map};
 ghost use Rattle.mqtt5_base.specs.Grammar.{u8, number, plain, checked, malformed};
-ghost use Rattle.mqtt5_base.specs.Answers.{Gives};
+ghost use Rattle.mqtt5_base.specs.Answers.{Finds, Gives, ReadsRow};
 ghost use Rattle.mqtt5_base.specs.Reading.{judged, optional_at, values_in};
 ghost use Rattle.mqtt5_base.specs.Puts.{Puts, Writes};
 ghost use Rattle.mqtt5_base.specs.Layout.{block_fits, body_bytes, layout, writing, content_of_packet};
@@ -26,7 +26,8 @@ pub enum AuthReasonCode {
 }
 
 impl AuthReasonCode {
-    fn code(&self) -> u8
+    /// Its code. Takes no memory.
+    pub fn code(&self) -> u8
         ensures { result ≡ auth_code self.now }
     {
         match self {
@@ -120,7 +121,7 @@ pub struct Auth {
 
 /// The reason code of a number; E16 of another.
 fn reason(num: u8) -> Result<AuthReasonCode, Error>
-    ensures { Gives (λ r. number (auth_code r)) result (judged auth_codes malformed (number num)) }
+    ensures { Finds (λ r. number (auth_code r)) result (judged auth_codes malformed (number num)) }
 {
     Ok(match num {
         0 => AuthReasonCode::Success,
@@ -148,9 +149,8 @@ impl Auth {
         Auth { code, properties }
     }
 
-    /// The Auth of a frame's bytes, of which the header is. E16 of a reason code that an Auth doesn't
-    /// have, E14 to E18 of a field that can't be read; E21.
-    pub fn read(alloc: Global, header: FixedHeader, bytes: Bytes) -> Result<Auth, Error>
+    /// What the row gives of a frame's bytes.
+    fn read_values(alloc: Global, header: FixedHeader, bytes: Bytes) -> Result<Auth, Error>
         requires { length bytes ≡ header.fixed_header_len + header.remaining_len }
         ensures { Gives (λ a. content_of_packet (auth_packet a)) result (values_in auth_row header.byte1 header.remaining_len (drop header.fixed_header_len bytes)) }
     {
@@ -159,6 +159,16 @@ impl Auth {
         let code = read_reason(header.remaining_len, &mut stream)?;
         let properties = read_block_if(alloc, header.remaining_len > 0, &mut stream)?;
         Ok(Auth { code, properties })
+    }
+
+    /// The Auth of a frame's bytes, of which the header is. E16 of a reason code that an Auth doesn't
+    /// have, E14 to E18 of a field that can't be read; E21.
+    #[tactic(auto, using(mqtt5_base::proofs::AnswersLemmas::row_said))]
+    pub fn read(alloc: Global, header: FixedHeader, bytes: Bytes) -> Result<Auth, Error>
+        requires { length bytes ≡ header.fixed_header_len + header.remaining_len }
+        ensures { ReadsRow (λ a. content_of_packet (auth_packet a)) auth_row header bytes result }
+    {
+        Auth::read_values(alloc, header, bytes)
     }
 
     fn body_len(&self) -> usize
@@ -179,7 +189,7 @@ impl Auth {
     /// Appends the Auth and answers its length. E11 where a text or bytes are over 65,535 bytes, or the
     /// properties or the body over 268,435,455; E21. The buffer is then unchanged.
     pub fn write(&self, buffer: &mut BytesMut) -> Result<usize, Error>
-        ensures { Writes (writing auth_row (auth_packet self.now)) result buffer.old.items buffer.new.items }
+        ensures { Writes length (writing auth_row (auth_packet self.now)) result buffer.old.items buffer.new.items }
     {
         if !block_fits(&self.properties) {
             return Err(Error::PayloadTooLong);

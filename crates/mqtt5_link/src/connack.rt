@@ -2,13 +2,14 @@
 
 ghost use Rattle.std.specs.Prelude.{◌≡◌, ◌+◌, ◌≤◌, true, Some, None, drop, length, min, option_map};
 ghost use Rattle.mqtt5_base.specs.Grammar.{number, bad_reason};
-ghost use Rattle.mqtt5_base.specs.Answers.{Gives};
+ghost use Rattle.mqtt5_base.specs.Answers.{Finds, Gives, ReadsRow};
 ghost use Rattle.mqtt5_base.specs.Reading.{judged, values_in};
 ghost use Rattle.mqtt5_base.specs.Sets.{IsSetOf};
 ghost use Rattle.mqtt5_base.specs.Puts.{Puts, Writes};
 ghost use Rattle.mqtt5_base.specs.Layout.{items_fit, items_bytes, block_fits, body_bytes, layout, writing, content_of_packet};
-ghost use Rattle.mqtt5_link.specs.Rows.{Finds, connack_first_table, connack_second_table, connack_third_table, connack_table, connack_codes, connack_row};
-ghost use Rattle.mqtt5_link.specs.ConnAcks.{connack_code, connack_first, connack_second, connack_third, connack_found, connack_packet};
+ghost use Rattle.mqtt5_link.specs.Rows.{connack_table, connack_codes, connack_row};
+ghost use Rattle.mqtt5_link.specs.ConnAcks.{connack_code, connack_found, connack_packet};
+ghost use Rattle.mqtt5_link.specs.Thirds.{connack_first_table, connack_second_table, connack_third_table, connack_first, connack_second, connack_third};
 
 use bytes::{Bytes, BytesMut};
 use mqtt5_base::{
@@ -50,7 +51,8 @@ pub enum ConnectReturnCode {
 }
 
 impl ConnectReturnCode {
-    fn code(self) -> u8
+    /// Its number. Takes no memory.
+    pub fn code(self) -> u8
         ensures { result ≡ connack_code self }
     {
         match self {
@@ -86,10 +88,11 @@ impl ConnectReturnCode {
     fn judge(self) -> Result<(), Error>
         ensures { Finds (λ _. number (connack_code self)) result (judged connack_codes bad_reason (number (connack_code self))) }
     {
+        let code = self.code();
         match self {
-            ConnectReturnCode::RefusedProtocolVersion => Err(Error::InvalidConnectReturnCode(1)),
-            ConnectReturnCode::BadClientId => Err(Error::InvalidConnectReturnCode(2)),
-            ConnectReturnCode::ServiceUnavailable => Err(Error::InvalidConnectReturnCode(3)),
+            ConnectReturnCode::RefusedProtocolVersion
+            | ConnectReturnCode::BadClientId
+            | ConnectReturnCode::ServiceUnavailable => Err(Error::InvalidConnectReturnCode(code)),
             _ => Ok(()),
         }
     }
@@ -400,7 +403,7 @@ pub struct ConnAck {
 
 /// The code of a number; E1 of another.
 fn reason(num: u8) -> Result<ConnectReturnCode, Error>
-    ensures { Gives (λ r. number (connack_code r)) result (judged connack_codes bad_reason (number num)) }
+    ensures { Finds (λ r. number (connack_code r)) result (judged connack_codes bad_reason (number num)) }
 {
     Ok(match num {
         0 => ConnectReturnCode::Success,
@@ -430,10 +433,9 @@ fn reason(num: u8) -> Result<ConnectReturnCode, Error>
 }
 
 impl ConnAck {
-    /// The ConnAck of a frame's bytes, of which the header is. E14 to E18 of a field that can't be read,
-    /// then E1 with a reason code that a ConnAck doesn't have; E21.
+    /// What the row gives of a frame's bytes.
     #[tactic(auto, using(mqtt5_base::proofs::Bits::bit_of_mod))]
-    pub fn read(alloc: Global, header: FixedHeader, bytes: Bytes) -> Result<ConnAck, Error>
+    fn read_values(alloc: Global, header: FixedHeader, bytes: Bytes) -> Result<ConnAck, Error>
         requires { length bytes ≡ header.fixed_header_len + header.remaining_len }
         ensures { Gives (λ a. content_of_packet (connack_packet a)) result (values_in connack_row header.byte1 header.remaining_len (drop header.fixed_header_len bytes)) }
     {
@@ -448,6 +450,16 @@ impl ConnAck {
             code,
             properties,
         })
+    }
+
+    /// The ConnAck of a frame's bytes, of which the header is. E14 to E18 of a field that can't be read,
+    /// then E1 with a reason code that a ConnAck doesn't have; E21.
+    #[tactic(auto, using(mqtt5_base::proofs::AnswersLemmas::row_said))]
+    pub fn read(alloc: Global, header: FixedHeader, bytes: Bytes) -> Result<ConnAck, Error>
+        requires { length bytes ≡ header.fixed_header_len + header.remaining_len }
+        ensures { ReadsRow (λ a. content_of_packet (connack_packet a)) connack_row header bytes result }
+    {
+        ConnAck::read_values(alloc, header, bytes)
     }
 
     fn body_len(&self) -> usize
@@ -471,7 +483,7 @@ impl ConnAck {
     /// the properties or the body over 268,435,455; else E1 with the number of a code of an earlier
     /// version; E21. The buffer is then unchanged.
     pub fn write(&self, buffer: &mut BytesMut) -> Result<usize, Error>
-        ensures { Writes (writing connack_row (connack_packet self.now)) result buffer.old.items buffer.new.items }
+        ensures { Writes length (writing connack_row (connack_packet self.now)) result buffer.old.items buffer.new.items }
     {
         if !block_fits(&self.properties) {
             return Err(Error::PayloadTooLong);

@@ -2,11 +2,11 @@
 
 ghost use Rattle.std.specs.Prelude.{◌≡◌, ◌+◌, ◌/◌, ◌%◌, ◌≤◌, true, Some, None, OnErr, drop, length, min, nat_lt, option_map};
 ghost use Rattle.mqtt5_base.specs.Grammar.{u8, number, plain, properties, checked, block, is, bad_reason, bad_type, malformed};
-ghost use Rattle.mqtt5_base.specs.Answers.{Gives};
+ghost use Rattle.mqtt5_base.specs.Answers.{Finds, Gives, ReadsRow};
 ghost use Rattle.mqtt5_base.specs.Reading.{judged, optional_at, block_at, values_in};
 ghost use Rattle.mqtt5_base.specs.Puts.{Puts, Writes};
 ghost use Rattle.mqtt5_base.specs.Layout.{block_fits, body_bytes, layout, writing, content_of_packet};
-ghost use Rattle.mqtt5_link.specs.Rows.{Finds, disconnect_table, disconnect_codes, disconnect_row};
+ghost use Rattle.mqtt5_link.specs.Rows.{disconnect_table, disconnect_codes, disconnect_row};
 ghost use Rattle.mqtt5_link.specs.DisconnectBody.{disconnect_is_bare};
 ghost use Rattle.mqtt5_link.specs.Disconnects.{disconnect_code, disconnect_found, disconnect_packet};
 
@@ -18,39 +18,38 @@ use mqtt5_base::{
 };
 use std::alloc::{AllocError, Global};
 
-/// Why a connection ends: codes 0, 4, 128 to 131, 135, 137, 139, 141 to 144 and 147 to 162, in this order
-/// (MQTT 5.0 section 3.14.2.1).
+/// Why a connection ends, each reason with its code (MQTT 5.0 section 3.14.2.1).
 #[derive(Debug, Clone, Copy, PartialEq, Eq)]
 pub enum DisconnectReasonCode {
-    NormalDisconnection,
-    DisconnectWithWillMessage,
-    UnspecifiedError,
-    MalformedPacket,
-    ProtocolError,
-    ImplementationSpecificError,
-    NotAuthorized,
-    ServerBusy,
-    ServerShuttingDown,
-    KeepAliveTimeout,
-    SessionTakenOver,
-    TopicFilterInvalid,
-    TopicNameInvalid,
-    ReceiveMaximumExceeded,
-    TopicAliasInvalid,
-    PacketTooLarge,
-    MessageRateTooHigh,
-    QuotaExceeded,
-    AdministrativeAction,
-    PayloadFormatInvalid,
-    RetainNotSupported,
-    QoSNotSupported,
-    UseAnotherServer,
-    ServerMoved,
-    SharedSubscriptionNotSupported,
-    ConnectionRateExceeded,
-    MaximumConnectTime,
-    SubscriptionIdentifiersNotSupported,
-    WildcardSubscriptionsNotSupported,
+    NormalDisconnection = 0,
+    DisconnectWithWillMessage = 4,
+    UnspecifiedError = 128,
+    MalformedPacket = 129,
+    ProtocolError = 130,
+    ImplementationSpecificError = 131,
+    NotAuthorized = 135,
+    ServerBusy = 137,
+    ServerShuttingDown = 139,
+    KeepAliveTimeout = 141,
+    SessionTakenOver = 142,
+    TopicFilterInvalid = 143,
+    TopicNameInvalid = 144,
+    ReceiveMaximumExceeded = 147,
+    TopicAliasInvalid = 148,
+    PacketTooLarge = 149,
+    MessageRateTooHigh = 150,
+    QuotaExceeded = 151,
+    AdministrativeAction = 152,
+    PayloadFormatInvalid = 153,
+    RetainNotSupported = 154,
+    QoSNotSupported = 155,
+    UseAnotherServer = 156,
+    ServerMoved = 157,
+    SharedSubscriptionNotSupported = 158,
+    ConnectionRateExceeded = 159,
+    MaximumConnectTime = 160,
+    SubscriptionIdentifiersNotSupported = 161,
+    WildcardSubscriptionsNotSupported = 162,
 }
 
 /// The reason of a code; E1 with a number that is no reason's. Takes no memory.
@@ -96,40 +95,11 @@ impl TryFrom<u8> for DisconnectReasonCode {
 }
 
 impl DisconnectReasonCode {
-    fn code(self) -> u8
+    /// Its code. Takes no memory.
+    pub fn code(self) -> u8
         ensures { result ≡ disconnect_code self }
     {
-        match self {
-            DisconnectReasonCode::NormalDisconnection => 0,
-            DisconnectReasonCode::DisconnectWithWillMessage => 4,
-            DisconnectReasonCode::UnspecifiedError => 128,
-            DisconnectReasonCode::MalformedPacket => 129,
-            DisconnectReasonCode::ProtocolError => 130,
-            DisconnectReasonCode::ImplementationSpecificError => 131,
-            DisconnectReasonCode::NotAuthorized => 135,
-            DisconnectReasonCode::ServerBusy => 137,
-            DisconnectReasonCode::ServerShuttingDown => 139,
-            DisconnectReasonCode::KeepAliveTimeout => 141,
-            DisconnectReasonCode::SessionTakenOver => 142,
-            DisconnectReasonCode::TopicFilterInvalid => 143,
-            DisconnectReasonCode::TopicNameInvalid => 144,
-            DisconnectReasonCode::ReceiveMaximumExceeded => 147,
-            DisconnectReasonCode::TopicAliasInvalid => 148,
-            DisconnectReasonCode::PacketTooLarge => 149,
-            DisconnectReasonCode::MessageRateTooHigh => 150,
-            DisconnectReasonCode::QuotaExceeded => 151,
-            DisconnectReasonCode::AdministrativeAction => 152,
-            DisconnectReasonCode::PayloadFormatInvalid => 153,
-            DisconnectReasonCode::RetainNotSupported => 154,
-            DisconnectReasonCode::QoSNotSupported => 155,
-            DisconnectReasonCode::UseAnotherServer => 156,
-            DisconnectReasonCode::ServerMoved => 157,
-            DisconnectReasonCode::SharedSubscriptionNotSupported => 158,
-            DisconnectReasonCode::ConnectionRateExceeded => 159,
-            DisconnectReasonCode::MaximumConnectTime => 160,
-            DisconnectReasonCode::SubscriptionIdentifiersNotSupported => 161,
-            DisconnectReasonCode::WildcardSubscriptionsNotSupported => 162,
-        }
+        self as u8
     }
 }
 
@@ -267,10 +237,8 @@ impl Disconnect {
         }
     }
 
-    /// The Disconnect of a frame's bytes, of which the header is. E5 with the header's type where that
-    /// isn't 14, E16 of flags that aren't 0, E1 with a reason code that a Disconnect doesn't have, E14 to
-    /// E18 of a field that can't be read; E21.
-    pub fn read(alloc: Global, header: FixedHeader, bytes: Bytes) -> Result<Disconnect, Error>
+    /// What the row gives of a frame's bytes.
+    fn read_values(alloc: Global, header: FixedHeader, bytes: Bytes) -> Result<Disconnect, Error>
         requires { length bytes ≡ header.fixed_header_len + header.remaining_len }
         ensures { Gives (λ d. content_of_packet (disconnect_packet d)) result (values_in disconnect_row header.byte1 header.remaining_len (drop header.fixed_header_len bytes)) }
     {
@@ -284,6 +252,17 @@ impl Disconnect {
             reason_code,
             properties,
         })
+    }
+
+    /// The Disconnect of a frame's bytes, of which the header is. E5 with the header's type where that
+    /// isn't 14, E16 of flags that aren't 0, E1 with a reason code that a Disconnect doesn't have, E14 to
+    /// E18 of a field that can't be read; E21.
+    #[tactic(auto, using(mqtt5_base::proofs::AnswersLemmas::row_said))]
+    pub fn read(alloc: Global, header: FixedHeader, bytes: Bytes) -> Result<Disconnect, Error>
+        requires { length bytes ≡ header.fixed_header_len + header.remaining_len }
+        ensures { ReadsRow (λ d. content_of_packet (disconnect_packet d)) disconnect_row header bytes result }
+    {
+        Disconnect::read_values(alloc, header, bytes)
     }
 
     /// Whether it is written without a body.
@@ -318,7 +297,7 @@ impl Disconnect {
     /// is 2. E11 where a text is over 65,535 bytes, or the properties or the body over 268,435,455; E21.
     /// The buffer is then unchanged.
     pub fn write(&self, buffer: &mut BytesMut) -> Result<usize, Error>
-        ensures { Writes (writing disconnect_row (disconnect_packet self.now)) result buffer.old.items buffer.new.items }
+        ensures { Writes length (writing disconnect_row (disconnect_packet self.now)) result buffer.old.items buffer.new.items }
     {
         if !block_fits(&self.properties) {
             return Err(Error::PayloadTooLong);

@@ -204,6 +204,18 @@ fn reasons_of_disconnects(rt: HostRuntime) -> Result<(), Fail> {
     Ok(())
 }
 
+#[test]
+fn codes(rt: HostRuntime) -> Result<(), Fail> {
+    assert_eq!(rt; DisconnectReasonCode::ProtocolError.code(), 130);
+    assert_eq!(rt;
+        DisconnectReasonCode::WildcardSubscriptionsNotSupported.code(),
+        162
+    );
+    assert_eq!(rt; ConnectReturnCode::NotAuthorized.code(), 135);
+    assert_eq!(rt; AuthReasonCode::Continue.code(), 24);
+    Ok(())
+}
+
 fn extracts_each(alloc: Global) -> Result<bool, Error> {
     let mut block = Bytes::copy_from_slice(alloc, DISCONNECT)?;
     block.advance(3);

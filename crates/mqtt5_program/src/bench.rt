@@ -157,7 +157,7 @@ fn connect(alloc: Global) -> Result<Connect, Error> {
 }
 
 fn connect_with_will(alloc: Global) -> Result<Packet, Error> {
-    let message = Bytes::copy_from_slice(alloc, b"m")?;
+    let message = Vec::from_slice(alloc, b"m")?;
     let will = LastWill::new(alloc, "w", message, QoS::AtLeastOnce, true, None)?;
     let login = Login::new(alloc, "u", "p")?;
     Ok(Packet::Connect(connect(alloc)?, Some(will), Some(login)))

@@ -134,8 +134,8 @@ fn fault_number(fault: &StateError) -> u8 {
         StateError::Deserialization(_) => 7,
         StateError::InvalidAlias { .. } => 8,
         StateError::OutgoingPacketTooLarge { .. } => 9,
-        StateError::ServerDisconnect => 10,
-        StateError::ConnFail => 11,
+        StateError::ServerDisconnect { .. } => 10,
+        StateError::ConnFail { .. } => 11,
         StateError::OutOfMemory => 12,
         StateError::Io
         | StateError::Coversion

@@ -1,15 +1,18 @@
 //! A script of steps, one on each line.
 
-ghost use Rattle.std.specs.Prelude.{◌≡◌, ◌↔◌};
+ghost use Rattle.std.specs.Prelude.{◌≡◌, ◌↔◌, Some, codes};
 ghost use Rattle.hex.specs.declared.error.FromHexError.TheVariants as hex_errors;
+ghost use Rattle.mqtt5_base.specs.declared.error.Error.TheVariants as base_errors;
+ghost use Rattle.mqtt5_session.specs.declared.event.Request.TheVariants as requests;
 ghost use Rattle.mqtt5_program.specs.declared.script.ScriptError.TheVariants as script_errors;
 ghost use Rattle.mqtt5_program.specs.declared.script.LineError.TheVariants as line_errors;
 
 use bytes::Bytes;
 use hex::FromHexError;
 use mqtt5::{Input, Request, Step};
-use mqtt5_base::{Error, qos};
-use mqtt5_flow::Publish;
+use mqtt5_base::{Error, QoS, qos};
+use mqtt5_flow::{PubAck, PubRec, PubRel, Publish};
+use mqtt5_subs::{Filter, Subscribe, Unsubscribe};
 use std::alloc::{AllocError, AllocFailed, Global};
 use std::io::{ErrorKind, Read};
 
@@ -61,6 +64,17 @@ impl From<FromHexError> for LineError {
     }
 }
 
+impl From<Error> for LineError {
+    ghost from_gives = { λ b e. (e ≡ line_errors.OutOfMemory) ↔ (b ≡ base_errors.OutOfMemory) };
+
+    fn from(error: Error) -> LineError {
+        match error {
+            Error::OutOfMemory => LineError::OutOfMemory,
+            _other => LineError::Bad,
+        }
+    }
+}
+
 /// Reads a script and takes its lines apart; empty lines count, and have no step.
 pub fn read_script<R: Read>(alloc: Global, input: &mut R) -> Result<Vec<Step>, ScriptError> {
     let bytes = read_bytes(alloc, input)?;
@@ -92,34 +106,93 @@ fn parse_script(alloc: Global, text: &str) -> Result<Vec<Step>, ScriptError> {
     Ok(steps)
 }
 
+/// A word, a moment and the word's fields, with one space between any two.
 fn parse_line(alloc: Global, line: &str) -> Result<Step, LineError> {
     let (word, rest) = line.split_once(' ').ok_or(LineError::Bad)?;
-    let (at, rest) = rest.split_once(' ').ok_or(LineError::Bad)?;
+    let (at, fields) = match rest.split_once(' ') {
+        Some((at, fields)) => (at, Some(fields)),
+        None => (rest, None),
+    };
     let at = parse_number(at).ok_or(LineError::Bad)?;
-    let input = match word {
-        "in" => Input::Bytes(parse_bytes(alloc, rest)?),
-        "pub" => Input::Request(parse_publish(alloc, rest)?),
-        _ => return Err(LineError::Bad),
+    let input = match fields {
+        Some(fields) => parse_input(alloc, word, fields)?,
+        None => Input::Request(bare_request(word).ok_or(LineError::Bad)?),
     };
     Ok(Step { at, input })
 }
 
-/// The QOS, TOPIC and PAYLOAD of a publish.
-fn parse_publish(alloc: Global, fields: &str) -> Result<Request, LineError> {
-    let (number, fields) = fields.split_once(' ').ok_or(LineError::Bad)?;
-    let (topic, payload) = fields.split_once(' ').ok_or(LineError::Bad)?;
-    let number = parse_number(number).ok_or(LineError::Bad)?;
-    let number = u8::try_from(number).map_err(|_| LineError::Bad)?;
-    let quality = qos(number).ok_or(LineError::Bad)?;
-    let topic = parse_topic(alloc, topic)?;
-    let payload = parse_bytes(alloc, payload)?;
-    match Publish::new(alloc, topic.as_str(), quality, payload, None) {
-        Ok(publish) => Ok(Request::Publish(publish)),
-        Err(_) => Err(LineError::OutOfMemory),
+/// The request of a word without fields.
+fn bare_request(word: &str) -> Option<Request>
+    ensures ping { word.now ≡ codes "ping" → result ≡ Some requests.PingReq }
+    ensures bye { word.now ≡ codes "bye" → result ≡ Some requests.Disconnect }
+{
+    match word {
+        "ping" => Some(Request::PingReq),
+        "bye" => Some(Request::Disconnect),
+        _ => None,
     }
 }
 
-fn parse_topic(alloc: Global, field: &str) -> Result<String, LineError> {
+/// The input of a word with fields.
+fn parse_input(alloc: Global, word: &str, fields: &str) -> Result<Input, LineError> {
+    match word {
+        "in" => Ok(Input::Bytes(parse_bytes(alloc, fields)?)),
+        _ => Ok(Input::Request(parse_request(alloc, word, fields)?)),
+    }
+}
+
+fn parse_request(alloc: Global, word: &str, fields: &str) -> Result<Request, LineError> {
+    match word {
+        "pub" => parse_publish(alloc, fields),
+        "sub" => parse_subscribe(alloc, fields),
+        "unsub" => parse_unsubscribe(alloc, fields),
+        "ack" => Ok(Request::PubAck(PubAck::new(parse_id(fields)?, None))),
+        "rec" => Ok(Request::PubRec(PubRec::new(parse_id(fields)?, None))),
+        "rel" => Ok(Request::PubRel(PubRel::new(parse_id(fields)?, None))),
+        _ => Err(LineError::Bad),
+    }
+}
+
+/// The QOS, TOPIC and PAYLOAD of a publish.
+fn parse_publish(alloc: Global, fields: &str) -> Result<Request, LineError> {
+    let (quality, fields) = fields.split_once(' ').ok_or(LineError::Bad)?;
+    let (topic, payload) = fields.split_once(' ').ok_or(LineError::Bad)?;
+    let quality = parse_quality(quality)?;
+    let topic = parse_text(alloc, topic)?;
+    let payload = parse_bytes(alloc, payload)?;
+    let publish = Publish::new(alloc, topic.as_str(), quality, payload, None)?;
+    Ok(Request::Publish(publish))
+}
+
+/// The QOS and FILTER of a subscribe.
+fn parse_subscribe(alloc: Global, fields: &str) -> Result<Request, LineError> {
+    let (quality, path) = fields.split_once(' ').ok_or(LineError::Bad)?;
+    let quality = parse_quality(quality)?;
+    let path = parse_text(alloc, path)?;
+    let filter = Filter::new(alloc, path.as_str(), quality)?;
+    Ok(Request::Subscribe(Subscribe::new(alloc, filter, None)?))
+}
+
+/// The FILTER of an unsubscribe.
+fn parse_unsubscribe(alloc: Global, field: &str) -> Result<Request, LineError> {
+    let path = parse_text(alloc, field)?;
+    let unsubscribe = Unsubscribe::new(alloc, path.as_str(), None)?;
+    Ok(Request::Unsubscribe(unsubscribe))
+}
+
+fn parse_id(field: &str) -> Result<u16, LineError> {
+    let number = parse_number(field).ok_or(LineError::Bad)?;
+    u16::try_from(number).map_err(|_| LineError::Bad)
+}
+
+fn parse_quality(field: &str) -> Result<QoS, LineError> {
+    let number = parse_number(field).ok_or(LineError::Bad)?;
+    let number = u8::try_from(number).map_err(|_| LineError::Bad)?;
+    qos(number).ok_or(LineError::Bad)
+}
+
+/// UTF-8 of two digits a byte.
+fn parse_text(alloc: Global, field: &str) -> Result<String, LineError> {
     String::from_utf8(parse_hex(alloc, field)?).map_err(|_| LineError::Bad)
 }
 

@@ -18,7 +18,7 @@ const VECTORS: &str = "V1 ok\nV2 ok\nV3 ok\nV4 ok\nV5 ok\nV6 ok\nV7 ok\nV8 ok\nV
 const USAGE: &str = "usage: mqtt5 drive LIMIT | mqtt5 world LIMIT | mqtt5 bench\n";
 
 /// A script, what `drive 10` prints of it, and the status.
-const SCRIPTS: [(&str, &str, u8); 34] = [
+const SCRIPTS: [(&str, &str, u8); 36] = [
     ("pub 0 1 612f62 6869\nin 1 40\nin 1 0200\nin 1 01", ACKED, 0),
     ("pub 0 1 612f62 6869\nin 1 40020001\n", ACKED, 0),
     (
@@ -36,9 +36,12 @@ const SCRIPTS: [(&str, &str, u8); 34] = [
         "out -\ninflight 0\nfault S7 E16\n",
         1,
     ),
-    ("pub 0 3 61 -\n", "line 1: bad\n", 2),
     ("", "out -\ninflight 0\n", 0),
-    ("pub 0 2 61 -\n", "out -\ninflight 0\nfault S1\n", 1),
+    (
+        "pub 0 2 61 -\n",
+        "out 3406000161000100\nsent Publish 1\ninflight 1\n",
+        0,
+    ),
     (
         "in 1 320700016100070078\n",
         "out 40020007\ngot Publish 7 61 78\nsent PubAck 7\ninflight 0\n",
@@ -56,27 +59,179 @@ const SCRIPTS: [(&str, &str, u8); 34] = [
     ),
     ("in 18446744073709551615 -\n", "out -\ninflight 0\n", 0),
     ("\n\nin 1 -\n\nin 1 4\n\npub\n", "line 5: bad\n", 2),
-    ("in 18446744073709551616 -\n", "line 1: bad\n", 2),
-    ("in +1 -\n", "line 1: bad\n", 2),
-    ("in  1 -\n", "line 1: bad\n", 2),
-    ("in 1  -\n", "line 1: bad\n", 2),
-    ("in 1 - \n", "line 1: bad\n", 2),
-    ("in\t1 -\n", "line 1: bad\n", 2),
-    ("in 1 -\r\n", "line 1: bad\n", 2),
-    ("in 1 -40\n", "line 1: bad\n", 2),
-    ("in 1 40-\n", "line 1: bad\n", 2),
-    ("in 1 4g\n", "line 1: bad\n", 2),
-    ("in 1 \n", "line 1: bad\n", 2),
-    ("in  -\n", "line 1: bad\n", 2),
-    ("in 1\n", "line 1: bad\n", 2),
-    ("in\n", "line 1: bad\n", 2),
-    (" \n", "line 1: bad\n", 2),
-    ("In 1 -\n", "line 1: bad\n", 2),
-    ("ping 1\n", "line 1: bad\n", 2),
-    ("pub 0 256 61 -\n", "line 1: bad\n", 2),
-    ("pub 0 1 61\n", "line 1: bad\n", 2),
-    ("pub 0 1 ff -\n", "line 1: bad\n", 2),
-    ("pub 0 1 61 - -\n", "line 1: bad\n", 2),
+    ("ping 1\n", "out c000\nsent PingReq\ninflight 0\n", 0),
+    ("ack 0 7\n", "out 40020007\nsent PubAck 7\ninflight 0\n", 0),
+    (
+        "ack 00 065535\n",
+        "out 4002ffff\nsent PubAck 65535\ninflight 0\n",
+        0,
+    ),
+    ("rec 0 8\n", "out 50020008\nsent PubRec 8\ninflight 0\n", 0),
+    ("rel 0 1\n", "out 62020001\nsent PubRel 1\ninflight 1\n", 0),
+    ("rel 0 11\n", "out -\ninflight 0\nfault S2 11\n", 1),
+    (
+        "pub 0 2 61 -\nrel 0 1\n",
+        "out 3406000161000100\nsent Publish 1\ninflight 1\nfault S1\n",
+        1,
+    ),
+    (
+        "sub 0 2 612F62\n",
+        "out 82090001000003612f6202\nsent Subscribe 1\ninflight 0\n",
+        0,
+    ),
+    (
+        "sub 0 1 612f62\nunsub 0 612f62\nping 0\nbye 0\n",
+        "out 82090001000003612f6201a2080002000003612f62c000e000\nsent Subscribe 1\nsent Unsubscribe 2\nsent PingReq\nsent Disconnect\ninflight 0\n",
+        0,
+    ),
+    (
+        "in 1 30080001610323000178\nin 2 300700000323000179\nin 3 32090000000503230002\nin 4 7a\n",
+        "out e0028200\ngot Publish 0 61 78\ngot Publish 0 61 79\ngot Publish 5 - 7a\nsent Disconnect\ninflight 0\n",
+        0,
+    ),
+    (
+        "in 1 340700016100070078\nin 2 62020007\nin 3 62020007\n",
+        "out 5002000770020007\ngot Publish 7 61 78\nsent PubRec 7\ngot PubRel 7\nsent PubComp 7\ngot PubRel 7\ninflight 0\nfault S2 7\n",
+        1,
+    ),
+    (
+        "in 1 50020007\n",
+        "out -\ngot PubRec 7\ninflight 0\nfault S2 7\n",
+        1,
+    ),
+    (
+        "in 1 70020007\n",
+        "out -\ngot PubComp 7\ninflight 0\nfault S2 7\n",
+        1,
+    ),
+    (
+        "in 1 900400020001b00400030000\n",
+        "out -\ngot SubAck 2\ngot UnsubAck 3\ninflight 0\n",
+        0,
+    ),
+    (
+        "ping 0\nin 1 d000\nping 2\n",
+        "out c000c000\nsent PingReq\ngot PingResp\nsent PingReq\ninflight 0\n",
+        0,
+    ),
+    (
+        "ping 0\nping 0\n",
+        "out c000\nsent PingReq\ninflight 0\nfault S3\n",
+        1,
+    ),
+    (
+        "in 0 2006000003210002\npub 0 1 61 -\npub 0 1 61 -\npub 0 1 61 -\n",
+        "out 32060001610001003206000161000200\ngot ConnAck\nsent Publish 1\nsent Publish 2\nsent AwaitAck 1\ninflight 2\n",
+        0,
+    ),
+    (
+        "in 0 2003008500\n",
+        "out -\ngot ConnAck\ninflight 0\nfault S11\n",
+        1,
+    ),
+    (
+        "in 0 e0028200\n",
+        "out -\ngot Disconnect\ninflight 0\nfault S10\n",
+        1,
+    ),
+    (
+        "in 0 f0021800\n",
+        "out -\ngot Auth\ninflight 0\nfault S4\n",
+        1,
+    ),
+    (
+        "in 0 100e00044d5154540502003c00000163\n",
+        "out -\ngot Connect\ninflight 0\nfault S4\n",
+        1,
+    ),
+    (
+        "in 0 c000\n",
+        "out -\ngot PingReq\ninflight 0\nfault S4\n",
+        1,
+    ),
+    (
+        "in 0 82090002000003612f6201\n",
+        "out -\ngot Subscribe 2\ninflight 0\nfault S4\n",
+        1,
+    ),
+    (
+        "in 0 a2080003000003612f62\n",
+        "out -\ngot Unsubscribe 3\ninflight 0\nfault S4\n",
+        1,
+    ),
+];
+
+/// A script, what `drive 1` prints of it, and the status.
+const SCRIPTS_OF_ONE: [(&str, &str, u8); 3] = [
+    (
+        "pub 0 2 61 78\npub 0 2 62 79\nin 1 50020001\nin 2 70020001\n",
+        "out 34070001610001007862020001340700016200010079\nsent Publish 1\nsent AwaitAck 1\ngot PubRec 1\nsent PubRel 1\ngot PubComp 1\nsent Publish 1\ninflight 1\n",
+        0,
+    ),
+    (
+        "pub 0 1 61 -\npub 0 1 61 -\npub 0 1 61 -\n",
+        "out 3206000161000100\nsent Publish 1\nsent AwaitAck 1\ninflight 1\nfault S1\n",
+        1,
+    ),
+    (
+        "pub 0 1 61 -\npub 0 1 61 -\nping 0\nping 0\n",
+        "out 3206000161000100c000\nsent Publish 1\nsent AwaitAck 1\nsent PingReq\ninflight 1\nfault S5\n",
+        1,
+    ),
+];
+
+/// Lines that say nothing.
+const BAD_LINES: [&str; 50] = [
+    "pub 0 3 61 -",
+    "in 18446744073709551616 -",
+    "in +1 -",
+    "in  1 -",
+    "in 1  -",
+    "in 1 - ",
+    "in\t1 -",
+    "in 1 -\r",
+    "in 1 -40",
+    "in 1 40-",
+    "in 1 4g",
+    "in 1 ",
+    "in  -",
+    "in 1",
+    "in",
+    " ",
+    "In 1 -",
+    "pub 0 256 61 -",
+    "pub 0 1 61",
+    "pub 0 1 ff -",
+    "pub 0 1 61 - -",
+    "ping",
+    "ping ",
+    "ping 0 ",
+    "ping  0",
+    "ping +1",
+    "ping 18446744073709551616",
+    "Ping 0",
+    "hop 0",
+    "hop 0 1",
+    "bye 0 1",
+    "ack 0 65536",
+    "ack 0",
+    "ack 0 ",
+    "ack 0 +7",
+    "ack 0 -",
+    "rec 0",
+    "rec 0 7 ",
+    "rel 0",
+    "rel 0 1 2",
+    "sub 0 3 61",
+    "sub 0 1 6",
+    "sub 0 1",
+    "sub 0 1 ff",
+    "sub 0 1 61 62",
+    "sub 0 256 61",
+    "unsub 0 ff",
+    "unsub 0",
+    "unsub 0 ",
+    "unsub 0 61 62",
 ];
 
 /// Words, and what the program prints on them where each read fails.
@@ -157,6 +312,28 @@ fn scripts(rt: HostRuntime) -> Result<(), Fail> {
         let (text, status) = printed(rt.alloc(), "drive 10", &mut input)?;
         assert_eq!(rt; text.as_str(), lines, "of {script:?}");
         assert_eq!(rt; status, want, "of {script:?}");
+    }
+    Ok(())
+}
+
+#[test]
+fn scripts_of_one_id(rt: HostRuntime) -> Result<(), Fail> {
+    for (script, lines, want) in SCRIPTS_OF_ONE {
+        let mut input = script.as_bytes();
+        let (text, status) = printed(rt.alloc(), "drive 1", &mut input)?;
+        assert_eq!(rt; text.as_str(), lines, "of {script:?}");
+        assert_eq!(rt; status, want, "of {script:?}");
+    }
+    Ok(())
+}
+
+#[test]
+fn bad_lines(rt: HostRuntime) -> Result<(), Fail> {
+    for line in BAD_LINES {
+        let mut input = line.as_bytes();
+        let (text, status) = printed(rt.alloc(), "drive 10", &mut input)?;
+        assert_eq!(rt; text.as_str(), "line 1: bad\n", "of {line:?}");
+        assert_eq!(rt; status, 2, "of {line:?}");
     }
     Ok(())
 }

@@ -1,6 +1,6 @@
 -- A packet with a list that is written is read again.
 use Rattle.std.proofs.Common.{◌≡◌, ℕ, ◌/◌, ◌<◌, true, false, List, [], ◌∷◌, ◌++◌, length, map, Option, Some, None, option_map, Ok, refl, sym, ap, ◌∙◌, arith, length-append}
-use Rattle.mqtt5_base.specs.Grammar.{number, Entry, Found, Wrong, Value, plain, properties, Field, Step, several, Known, Content}
+use Rattle.mqtt5_base.specs.Grammar.{number, Entry, Found, Wrong, Value, plain, properties, Field, Step, more, several, Known, Content}
 use Rattle.mqtt5_base.specs.Fields.{repeated}
 use Rattle.mqtt5_base.specs.Frames.{Rows, row_among}
 use Rattle.mqtt5_base.specs.Reading.{frame_at}
@@ -11,7 +11,7 @@ use Rattle.mqtt5_base.proofs.BlocksAgain.{tidy_found, tidy_values}
 use Rattle.mqtt5_base.proofs.StepsAgain.{Suits, known_again}
 use Rattle.mqtt5_base.proofs.PartsAgain.{IsOwn, AreOwn, kept_again, all_again}
 use Rattle.mqtt5_base.proofs.FramesAgain.{has_body, body_of, IsReadable, content_read, written_again}
-use Rattle.mqtt5_subs.specs.Rows.{wanted, listed_row}
+use Rattle.mqtt5_subs.specs.Rows.{listed_row}
 use Rattle.mqtt5_subs.specs.Lists.{listed_packet}
 
 -- ---- items
@@ -34,6 +34,11 @@ are_kept steps written is (x ∷ xs) = λ i. (is x).kept i ∷ are_kept steps wr
 
 -- ---- the row
 
+-- an item at least, where a list without items is wrong
+abbrev pub wanted : Option Wrong → List Step
+wanted None = []
+wanted (Some w) = more w ∷ []
+
 -- whether a list may have no items changes nothing of what is known
 known_ended : (lack : Option Wrong) (w r : Known) → known_again false (wanted lack) w r [] [] ≡ r
 known_ended None w r = refl
@@ -53,13 +58,13 @@ abbrev pub listed_content : ℕ → Option Found → List (List Value) → Conte
 listed_content id p items = (plain (number id) ∷ properties p ∷ [], several items ∷ [])
 
 -- the row of a packet with a list reads it
-listed_readable : (rows : Rows) (table : List Entry) (lack : Option Wrong) (first : Field) (others : List Step) (byte id : ℕ) (p : Option Found) (ws : List Written) → row_among rows (byte / 16) ≡ Some (listed_row table lack first others)
+listed_readable : (rows : Rows) (table : List Entry) (lack : Option Wrong) (first : Field) (others : List Step) (byte id : ℕ) (p : Option Found) (ws : List Written) → row_among rows (byte / 16) ≡ Some (listed_row table (wanted lack) first others)
     → apart [] table ≡ true → id < 65536 → IsBlockOf table p → AreOwn (repeated first others) ws → all_again (repeated first others) ws ≡ all_kept ws
-    → IsReadable rows (listed_row table lack first others) (listed_packet byte id p ws) false (listed_content id (tidy_found p) (all_kept ws))
+    → IsReadable rows (listed_row table (wanted lack) first others) (listed_packet byte id p ws) false (listed_content id (tidy_found p) (all_kept ws))
 listed_readable rows table lack first others byte id p ws among once small set own kept = record {
   brief = refl;
   among = among;
-  whole = has_body (listed_row table lack first others) (body_of false (listed_row table lack first others) (listed_packet byte id p ws)) (omega arith);
+  whole = has_body (listed_row table (wanted lack) first others) (body_of false (listed_row table (wanted lack) first others) (listed_packet byte id p ws)) (omega arith);
   suits = (refl, λ _. small, (refl, λ _. (once, set), wanted_suits lack (repeated first others) ws _ _ own));
   parts = ((refl, own, ap (λ items. several items) (sym kept)), tt);
   kept = ap (λ k. k.kept) (known_ended lack _ _);
@@ -67,11 +72,11 @@ listed_readable rows table lack first others byte id p ws among once small set o
 
 -- A packet with a list that was written is read again as its values, of a tidy set.
 pub listed_again : {P A : Type 0} (found : P → Found) (written : A → Written) (rows : Rows) (table : List Entry) (lack : Option Wrong) (first : Field) (others : List Step) (byte id : ℕ) (p : Option P) (xs : List A) (bs : List ℕ)
-    → row_among rows (byte / 16) ≡ Some (listed_row table lack first others) → apart [] table ≡ true → id < 65536 → IsBlockOf table (option_map found p) → ((x : A) → IsItem (repeated first others) (written x))
-    → writing (listed_row table lack first others) (listed_packet byte id (option_map found p) (map written xs)) ≡ Ok bs → frame_at rows bs ≡ content_read (listed_content id (option_map found (tidy found p)) (all_kept (map written xs)))
+    → row_among rows (byte / 16) ≡ Some (listed_row table (wanted lack) first others) → apart [] table ≡ true → id < 65536 → IsBlockOf table (option_map found p) → ((x : A) → IsItem (repeated first others) (written x))
+    → writing (listed_row table (wanted lack) first others) (listed_packet byte id (option_map found p) (map written xs)) ≡ Ok bs → frame_at rows bs ≡ content_read (listed_content id (option_map found (tidy found p)) (all_kept (map written xs)))
 listed_again found written rows table lack first others byte id p xs bs among once small set is h =
     let steps = repeated first others in
     let ws = map written xs in
-    written_again rows (listed_row table lack first others) (listed_packet byte id (option_map found p) ws) false (listed_content id (tidy_found (option_map found p)) (all_kept ws)) bs h
+    written_again rows (listed_row table (wanted lack) first others) (listed_packet byte id (option_map found p) ws) false (listed_content id (tidy_found (option_map found p)) (all_kept ws)) bs h
     (listed_readable rows table lack first others byte id (option_map found p) ws among once small set (are_own steps written is xs) (are_kept steps written is xs))
     ∙ ap (λ (s : Option Found). content_read (listed_content id s (all_kept ws))) (tidy_values found p)

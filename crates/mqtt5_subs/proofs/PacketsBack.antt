@@ -5,7 +5,8 @@ use Rattle.mqtt5_base.specs.Texts.{Utf8}
 use Rattle.mqtt5_base.specs.Grammar.{Value}
 use Rattle.mqtt5_base.specs.Layout.{Written, content_of_packet, all_kept}
 use Rattle.mqtt5_base.proofs.ViewsBack.{qos_back, bit_back, numbers_back, pairs_back, set_back}
-use Rattle.mqtt5_flow.specs.Acks.{ack_found, ack_set}
+use Rattle.mqtt5_flow.specs.Acks.{ack_found}
+use Rattle.mqtt5_flow.specs.FromValues.{ack_set}
 use Rattle.mqtt5_flow.proofs.PacketsBack.{ack_set_back}
 use Rattle.mqtt5_subs.specs.declared.filter.RetainForwardRule.{RetainForwardRule}
 use Rattle.mqtt5_subs.specs.declared.filter.Filter.{Filter}
@@ -17,10 +18,11 @@ use Rattle.mqtt5_subs.specs.declared.unsubscribe.UnsubscribeProperties.{Unsubscr
 use Rattle.mqtt5_subs.specs.declared.unsubscribe.Unsubscribe.{Unsubscribe}
 use Rattle.mqtt5_subs.specs.declared.unsuback.UnsubAckReason.{UnsubAckReason}
 use Rattle.mqtt5_subs.specs.declared.unsuback.UnsubAck.{UnsubAck}
-use Rattle.mqtt5_subs.specs.Subscribes.{rule_number, rule_of, filter_written, filter_of, subscribe_found, subscribe_packet, subscribe_set, subscribe_of}
-use Rattle.mqtt5_subs.specs.SubAcks.{suback_code, suback_item, suback_settled, suback_packet, suback_reason, suback_reason_in, suback_of}
-use Rattle.mqtt5_subs.specs.Unsubscribes.{path_written, path_of, unsubscribe_found, unsubscribe_packet, unsubscribe_set, unsubscribe_of}
-use Rattle.mqtt5_subs.specs.UnsubAcks.{unsuback_code, unsuback_item, unsuback_packet, unsuback_reason, unsuback_reason_in, unsuback_of}
+use Rattle.mqtt5_subs.specs.Subscribes.{rule_number, filter_written, subscribe_found, subscribe_packet}
+use Rattle.mqtt5_subs.specs.FromValues.{rule_of, filter_of, subscribe_set, subscribe_of, suback_reason, suback_reason_in, suback_of, path_of, unsubscribe_set, unsubscribe_of, unsuback_reason, unsuback_reason_in, unsuback_of}
+use Rattle.mqtt5_subs.specs.SubAcks.{suback_code, suback_item, suback_settled, suback_packet}
+use Rattle.mqtt5_subs.specs.Unsubscribes.{path_written, unsubscribe_found, unsubscribe_packet}
+use Rattle.mqtt5_subs.specs.UnsubAcks.{unsuback_code, unsuback_item, unsuback_packet}
 use Rattle.mqtt5_subs.specs.Norms.{suback_norm}
 
 -- ---- lists

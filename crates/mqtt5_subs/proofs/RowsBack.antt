@@ -2,21 +2,23 @@
 use Rattle.std.proofs.Common.{◌≡◌, ℕ, ◌/◌, ◌%◌, Bool, true, false, cond, eqb, List, [], ◌∷◌, map, Option, Some, None, option_map, refl, sym, ap, ◌∙◌}
 use Rattle.mqtt5_base.specs.Grammar.{u8, u16, text, Atom, number, number_of, Entry, Found, Test, passes, is_among, Wrong, bad_subscribe_reason, no_filters, malformed, Value, plain, properties, Field, one, checked, Step, several, Known, Content, number_in}
 use Rattle.mqtt5_base.specs.Fields.{props, Fields, Kept, Repeats, repeated, IsRow}
-use Rattle.mqtt5_base.specs.Views.{found_in}
+use Rattle.mqtt5_base.specs.FromValues.{found_in}
 use Rattle.mqtt5_base.specs.Layout.{Written, content_of_packet, all_kept}
 use Rattle.mqtt5_base.proofs.SetShapes.{ComeBack, numbers_again, pairs_again, set_again}
 use Rattle.mqtt5_base.proofs.FieldShapes.{one_back, checked_back, properties_back, among_each, qos_again}
 use Rattle.mqtt5_flow.specs.Rows.{ack_table}
-use Rattle.mqtt5_flow.specs.Acks.{ack_found, ack_set}
+use Rattle.mqtt5_flow.specs.Acks.{ack_found}
+use Rattle.mqtt5_flow.specs.FromValues.{ack_set}
 use Rattle.mqtt5_base.proofs.Bits.{bit_of_mod}
 use Rattle.mqtt5_flow.proofs.RowsBack.{ack_set_again}
+use Rattle.mqtt5_subs.proofs.ListsAgain.{wanted}
 use Rattle.mqtt5_subs.specs.declared.suback.SubscribeReasonCode.{SubscribeReasonCode}
-use Rattle.mqtt5_subs.specs.Rows.{wanted, listed_row, option_steps, subscribe_table, subscribe_row, suback_codes, suback_row, unsubscribe_table, unsubscribe_row, unsuback_codes, unsuback_row}
-use Rattle.mqtt5_subs.specs.Lists.{items_in}
-use Rattle.mqtt5_subs.specs.Subscribes.{rule_number, rule_of, filter_written, filter_of, subscribe_found, subscribe_packet, subscribe_set, subscribe_of}
-use Rattle.mqtt5_subs.specs.SubAcks.{suback_code, suback_item, suback_packet, suback_reason, suback_reason_in, suback_settled, suback_of}
-use Rattle.mqtt5_subs.specs.Unsubscribes.{path_written, path_of, unsubscribe_found, unsubscribe_packet, unsubscribe_set, unsubscribe_of}
-use Rattle.mqtt5_subs.specs.UnsubAcks.{unsuback_code, unsuback_item, unsuback_packet, unsuback_reason, unsuback_reason_in, unsuback_of}
+use Rattle.mqtt5_subs.specs.Rows.{listed_row, option_steps, subscribe_table, subscribe_row, suback_codes, suback_row, unsubscribe_table, unsubscribe_row, unsuback_codes, unsuback_row}
+use Rattle.mqtt5_subs.specs.FromValues.{items_in, rule_of, filter_of, subscribe_set, subscribe_of, suback_reason, suback_reason_in, suback_of, path_of, unsubscribe_set, unsubscribe_of, unsuback_reason, unsuback_reason_in, unsuback_of}
+use Rattle.mqtt5_subs.specs.Subscribes.{rule_number, filter_written, subscribe_found, subscribe_packet}
+use Rattle.mqtt5_subs.specs.SubAcks.{suback_code, suback_item, suback_packet, suback_settled}
+use Rattle.mqtt5_subs.specs.Unsubscribes.{path_written, unsubscribe_found, unsubscribe_packet}
+use Rattle.mqtt5_subs.specs.UnsubAcks.{unsuback_code, unsuback_item, unsuback_packet}
 
 -- ---- packets with a list
 
@@ -42,7 +44,7 @@ packet_content id p all = (plain id ∷ properties p ∷ [], several all ∷ [])
 -- What the row of such a packet gives comes back, where properties and items do.
 listed_comes_back : {P A : Type 0} (table : List Entry) (lack : Option Wrong) (first : Field) (others : List Step) (found : P → Found) (set : Found → P) (written : A → Written) (made : List Value → A)
     → ((items : List (ℕ × Atom)) → ComeBack items → found (set (props table items)) ≡ props table items) → Again first others written made
-    → (byte len : ℕ) (body : List ℕ) (c : Content) (rest : List ℕ) → IsRow (listed_row table lack first others) byte len body c rest
+    → (byte len : ℕ) (body : List ℕ) (c : Content) (rest : List ℕ) → IsRow (listed_row table (wanted lack) first others) byte len body c rest
     → packet_content (number (number_in c.0 0)) (option_map found (option_map set (found_in c.0 1))) (all_kept (map written (map made (items_in c.1)))) ≡ c
 listed_comes_back table lack first others found set written made set_back again byte len body c rest h =
     let f = h.2 in

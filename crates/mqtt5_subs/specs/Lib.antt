@@ -5,6 +5,7 @@ pub mod Subscribes
 pub mod SubAcks
 pub mod Unsubscribes
 pub mod UnsubAcks
+pub mod FromValues
 pub mod Norms
 pub mod Sound
 pub mod Laws

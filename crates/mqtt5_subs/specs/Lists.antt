@@ -1,15 +1,9 @@
 -- What Subscribe, SubAck, Unsubscribe and UnsubAck share as values of their rows: an identifier, properties and a list
 -- (MQTT 5.0 sections 3.8 to 3.11).
 use Rattle.std.specs.Prelude.{ℕ, List, [], ◌∷◌, Option}
-use Rattle.mqtt5_base.specs.Grammar.{number, Found, Value, plain, properties, Group, optional, several}
+use Rattle.mqtt5_base.specs.Grammar.{number, Found, plain, properties}
 use Rattle.mqtt5_base.specs.Layout.{Written, just, WrittenPacket, listed}
 
 -- a packet of an identifier, properties and a list
 abbrev pub listed_packet : ℕ → ℕ → Option Found → List Written → WrittenPacket
 listed_packet first id p items = record { first = first; head = just (plain (number id) ∷ properties p ∷ []); groups = listed items ∷ [] }
-
--- the items of the list
-abbrev pub items_in : List Group → List (List Value)
-items_in [] = []
-items_in (optional o ∷ gs) = []
-items_in (several items ∷ gs) = items

@@ -1,19 +1,14 @@
 -- The rows of Subscribe, SubAck, Unsubscribe and UnsubAck (MQTT 5.0 sections 3.8 to 3.11).
-use Rattle.std.specs.Prelude.{false, List, [], ◌∷◌, Option, Some, None}
-use Rattle.mqtt5_base.specs.Grammar.{u8, u16, text, Entry, single, several_of, Test, any_of, Wrong, bad_rule, bad_qos, bad_subscribe_reason, no_filters, malformed, Field, one, checked, block, read, bits, always, Step, raw, note, judge, more, each, Row, there, bit_of, is_qos}
+use Rattle.std.specs.Prelude.{false, List, [], ◌∷◌}
+use Rattle.mqtt5_base.specs.Grammar.{u8, u16, text, Entry, single, several_of, Test, any_of, bad_rule, bad_qos, bad_subscribe_reason, no_filters, malformed, Field, one, checked, block, read, bits, always, Step, raw, note, judge, more, each, Row, there, bit_of, is_qos}
 use Rattle.mqtt5_flow.specs.Rows.{ack_table}
 
 -- ---- what they share
 
--- an item at least, where a list without items is wrong
-abbrev pub wanted : Option Wrong → List Step
-wanted None = []
-wanted (Some w) = more w ∷ []
-
--- the identifier, the properties, and a field and steps again and again to the end (3.8 to 3.11)
-abbrev pub listed_row : List Entry → Option Wrong → Field → List Step → Row
-listed_row table lack first others = record {
-  steps = there (one u16) ∷ there (block table) ∷ wanted lack;
+-- the identifier, the properties, whether an item is wanted, and a field and steps again and again to the end (3.8 to 3.11)
+abbrev pub listed_row : List Entry → List Step → Field → List Step → Row
+listed_row table wanted first others = record {
+  steps = there (one u16) ∷ there (block table) ∷ wanted;
   parts = each first others ∷ [];
   bare = false;
   brief = false;
@@ -44,13 +39,13 @@ option_steps =
 
 -- a Subscribe, with one filter at least (3.8.3)
 abbrev pub subscribe_row : Row
-subscribe_row = listed_row subscribe_table (Some no_filters) (one text) option_steps
+subscribe_row = listed_row subscribe_table (more no_filters ∷ []) (one text) option_steps
 
 -- ---- SubAck (3.9) and UnsubAck (3.11)
 
 -- one reason code at least, each of which is judged (3.9.3, 3.11.3)
 abbrev pub codes_row : Test → Row
-codes_row codes = listed_row ack_table (Some malformed) (checked u8 codes bad_subscribe_reason) []
+codes_row codes = listed_row ack_table (more malformed ∷ []) (checked u8 codes bad_subscribe_reason) []
 
 -- the reason codes of a SubAck (3.9.3)
 abbrev pub suback_codes : Test
@@ -76,4 +71,4 @@ unsubscribe_table = several_of 38 ∷ []
 
 -- an Unsubscribe, also without filters, where 3.10.3 asks for one
 abbrev pub unsubscribe_row : Row
-unsubscribe_row = listed_row unsubscribe_table None (one text) []
+unsubscribe_row = listed_row unsubscribe_table [] (one text) []

@@ -1,13 +1,13 @@
 -- A SubAck as the values of its row (MQTT 5.0 section 3.9).
-use Rattle.std.specs.Prelude.{ℕ, ◌==◌, List, [], ◌∷◌, map, option_map, if◌then◌else◌}
-use Rattle.mqtt5_base.specs.Grammar.{number, Value, plain, Content, number_in}
-use Rattle.mqtt5_base.specs.Views.{qos_number, qos_of, found_in}
+use Rattle.std.specs.Prelude.{ℕ, [], ◌∷◌, map, option_map}
+use Rattle.mqtt5_base.specs.Grammar.{number, plain}
+use Rattle.mqtt5_base.specs.Views.{qos_number}
 use Rattle.mqtt5_base.specs.Layout.{Written, just, WrittenPacket}
-use Rattle.mqtt5_flow.specs.Acks.{ack_found, ack_set}
+use Rattle.mqtt5_flow.specs.Acks.{ack_found}
 use Rattle.mqtt5_subs.specs.declared.suback.SubscribeReasonCode.{SubscribeReasonCode}
 use Rattle.mqtt5_subs.specs.declared.suback.SubscribeReasonCode.TheVariants as codes
 use Rattle.mqtt5_subs.specs.declared.suback.SubAck.{SubAck}
-use Rattle.mqtt5_subs.specs.Lists.{listed_packet, items_in}
+use Rattle.mqtt5_subs.specs.Lists.{listed_packet}
 
 -- each reason's code (3.9.3)
 abbrev pub suback_code : SubscribeReasonCode → ℕ
@@ -35,27 +35,3 @@ suback_packet p = listed_packet 144 p.pkid (option_map ack_found p.properties) (
 abbrev pub suback_settled : SubscribeReasonCode → SubscribeReasonCode
 suback_settled codes.Failure = codes.Unspecified
 suback_settled r = r
-
--- ---- a SubAck from its values
-
--- the reason of a code (3.9.3)
-abbrev pub suback_reason : ℕ → SubscribeReasonCode
-suback_reason n =
-    if n == 128 then codes.Unspecified
-    else if n == 131 then codes.ImplementationSpecific
-    else if n == 135 then codes.NotAuthorized
-    else if n == 143 then codes.TopicFilterInvalid
-    else if n == 145 then codes.PkidInUse
-    else if n == 151 then codes.QuotaExceeded
-    else if n == 158 then codes.SharedSubscriptionsNotSupported
-    else if n == 161 then codes.SubscriptionIdNotSupported
-    else if n == 162 then codes.WildcardSubscriptionsNotSupported
-    else codes.Success (qos_of n)
-
--- the reason of an item's values
-abbrev pub suback_reason_in : List Value → SubscribeReasonCode
-suback_reason_in vs = suback_reason (number_in vs 0)
-
--- the SubAck of the row's values
-abbrev pub suback_of : Content → SubAck
-suback_of c = record { pkid = number_in c.0 0; return_codes = map suback_reason_in (items_in c.1); properties = option_map ack_set (found_in c.0 1) }

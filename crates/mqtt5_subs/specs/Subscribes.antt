@@ -1,10 +1,9 @@
 -- A Subscribe as the values of its row (MQTT 5.0 section 3.8).
-use Rattle.std.specs.Prelude.{ℕ, ◌==◌, ◌+◌, ◌*◌, List, [], ◌∷◌, map, option_map, Result, if◌then◌else◌}
+use Rattle.std.specs.Prelude.{ℕ, ◌+◌, ◌*◌, List, [], ◌∷◌, map, option_map, Result}
 use Rattle.mqtt5_base.specs.declared.error.Error.{Error}
-use Rattle.mqtt5_base.specs.Texts.{text_of}
-use Rattle.mqtt5_base.specs.Grammar.{text, number, Found, Value, plain, one, Group, several, Part, each, Content, number_in}
+use Rattle.mqtt5_base.specs.Grammar.{text, number, Found, plain, one, Group, several, Part, each}
 use Rattle.mqtt5_base.specs.Fields.{repeated}
-use Rattle.mqtt5_base.specs.Views.{qos_number, qos_of, bit, numbers, pairs, text_atom, one_number, all_pairs, here_in, content_in, found_in}
+use Rattle.mqtt5_base.specs.Views.{qos_number, bit, numbers, pairs, text_atom}
 use Rattle.mqtt5_base.specs.Layout.{Written, WrittenPacket, all_kept, steps_writing}
 use Rattle.mqtt5_subs.specs.declared.filter.RetainForwardRule.{RetainForwardRule}
 use Rattle.mqtt5_subs.specs.declared.filter.RetainForwardRule.TheVariants.{OnEverySubscribe, OnNewSubscribe, Never}
@@ -12,7 +11,7 @@ use Rattle.mqtt5_subs.specs.declared.filter.Filter.{Filter}
 use Rattle.mqtt5_subs.specs.declared.subscribe.SubscribeProperties.{SubscribeProperties}
 use Rattle.mqtt5_subs.specs.declared.subscribe.Subscribe.{Subscribe}
 use Rattle.mqtt5_subs.specs.Rows.{option_steps}
-use Rattle.mqtt5_subs.specs.Lists.{listed_packet, items_in}
+use Rattle.mqtt5_subs.specs.Lists.{listed_packet}
 
 -- ---- a filter (3.8.3)
 
@@ -21,10 +20,6 @@ abbrev pub rule_number : RetainForwardRule → ℕ
 rule_number OnEverySubscribe = 0
 rule_number OnNewSubscribe = 1
 rule_number Never = 2
-
--- the retain handling option of a number
-abbrev pub rule_of : ℕ → RetainForwardRule
-rule_of n = if n == 1 then OnNewSubscribe else (if n == 2 then Never else OnEverySubscribe)
 
 -- the byte of the options, whose reserved bits are 0 (3.8.3.1)
 abbrev pub filter_options : Filter → ℕ
@@ -64,23 +59,3 @@ subscribe_found s = numbers s.id ∷ pairs s.user_properties ∷ []
 -- a Subscribe as it is written; the first byte has a flag that is always set (3.8.1)
 abbrev pub subscribe_packet : Subscribe → WrittenPacket
 subscribe_packet p = listed_packet 130 p.pkid (option_map subscribe_found p.properties) (map filter_written p.filters)
-
--- ---- a Subscribe from its values
-
--- the filter of an item's values
-abbrev pub filter_of : List Value → Filter
-filter_of vs = record {
-  path = text_of (content_in vs 0);
-  qos = qos_of (number_in vs 1);
-  nolocal = number_in vs 2 == 1;
-  preserve_retain = number_in vs 3 == 1;
-  retain_forward_rule = rule_of (number_in vs 4);
-}
-
--- the properties of their values
-abbrev pub subscribe_set : Found → SubscribeProperties
-subscribe_set f = record { id = one_number (here_in f 0); user_properties = all_pairs (here_in f 1) }
-
--- the Subscribe of the row's values
-abbrev pub subscribe_of : Content → Subscribe
-subscribe_of c = record { pkid = number_in c.0 0; filters = map filter_of (items_in c.1); properties = option_map subscribe_set (found_in c.0 1) }

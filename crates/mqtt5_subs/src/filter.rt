@@ -2,9 +2,9 @@
 
 ghost use Rattle.std.specs.Prelude.{◌≡◌, ◌*◌, [], OnErr, IfOk, IfErr, false};
 ghost use Rattle.mqtt5_base.specs.Grammar.{one, text, number, bad_rule};
-ghost use Rattle.mqtt5_base.specs.Answers.{Gives};
+ghost use Rattle.mqtt5_base.specs.Answers.{Finds, Gives, ReadsPart};
 ghost use Rattle.mqtt5_base.specs.Reading.{judged, part_at};
-ghost use Rattle.mqtt5_base.specs.Puts.{Appends};
+ghost use Rattle.mqtt5_base.specs.Puts.{Writes};
 ghost use Rattle.mqtt5_subs.specs.Rows.{is_rule, option_steps};
 ghost use Rattle.mqtt5_subs.specs.Subscribes.{rule_number, filter_options, filter_written, filters_part, filters_group, filter_writing};
 
@@ -21,6 +21,19 @@ pub enum RetainForwardRule {
     OnEverySubscribe,
     OnNewSubscribe,
     Never,
+}
+
+impl RetainForwardRule {
+    /// The option's number.
+    pub fn code(self) -> u8
+        ensures { result ≡ rule_number self }
+    {
+        match self {
+            RetainForwardRule::OnEverySubscribe => 0,
+            RetainForwardRule::OnNewSubscribe => 1,
+            RetainForwardRule::Never => 2,
+        }
+    }
 }
 
 /// A topic filter and its subscription options (MQTT 5.0 section 3.8.3).
@@ -40,7 +53,7 @@ pub struct Filter {
 
 /// The rule of a retain handling option.
 fn read_rule(num: u8) -> Result<RetainForwardRule, Error>
-    ensures { Gives (λ r. number (rule_number r)) result (judged is_rule bad_rule (number num)) }
+    ensures { Finds (λ r. number (rule_number r)) result (judged is_rule bad_rule (number num)) }
 {
     match num {
         0 => Ok(RetainForwardRule::OnEverySubscribe),
@@ -50,7 +63,7 @@ fn read_rule(num: u8) -> Result<RetainForwardRule, Error>
     }
 }
 
-/// The QoS of a number of two bits.
+/// A rule where it stands in the byte of the options: bits 4 and 5.
 fn rule_bits(rule: RetainForwardRule) -> u8
     ensures { result ≡ 16 * rule_number rule }
 {
@@ -124,10 +137,7 @@ impl Filter {
         (self.qos as u8) + nolocal + preserve_retain + rule_bits(self.retain_forward_rule)
     }
 
-    /// All Filters to the end of the bytes, of which none is left; of no bytes an empty list. E14 to
-    /// E16 of a path or options that can't be read, E6 of a retain handling option of 3, else E7 of a
-    /// QoS of 3; E21. After a refusal the bytes are unchanged.
-    pub fn read(alloc: Global, bytes: &mut Bytes) -> Result<Sequence<Filter>, Error>
+    fn read_all(alloc: Global, bytes: &mut Bytes) -> Result<Sequence<Filter>, Error>
         ensures read { Gives (λ fs. (filters_group fs, bytes.new)) result (part_at filters_part [] bytes.old) }
         ensures kept { OnErr result (bytes.new ≡ bytes.old) }
     {
@@ -136,10 +146,21 @@ impl Filter {
         Ok(filters)
     }
 
+    /// All Filters to the end of the bytes, of which none is left; of no bytes an empty list. E14 to
+    /// E16 of a path or options that can't be read, E6 of a retain handling option of 3, else E7 of a
+    /// QoS of 3; E21. After a refusal the bytes are unchanged.
+    #[tactic(auto, using(mqtt5_base::proofs::AnswersLemmas::part_said))]
+    pub fn read(alloc: Global, bytes: &mut Bytes) -> Result<Sequence<Filter>, Error>
+        ensures read { ReadsPart (λ fs. (filters_group fs, bytes.new)) filters_part [] bytes.old result }
+        ensures kept { OnErr result (bytes.new ≡ bytes.old) }
+    {
+        Filter::read_all(alloc, bytes)
+    }
+
     /// Appends the path and the options. E11 of a path over 65,535 bytes, E21; then the buffer is
     /// unchanged.
     pub fn write(&self, buffer: &mut BytesMut) -> Result<(), Error>
-        ensures { Appends result (filter_writing self.now) buffer.old.items buffer.new.items }
+        ensures { Writes (λ _. tt) (filter_writing self.now) result buffer.old.items buffer.new.items }
     {
         if !self.item_fits() {
             return Err(Error::PayloadTooLong);

@@ -49,7 +49,7 @@ pub(crate) fn write_listed<P: PropertySet, T: Listed>(
     out: &mut BytesMut,
 ) -> Result<usize, Error>
     requires { list_body_fits P.table T.first T.others (option_map P.found properties.now) (map T.written items.now) ≡ true }
-    ensures { Writes (Ok (frame_of first (list_body P.table T.first T.others pkid (option_map P.found properties.now) (map T.written items.now)))) result out.old.items out.new.items }
+    ensures { Writes length (Ok (frame_of first (list_body P.table T.first T.others pkid (option_map P.found properties.now) (map T.written items.now)))) result out.old.items out.new.items }
 {
     let size = start_frame(first, body_len(properties, items), out)?;
     pkid.put_field(out);

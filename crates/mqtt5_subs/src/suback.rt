@@ -2,7 +2,7 @@
 
 ghost use Rattle.std.specs.Prelude.{◌≡◌, ◌+◌, [], map, drop, length, min, IfOk};
 ghost use Rattle.mqtt5_base.specs.Grammar.{checked, u8, number, bad_subscribe_reason};
-ghost use Rattle.mqtt5_base.specs.Answers.{Gives};
+ghost use Rattle.mqtt5_base.specs.Answers.{Finds, Gives, ReadsRow};
 ghost use Rattle.mqtt5_base.specs.Reading.{judged, values_in};
 ghost use Rattle.mqtt5_base.specs.Puts.{Writes};
 ghost use Rattle.mqtt5_base.specs.Layout.{layout, writing, content_of_packet};
@@ -37,7 +37,7 @@ pub enum SubscribeReasonCode {
 
 /// The reason of a code, or E8.
 fn reason(num: u8) -> Result<SubscribeReasonCode, Error>
-    ensures read { Gives (λ r. number (suback_code r)) result (judged suback_codes bad_subscribe_reason (number num)) }
+    ensures read { Finds (λ r. number (suback_code r)) result (judged suback_codes bad_subscribe_reason (number num)) }
     ensures known { IfOk result (λ r. suback_settled r ≡ r) }
 {
     Ok(match num {
@@ -57,21 +57,24 @@ fn reason(num: u8) -> Result<SubscribeReasonCode, Error>
     })
 }
 
-fn code(reason: SubscribeReasonCode) -> u8
-    ensures { result ≡ suback_code reason }
-{
-    match reason {
-        SubscribeReasonCode::Success(qos) => qos as u8,
-        SubscribeReasonCode::Failure => 128,
-        SubscribeReasonCode::Unspecified => 128,
-        SubscribeReasonCode::ImplementationSpecific => 131,
-        SubscribeReasonCode::NotAuthorized => 135,
-        SubscribeReasonCode::TopicFilterInvalid => 143,
-        SubscribeReasonCode::PkidInUse => 145,
-        SubscribeReasonCode::QuotaExceeded => 151,
-        SubscribeReasonCode::SharedSubscriptionsNotSupported => 158,
-        SubscribeReasonCode::SubscriptionIdNotSupported => 161,
-        SubscribeReasonCode::WildcardSubscriptionsNotSupported => 162,
+impl SubscribeReasonCode {
+    /// The reason's code.
+    pub fn code(self) -> u8
+        ensures { result ≡ suback_code self }
+    {
+        match self {
+            SubscribeReasonCode::Success(qos) => qos as u8,
+            SubscribeReasonCode::Failure => 128,
+            SubscribeReasonCode::Unspecified => 128,
+            SubscribeReasonCode::ImplementationSpecific => 131,
+            SubscribeReasonCode::NotAuthorized => 135,
+            SubscribeReasonCode::TopicFilterInvalid => 143,
+            SubscribeReasonCode::PkidInUse => 145,
+            SubscribeReasonCode::QuotaExceeded => 151,
+            SubscribeReasonCode::SharedSubscriptionsNotSupported => 158,
+            SubscribeReasonCode::SubscriptionIdNotSupported => 161,
+            SubscribeReasonCode::WildcardSubscriptionsNotSupported => 162,
+        }
     }
 }
 
@@ -100,7 +103,7 @@ impl Listed for SubscribeReasonCode {
 
     #[tactic(auto, using(crate::proofs::Codes::suback_known))]
     fn put_item(&self, out: &mut BytesMut) {
-        code(*self).put_field(out);
+        self.code().put_field(out);
     }
 }
 
@@ -119,10 +122,7 @@ pub struct SubAck {
 }
 
 impl SubAck {
-    /// The SubAck of a frame's bytes, of which the header is; no code is `Failure`. E16 without reason
-    /// codes, E8 with a reason code that a SubAck doesn't have, E14 to E18 of a field that can't be
-    /// read; E21.
-    pub fn read(alloc: Global, header: FixedHeader, bytes: Bytes) -> Result<SubAck, Error>
+    fn read_values(alloc: Global, header: FixedHeader, bytes: Bytes) -> Result<SubAck, Error>
         requires { length bytes ≡ header.fixed_header_len + header.remaining_len }
         ensures read { Gives (λ p. content_of_packet (suback_packet p)) result (values_in suback_row header.byte1 header.remaining_len (drop header.fixed_header_len bytes)) }
         ensures known { IfOk result (λ p. map suback_settled p.return_codes ≡ p.return_codes) }
@@ -142,11 +142,23 @@ impl SubAck {
         })
     }
 
+    /// The SubAck of a frame's bytes, of which the header is; no code is `Failure`. E16 without reason
+    /// codes, E8 with a reason code that a SubAck doesn't have, E14 to E18 of a field that can't be
+    /// read; E21.
+    #[tactic(auto, using(mqtt5_base::proofs::AnswersLemmas::row_said))]
+    pub fn read(alloc: Global, header: FixedHeader, bytes: Bytes) -> Result<SubAck, Error>
+        requires { length bytes ≡ header.fixed_header_len + header.remaining_len }
+        ensures read { ReadsRow (λ p. content_of_packet (suback_packet p)) suback_row header bytes result }
+        ensures known { IfOk result (λ p. map suback_settled p.return_codes ≡ p.return_codes) }
+    {
+        SubAck::read_values(alloc, header, bytes)
+    }
+
     /// Appends the SubAck and answers its length. E11 where a text is over 65,535 bytes, or the
     /// properties or the body over 268,435,455; else E16 without reason codes; E21. The buffer is then
     /// unchanged.
     pub fn write(&self, buffer: &mut BytesMut) -> Result<usize, Error>
-        ensures { Writes (writing suback_row (suback_packet self.now)) result buffer.old.items buffer.new.items }
+        ensures { Writes length (writing suback_row (suback_packet self.now)) result buffer.old.items buffer.new.items }
     {
         if !body_fits(&self.properties, &self.return_codes) {
             return Err(Error::PayloadTooLong);

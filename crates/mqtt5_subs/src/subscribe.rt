@@ -2,7 +2,7 @@
 
 ghost use Rattle.std.specs.Prelude.{◌≡◌, ◌+◌, [], ◌∷◌, List, drop, length, min, IfOk, IfErr};
 ghost use Rattle.std.specs.Iterator.{Drains, IsFinite};
-ghost use Rattle.mqtt5_base.specs.Answers.{Gives};
+ghost use Rattle.mqtt5_base.specs.Answers.{Gives, ReadsRow};
 ghost use Rattle.mqtt5_base.specs.Reading.{values_in};
 ghost use Rattle.mqtt5_base.specs.Puts.{Writes};
 ghost use Rattle.mqtt5_base.specs.Layout.{layout, writing, content_of_packet};
@@ -126,9 +126,7 @@ impl Subscribe {
         })
     }
 
-    /// The Subscribe of a frame's bytes, of which the header is. E10 without filters, E6 of a retain
-    /// handling option of 3, E7 of a QoS of 3, E14 to E18 of a field that can't be read; E21.
-    pub fn read(alloc: Global, header: FixedHeader, bytes: Bytes) -> Result<Subscribe, Error>
+    fn read_values(alloc: Global, header: FixedHeader, bytes: Bytes) -> Result<Subscribe, Error>
         requires { length bytes ≡ header.fixed_header_len + header.remaining_len }
         ensures { Gives (λ p. content_of_packet (subscribe_packet p)) result (values_in subscribe_row header.byte1 header.remaining_len (drop header.fixed_header_len bytes)) }
     {
@@ -147,11 +145,21 @@ impl Subscribe {
         })
     }
 
+    /// The Subscribe of a frame's bytes, of which the header is. E10 without filters, E6 of a retain
+    /// handling option of 3, E7 of a QoS of 3, E14 to E18 of a field that can't be read; E21.
+    #[tactic(auto, using(mqtt5_base::proofs::AnswersLemmas::row_said))]
+    pub fn read(alloc: Global, header: FixedHeader, bytes: Bytes) -> Result<Subscribe, Error>
+        requires { length bytes ≡ header.fixed_header_len + header.remaining_len }
+        ensures { ReadsRow (λ p. content_of_packet (subscribe_packet p)) subscribe_row header bytes result }
+    {
+        Subscribe::read_values(alloc, header, bytes)
+    }
+
     /// Appends the Subscribe and answers its length. E11 where a text is over 65,535 bytes, or the
     /// subscription identifier, the properties or the body over 268,435,455; else E10 without filters;
     /// E21. The buffer is then unchanged.
     pub fn write(&self, buffer: &mut BytesMut) -> Result<usize, Error>
-        ensures { Writes (writing subscribe_row (subscribe_packet self.now)) result buffer.old.items buffer.new.items }
+        ensures { Writes length (writing subscribe_row (subscribe_packet self.now)) result buffer.old.items buffer.new.items }
     {
         if !body_fits(&self.properties, &self.filters) {
             return Err(Error::PayloadTooLong);

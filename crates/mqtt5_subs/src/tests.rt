@@ -10,6 +10,7 @@ use crate::unsuback::{UnsubAck, UnsubAckProperties, UnsubAckReason};
 use crate::unsubscribe::{Unsubscribe, UnsubscribeProperties};
 use bytes::{Bytes, BytesMut};
 use mqtt5_base::{Error, Exact, FixedHeader, QoS, Sequence, Text, check, copied, same};
+use mqtt5_flow::{PingReq, PingResp, PubAckReason, PubRelReason};
 use std::alloc::Global;
 use std::test::Fail;
 
@@ -467,5 +468,25 @@ fn rule_unsaid(rt: HostRuntime) -> Result<(), Fail> {
         RetainForwardRule::default(),
         RetainForwardRule::OnEverySubscribe
     );
+    Ok(())
+}
+
+#[test]
+fn codes(rt: HostRuntime) -> Result<(), Fail> {
+    assert_eq!(rt; PubAckReason::NotAuthorized.code(), 135);
+    assert_eq!(rt; PubRelReason::PacketIdentifierNotFound.code(), 146);
+    assert_eq!(rt; SubscribeReasonCode::Success(QoS::ExactlyOnce).code(), 2);
+    assert_eq!(rt; SubscribeReasonCode::QuotaExceeded.code(), 151);
+    assert_eq!(rt; UnsubAckReason::NoSubscriptionExisted.code(), 17);
+    assert_eq!(rt; RetainForwardRule::OnEverySubscribe.code(), 0);
+    assert_eq!(rt; RetainForwardRule::OnNewSubscribe.code(), 1);
+    assert_eq!(rt; RetainForwardRule::Never.code(), 2);
+    Ok(())
+}
+
+#[test]
+fn pings_take_two_bytes(rt: HostRuntime) -> Result<(), Fail> {
+    assert_eq!(rt; PingReq.size(), 2);
+    assert_eq!(rt; PingResp.size(), 2);
     Ok(())
 }

@@ -2,7 +2,7 @@
 
 ghost use Rattle.std.specs.Prelude.{◌≡◌, ◌+◌, [], drop, length, min};
 ghost use Rattle.mqtt5_base.specs.Grammar.{checked, u8, number, bad_subscribe_reason};
-ghost use Rattle.mqtt5_base.specs.Answers.{Gives};
+ghost use Rattle.mqtt5_base.specs.Answers.{Finds, Gives, ReadsRow};
 ghost use Rattle.mqtt5_base.specs.Reading.{judged, values_in};
 ghost use Rattle.mqtt5_base.specs.Puts.{Writes};
 ghost use Rattle.mqtt5_base.specs.Layout.{layout, writing, content_of_packet};
@@ -31,7 +31,7 @@ pub enum UnsubAckReason {
 
 /// The reason of a code, or E8.
 fn reason(num: u8) -> Result<UnsubAckReason, Error>
-    ensures { Gives (λ r. number (unsuback_code r)) result (judged unsuback_codes bad_subscribe_reason (number num)) }
+    ensures { Finds (λ r. number (unsuback_code r)) result (judged unsuback_codes bad_subscribe_reason (number num)) }
 {
     Ok(match num {
         0 => UnsubAckReason::Success,
@@ -45,17 +45,20 @@ fn reason(num: u8) -> Result<UnsubAckReason, Error>
     })
 }
 
-fn code(reason: UnsubAckReason) -> u8
-    ensures { result ≡ unsuback_code reason }
-{
-    match reason {
-        UnsubAckReason::Success => 0,
-        UnsubAckReason::NoSubscriptionExisted => 17,
-        UnsubAckReason::UnspecifiedError => 128,
-        UnsubAckReason::ImplementationSpecificError => 131,
-        UnsubAckReason::NotAuthorized => 135,
-        UnsubAckReason::TopicFilterInvalid => 143,
-        UnsubAckReason::PacketIdentifierInUse => 145,
+impl UnsubAckReason {
+    /// The reason's code.
+    pub fn code(self) -> u8
+        ensures { result ≡ unsuback_code self }
+    {
+        match self {
+            UnsubAckReason::Success => 0,
+            UnsubAckReason::NoSubscriptionExisted => 17,
+            UnsubAckReason::UnspecifiedError => 128,
+            UnsubAckReason::ImplementationSpecificError => 131,
+            UnsubAckReason::NotAuthorized => 135,
+            UnsubAckReason::TopicFilterInvalid => 143,
+            UnsubAckReason::PacketIdentifierInUse => 145,
+        }
     }
 }
 
@@ -84,7 +87,7 @@ impl Listed for UnsubAckReason {
 
     #[tactic(auto, using(crate::proofs::Codes::unsuback_known))]
     fn put_item(&self, out: &mut BytesMut) {
-        code(*self).put_field(out);
+        self.code().put_field(out);
     }
 }
 
@@ -103,9 +106,7 @@ pub struct UnsubAck {
 }
 
 impl UnsubAck {
-    /// The UnsubAck of a frame's bytes, of which the header is. E16 without reason codes, E8 with a
-    /// reason code that an UnsubAck doesn't have, E14 to E18 of a field that can't be read; E21.
-    pub fn read(alloc: Global, header: FixedHeader, bytes: Bytes) -> Result<UnsubAck, Error>
+    fn read_values(alloc: Global, header: FixedHeader, bytes: Bytes) -> Result<UnsubAck, Error>
         requires { length bytes ≡ header.fixed_header_len + header.remaining_len }
         ensures { Gives (λ p. content_of_packet (unsuback_packet p)) result (values_in unsuback_row header.byte1 header.remaining_len (drop header.fixed_header_len bytes)) }
     {
@@ -124,11 +125,21 @@ impl UnsubAck {
         })
     }
 
+    /// The UnsubAck of a frame's bytes, of which the header is. E16 without reason codes, E8 with a
+    /// reason code that an UnsubAck doesn't have, E14 to E18 of a field that can't be read; E21.
+    #[tactic(auto, using(mqtt5_base::proofs::AnswersLemmas::row_said))]
+    pub fn read(alloc: Global, header: FixedHeader, bytes: Bytes) -> Result<UnsubAck, Error>
+        requires { length bytes ≡ header.fixed_header_len + header.remaining_len }
+        ensures { ReadsRow (λ p. content_of_packet (unsuback_packet p)) unsuback_row header bytes result }
+    {
+        UnsubAck::read_values(alloc, header, bytes)
+    }
+
     /// Appends the UnsubAck and answers its length. E11 where a text is over 65,535 bytes, or the
     /// properties or the body over 268,435,455; else E16 without reason codes; E21. The buffer is then
     /// unchanged.
     pub fn write(&self, buffer: &mut BytesMut) -> Result<usize, Error>
-        ensures { Writes (writing unsuback_row (unsuback_packet self.now)) result buffer.old.items buffer.new.items }
+        ensures { Writes length (writing unsuback_row (unsuback_packet self.now)) result buffer.old.items buffer.new.items }
     {
         if !body_fits(&self.properties, &self.reasons) {
             return Err(Error::PayloadTooLong);

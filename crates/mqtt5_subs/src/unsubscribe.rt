@@ -3,7 +3,7 @@
 ghost use Rattle.std.specs.Prelude.{◌≡◌, ◌+◌, [], ◌∷◌, drop, length, min, IfOk, IfErr};
 ghost use Rattle.mqtt5_base.specs.Texts.{Utf8};
 ghost use Rattle.mqtt5_base.specs.Grammar.{one, text};
-ghost use Rattle.mqtt5_base.specs.Answers.{Gives};
+ghost use Rattle.mqtt5_base.specs.Answers.{Gives, ReadsRow};
 ghost use Rattle.mqtt5_base.specs.Reading.{values_in};
 ghost use Rattle.mqtt5_base.specs.Puts.{Writes};
 ghost use Rattle.mqtt5_base.specs.Layout.{layout, writing, content_of_packet};
@@ -124,9 +124,7 @@ impl Unsubscribe {
         })
     }
 
-    /// The Unsubscribe of a frame's bytes, of which the header is, also without filters. E14 to E18 of a
-    /// field that can't be read; E21.
-    pub fn read(alloc: Global, header: FixedHeader, bytes: Bytes) -> Result<Unsubscribe, Error>
+    fn read_values(alloc: Global, header: FixedHeader, bytes: Bytes) -> Result<Unsubscribe, Error>
         requires { length bytes ≡ header.fixed_header_len + header.remaining_len }
         ensures { Gives (λ p. content_of_packet (unsubscribe_packet p)) result (values_in unsubscribe_row header.byte1 header.remaining_len (drop header.fixed_header_len bytes)) }
     {
@@ -142,10 +140,20 @@ impl Unsubscribe {
         })
     }
 
+    /// The Unsubscribe of a frame's bytes, of which the header is, also without filters. E14 to E18 of a
+    /// field that can't be read; E21.
+    #[tactic(auto, using(mqtt5_base::proofs::AnswersLemmas::row_said))]
+    pub fn read(alloc: Global, header: FixedHeader, bytes: Bytes) -> Result<Unsubscribe, Error>
+        requires { length bytes ≡ header.fixed_header_len + header.remaining_len }
+        ensures { ReadsRow (λ p. content_of_packet (unsubscribe_packet p)) unsubscribe_row header bytes result }
+    {
+        Unsubscribe::read_values(alloc, header, bytes)
+    }
+
     /// Appends the Unsubscribe and answers its length. E11 where a text is over 65,535 bytes, or the
     /// properties or the body over 268,435,455; E21. The buffer is then unchanged.
     pub fn write(&self, buffer: &mut BytesMut) -> Result<usize, Error>
-        ensures { Writes (writing unsubscribe_row (unsubscribe_packet self.now)) result buffer.old.items buffer.new.items }
+        ensures { Writes length (writing unsubscribe_row (unsubscribe_packet self.now)) result buffer.old.items buffer.new.items }
     {
         if !body_fits(&self.properties, &self.filters) {
             return Err(Error::PayloadTooLong);

@@ -1,8 +1,7 @@
 use Rattle.std.proofs.Common.{sym, ◌∙◌}
 use Rattle.mqtt5_base.specs.Layout.{items_fit}
 use Rattle.mqtt5_base.proofs.KindsAgain.{both_hold}
-use Rattle.mqtt5_link.specs.Rows.{connack_first_table, connack_second_table, connack_third_table}
-use Rattle.mqtt5_link.specs.ConnAcks.{connack_first, connack_second, connack_third}
+use Rattle.mqtt5_link.specs.Thirds.{connack_first_table, connack_second_table, connack_third_table, connack_first, connack_second, connack_third}
 use Rattle.mqtt5_link.proofs.ThirdsLemmas.{connack_fits}
 use Rattle.mqtt5_link.proofs.connack.ConnAckPropertiesPropertySet.put_set.Goals as goal
 

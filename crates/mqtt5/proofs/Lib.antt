@@ -1,7 +1,0 @@
-pub mod Below
-pub mod Tables
-pub mod Settles
-pub mod Ways
-pub mod Taking
-pub mod Cuts
-pub mod Joins

@@ -1,0 +1,5 @@
+pub mod Settles
+pub mod Ways
+pub mod Taking
+pub mod Cuts
+pub mod Joins

@@ -1,0 +1,3 @@
+pub mod Course
+pub mod Run
+pub mod Ways

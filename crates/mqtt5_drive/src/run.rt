@@ -1,0 +1,179 @@
+//! The loop: bytes in pieces and requests go in, frames and events come out.
+
+ghost use Rattle.std.specs.Prelude.{◌≡◌, ℕ, Some, List, [], ◌∷◌, ◌++◌, Option, IfErr, OnOk, IsOk};
+ghost use Rattle.mqtt5_base.specs.FrontAt.{front};
+ghost use Rattle.mqtt5_codec.specs.declared.codec.Codec.{Codec};
+ghost use Rattle.mqtt5_session.specs.Session.{Session};
+ghost use Rattle.mqtt5_session.specs.Requests.{out};
+ghost use Rattle.mqtt5_session.specs.Packets.{inc};
+ghost use Rattle.mqtt5_drive.specs.Ways.{LeadsTo, Goes, Replies};
+ghost use Rattle.mqtt5_drive.specs.Course.{Holds, finish, Stops};
+ghost use Rattle.mqtt5_drive.specs.Run.{Turn, bytes_of, of_input, turns, reply_bytes, run, IsMore, piece};
+
+use bytes::{Bytes, BytesMut};
+use mqtt5_base::copied;
+use mqtt5_codec::{Codec, Packet};
+use mqtt5_session::{MqttState, Request, StateError};
+use std::alloc::Global;
+
+/// What a step takes: a piece of the incoming bytes, or a request.
+#[derive(Debug, Drop)]
+pub enum Input {
+    /// A piece, cut anywhere.
+    Bytes(Bytes),
+    /// What the client asks.
+    Request(Request),
+}
+
+/// An input at its moment.
+#[derive(Debug, Drop)]
+pub struct Step {
+    /// The moment, in a unit that is the caller's.
+    pub at: u64,
+    /// What comes in then.
+    pub input: Input,
+}
+
+fn encode(codec: &Codec, output: &mut BytesMut, packet: &Packet) -> Result<(), StateError>
+    ensures { Replies result (reply_bytes codec.now (Some packet.now)) output.old.items output.new.items }
+{
+    match codec.encode(packet, output) {
+        Ok(()) => Ok(()),
+        Err(error) => Err(StateError::from(error)),
+    }
+}
+
+fn answer(codec: &Codec, output: &mut BytesMut, reply: &Option<Packet>) -> Result<(), StateError>
+    ensures { Replies result (reply_bytes codec.now reply.now) output.old.items output.new.items }
+{
+    match reply {
+        Some(packet) => encode(codec, output, packet),
+        None => Ok(()),
+    }
+}
+
+fn deliver(
+    state: &mut MqttState,
+    codec: &Codec,
+    output: &mut BytesMut,
+    packet: Packet,
+    at: u64,
+) -> Result<(), StateError>
+    ensures { Goes result codec.now (inc state.old packet at) state.old output.old.items state.new output.new.items }
+{
+    match state.handle_incoming_packet(packet, at) {
+        Ok(reply) => answer(codec, output, &reply),
+        Err(error) => Err(error),
+    }
+}
+
+fn ask(
+    state: &mut MqttState,
+    codec: &Codec,
+    output: &mut BytesMut,
+    request: &Request,
+    at: u64,
+) -> Result<(), StateError>
+    ensures { Goes result codec.now (out state.old request.now at) state.old output.old.items state.new output.new.items }
+{
+    let Ok(request) = copied(request) else {
+        return Err(StateError::OutOfMemory);
+    };
+    match state.handle_outgoing_packet(request, at) {
+        Ok(reply) => answer(codec, output, &reply),
+        Err(error) => Err(error),
+    }
+}
+
+/// Takes each whole frame.
+fn take_frames(
+    alloc: Global,
+    state: &mut MqttState,
+    codec: &Codec,
+    input: &mut BytesMut,
+    output: &mut BytesMut,
+    at: u64,
+) -> Result<(), StateError>
+    ensures more { OnOk result (IsMore (front codec.now.max_incoming_size input.new.items)) }
+    ensures ok { OnOk result ((rest : List Turn) → LeadsTo state.old output.old.items (run codec.now (bytes_of at input.old.items ++ rest) state.old []) state.new output.new.items (run codec.now rest state.new input.new.items)) }
+    ensures err { IfErr result (λ e. (rest : List Turn) → Stops e state.old output.old.items (run codec.now (bytes_of at input.old.items ++ rest) state.old []) state.new output.new.items) }
+{
+    while let Some(packet) = codec.decode(alloc, input)? {
+        deliver(state, codec, output, packet, at)?;
+    }
+    Ok(())
+}
+
+/// One step.
+fn take_step(
+    alloc: Global,
+    state: &mut MqttState,
+    codec: &Codec,
+    input: &mut BytesMut,
+    output: &mut BytesMut,
+    step: &Step,
+) -> Result<(), StateError>
+    requires { IsMore (front codec.now.max_incoming_size input.old.items) }
+    ensures more { OnOk result (IsMore (front codec.now.max_incoming_size input.new.items)) }
+    ensures ok { OnOk result ((rest : List Turn) → LeadsTo state.old output.old.items (run codec.now (of_input step.now.at step.now.input ++ rest) state.old input.old.items) state.new output.new.items (run codec.now rest state.new input.new.items)) }
+    ensures err { IfErr result (λ e. (rest : List Turn) → Stops e state.old output.old.items (run codec.now (of_input step.now.at step.now.input ++ rest) state.old input.old.items) state.new output.new.items) }
+{
+    match &step.input {
+        Input::Bytes(piece) => {
+            let Ok(()) = input.extend_from_slice(piece.as_slice()) else {
+                return Err(StateError::OutOfMemory);
+            };
+            take_frames(alloc, state, codec, input, output, step.at)
+        }
+        Input::Request(request) => ask(state, codec, output, request, step.at),
+    }
+}
+
+/// Runs the steps in order: a piece goes to the end of the input, each whole frame is decoded and goes
+/// to the session, and each reply goes to the end of the output. The input must be in want of more bytes,
+/// as an empty one is, and as a run without fault leaves it. The first fault ends the run: S7 of a frame
+/// or a stream that is refused, or of a reply that can't be written, S9 of a reply over the outgoing
+/// limit, a refusal of the session (S1 to S6, S8, S10, S11); S12. What was written and what the session
+/// took stands then; after S12 the last reply may be missing. Of the input nothing is said then.
+pub fn drive(
+    alloc: Global,
+    state: &mut MqttState,
+    codec: &mut Codec,
+    input: &mut BytesMut,
+    output: &mut BytesMut,
+    steps: &[Step],
+) -> Result<(), StateError>
+    requires { IsMore (front codec.old.max_incoming_size input.old.items) }
+    // All is the run's: session, output and the bytes held.
+    ensures ok { OnOk result (finish state.old output.old.items (run codec.old (turns steps.now) state.old input.old.items) ≡ record { session = state.new; output = output.new.items; ending = Holds input.new.items }) }
+    // The fault is the run's, with its session and output, or memory ran out on the way.
+    ensures err { IfErr result (λ e. Stops e state.old output.old.items (run codec.old (turns steps.now) state.old input.old.items) state.new output.new.items) }
+    // So another call may follow.
+    ensures more { OnOk result (IsMore (front codec.old.max_incoming_size input.new.items)) }
+    ensures codec { codec.new ≡ codec.old }
+    ensures nothing { steps.now ≡ [] → IsOk result }
+{
+    for step in steps {
+        take_step(alloc, state, codec, input, output, step)?;
+    }
+    Ok(())
+}
+
+/// `drive` may start on an empty input.
+pub fn may_start()
+    ensures { (limit : Option ℕ) (input : List ℕ) → input ≡ [] → IsMore (front limit input) }
+{}
+
+/// Cutting a piece in two changes nothing, where both keep its moment.
+pub fn cutting()
+    ensures { (codec : Codec) (s : Session) (held : List ℕ) (before after : List Step) (at : ℕ) (left right : List ℕ)
+        → run codec (turns (before ++ piece at (left ++ right) ∷ after)) s held
+        ≡ run codec (turns (before ++ piece at left ∷ piece at right ∷ after)) s held }
+{}
+
+/// A second run from where a first one without fault ended is the run over the steps of both.
+pub fn twice()
+    ensures { (codec : Codec) (s t : Session) (o u held left : List ℕ) (first second : List Step)
+        → finish s o (run codec (turns first) s held) ≡ record { session = t; output = u; ending = Holds left }
+        → finish s o (run codec (turns (first ++ second)) s held) ≡ finish t u (run codec (turns second) t left) }
+{}

@@ -1,0 +1,4 @@
+pub mod Below
+pub mod Tables
+pub mod Trees
+pub mod Sets

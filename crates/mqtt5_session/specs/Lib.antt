@@ -1,0 +1,11 @@
+pub mod Errors
+pub mod Rising
+pub mod Held
+pub mod Table
+pub mod Codes
+pub mod Session
+pub mod Requests
+pub mod Packets
+pub mod Cleaning
+pub mod Sound
+pub mod Release

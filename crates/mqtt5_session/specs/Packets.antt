@@ -1,0 +1,179 @@
+-- What each packet from the broker makes of the session: a reply or a refusal, and the session after it (MQTT 5.0 sections 3
+-- and 4.3).
+use Rattle.std.specs.Prelude.{ℕ, Bool, true, false, List, [], ◌∷◌, ◌++◌, length, Option, Some, None, Ok, Err, ◌==◌, unwrap_or, is_some, option_map, min, if◌then◌else◌}
+use Rattle.std.specs.Ordering.{nat_cmp}
+use Rattle.std.specs.FinMap as map
+use Rattle.std.specs.FinSet as set
+use Rattle.mqtt5_base.specs.declared.text.Text.{Text}
+use Rattle.mqtt5_base.specs.declared.quality.QoS.{QoS}
+use Rattle.mqtt5_base.specs.declared.quality.QoS.TheVariants.{AtMostOnce, AtLeastOnce, ExactlyOnce}
+use Rattle.mqtt5_flow.specs.declared.publish.Publish.{Publish}
+use Rattle.mqtt5_flow.specs.declared.puback.PubAckReason.{PubAckReason}
+use Rattle.mqtt5_flow.specs.declared.puback.PubAckReason.TheVariants.{Success, NoMatchingSubscribers}
+use Rattle.mqtt5_flow.specs.declared.pubrel.PubRelReason.{PubRelReason}
+use Rattle.mqtt5_flow.specs.declared.pubrel.PubRelReason.TheVariants as pubrel_reasons
+use Rattle.mqtt5_link.specs.declared.connack.ConnectReturnCode.{ConnectReturnCode}
+use Rattle.mqtt5_link.specs.declared.connack.ConnectReturnCode.TheVariants as return_codes
+use Rattle.mqtt5_link.specs.declared.connack.ConnAckProperties.{ConnAckProperties}
+use Rattle.mqtt5_link.specs.declared.disconnect.DisconnectReasonCode.TheVariants.{ProtocolError}
+use Rattle.mqtt5_link.specs.declared.disconnect.DisconnectProperties.{DisconnectProperties}
+use Rattle.mqtt5_codec.specs.declared.packet.Packet.{Packet}
+use Rattle.mqtt5_codec.specs.declared.packet.Packet.TheVariants as packets
+use Rattle.mqtt5_session.specs.declared.slot.Slot.{Slot}
+use Rattle.mqtt5_session.specs.declared.slot.Slot.TheVariants.{Sent, Released}
+use Rattle.mqtt5_session.specs.declared.event.Event.TheVariants as events
+use Rattle.mqtt5_session.specs.declared.event.Outgoing.{Outgoing}
+use Rattle.mqtt5_session.specs.declared.event.Outgoing.TheVariants as outgoing
+use Rattle.mqtt5_session.specs.declared.error.StateError.TheVariants as errors
+use Rattle.mqtt5_session.specs.Session.{Topics, Session, Answer, tells}
+use Rattle.mqtt5_session.specs.Requests.{alias_of, release_of, disconnect_of}
+
+-- an event of the broker is told
+abbrev pub hears : Session → Packet → Session
+hears s packet = record s { events = s.events ++ events.Incoming packet ∷ [] }
+
+-- a packet was taken at this moment, with nothing to send
+abbrev pub takes : Session → ℕ → Answer
+takes s at = (Ok None, record s { last_incoming = at })
+
+-- ---- acks of what the client sent
+
+-- let go: an id is made free, and the publish that waits for that id is stored and sent (2.2.1)
+abbrev pub freed_for : Option Publish → Session → ℕ → ℕ → Answer
+freed_for None s id at = takes (record s { core = record s.core { held = map.remove s.core.held id } }) at
+freed_for (Some p) s id at =
+    if p.pkid == id then (
+      Ok (Some (packets.Publish p)),
+      record (tells s (outgoing.Publish id)) {
+        core = record s.core { held = map.insert s.core.held id (Sent p); waiting = None };
+        collision_pings = 0;
+        last_incoming = at;
+      },
+    )
+    else takes (record s { core = record s.core { held = map.remove s.core.held id } }) at
+
+-- a PubAck ends the publish that awaits it, whatever its reason (4.3.2)
+abbrev pub on_puback : Option Slot → Session → ℕ → ℕ → Answer
+on_puback (Some (Sent p)) s id at = freed_for s.core.waiting s id at
+on_puback other s id at = (Err (errors.Unsolicited id), s)
+
+-- whether a publish of QoS 2 was taken, by the reason of its PubRec (3.5.2.1)
+abbrev pub is_taken : PubAckReason → Bool
+is_taken Success = true
+is_taken NoMatchingSubscribers = true
+is_taken other = false
+
+-- a publish that was taken is released; one that wasn't is ended (4.3.3)
+abbrev pub on_received : Bool → Session → ℕ → ℕ → Answer
+on_received true s id at =
+    (Ok (Some (release_of id)), record (tells s (outgoing.PubRel id)) { core = record s.core { held = map.insert s.core.held id Released }; last_incoming = at })
+on_received false s id at = freed_for s.core.waiting s id at
+
+-- a PubRec answers the publish that awaits it (4.3.3)
+abbrev pub on_pubrec : Option Slot → Session → PubAckReason → ℕ → ℕ → Answer
+on_pubrec (Some (Sent p)) s reason id at = on_received (is_taken reason) s id at
+on_pubrec other s reason id at = (Err (errors.Unsolicited id), s)
+
+-- a PubComp ends the release that awaits it, whatever its reason (4.3.3)
+abbrev pub on_pubcomp : Option Slot → Session → ℕ → ℕ → Answer
+on_pubcomp (Some Released) s id at = freed_for s.core.waiting s id at
+on_pubcomp other s id at = (Err (errors.Unsolicited id), s)
+
+-- ---- what the broker publishes
+
+-- a release of success is answered (4.3.3)
+abbrev pub on_released : PubRelReason → Session → ℕ → ℕ → Answer
+on_released pubrel_reasons.Success s id at =
+    (Ok (Some (packets.PubComp (record { pkid = id; reason = pubrel_reasons.Success; properties = None }))), record (tells s (outgoing.PubComp id)) { last_incoming = at })
+on_released other s id at = takes s at
+
+-- a PubRel takes out the id of a publish that came (4.3.3)
+abbrev pub on_pubrel : Bool → Session → PubRelReason → ℕ → ℕ → Answer
+on_pubrel true s reason id at = on_released reason (record s { incoming = set.remove s.incoming id }) id at
+on_pubrel false s reason id at = (Err (errors.Unsolicited id), s)
+
+-- the topic of a publish: its own, or where that is empty the one that its alias stands for; None where the alias isn't
+-- known (3.3.2.3.4)
+abbrev pub topic_under : Option ℕ → List ℕ → Topics → Option (List ℕ)
+topic_under None topic topics = Some topic
+topic_under (Some alias) topic topics = if length topic == 0 then map.get topics alias else Some topic
+
+-- the topic of a publish of this session
+abbrev pub topic_of : Session → Publish → Option (List ℕ)
+topic_of s p = topic_under (alias_of p) p.topic s.core.aliases
+
+-- an alias stands for a topic that came with it (3.3.2.3.4)
+abbrev pub topics_with : Option ℕ → List ℕ → Topics → Topics
+topics_with None topic topics = topics
+topics_with (Some alias) topic topics = if length topic == 0 then topics else map.insert topics alias topic
+
+-- an ack is sent, unless the user does it (4.3.2, 4.3.3)
+abbrev pub answers : Bool → Packet → Outgoing → Session → ℕ → Answer
+answers true ack event s at = takes s at
+answers false ack event s at = (Ok (Some ack), record (tells s event) { last_incoming = at })
+
+-- the ids of publishes that aren't released: one of QoS 2 adds its own, also where it is among them (4.3.3)
+abbrev pub ids_with : QoS → set.FinSet nat_cmp → ℕ → set.FinSet nat_cmp
+ids_with AtMostOnce ids id = ids
+ids_with AtLeastOnce ids id = ids
+ids_with ExactlyOnce ids id = set.insert ids id
+
+-- a publish is acked by its QoS (4.3)
+abbrev pub on_qos : QoS → Session → ℕ → ℕ → Answer
+on_qos AtMostOnce s id at = takes s at
+on_qos AtLeastOnce s id at = answers s.core.manual_acks (packets.PubAck (record { pkid = id; reason = Success; properties = None })) (outgoing.PubAck id) s at
+on_qos ExactlyOnce s id at = answers s.core.manual_acks (packets.PubRec (record { pkid = id; reason = Success; properties = None })) (outgoing.PubRec id) s at
+
+-- a publish is taken where its topic is known; else its alias is an error of the broker (3.3.2.3.4)
+abbrev pub on_publish : Bool → Session → Publish → ℕ → Answer
+on_publish true s p at =
+    on_qos p.qos (record s { core = record s.core { aliases = topics_with (alias_of p) p.topic s.core.aliases }; incoming = ids_with p.qos s.incoming p.pkid }) p.pkid at
+on_publish false s p at = (Ok (Some (disconnect_of ProtocolError)), record (tells s outgoing.Disconnect) { last_incoming = at })
+
+-- ---- the connection
+
+-- the broker's maximum of topic aliases, where it says one; else it stays (3.2.2.3.8)
+abbrev pub aliases_allowed : Option ConnAckProperties → ℕ → ℕ
+aliases_allowed None max = max
+aliases_allowed (Some set) max = unwrap_or set.topic_alias_max max
+
+-- the current maximum: what the broker takes ahead of its acks, within the limit, where it says so; else it stays (3.2.2.3.3)
+abbrev pub current_allowed : Option ConnAckProperties → ℕ → ℕ → ℕ
+current_allowed None limit current = current
+current_allowed (Some set) limit current = unwrap_or (option_map (λ max. min max limit) set.receive_max) current
+
+-- a ConnAck says what the broker allows, or why it refuses the connection (3.2)
+abbrev pub on_connack : ConnectReturnCode → Option ConnAckProperties → Session → ℕ → Answer
+on_connack return_codes.Success properties s at =
+    takes (record s { core = record s.core { alias_max = aliases_allowed properties s.core.alias_max; current = current_allowed properties s.core.limit s.core.current } }) at
+on_connack code properties s at = (Err (errors.ConnFail code), s)
+
+-- why the broker ends the connection, as a text (3.14.2.2.3)
+abbrev pub reason_in : Option DisconnectProperties → Option Text
+reason_in None = None
+reason_in (Some set) = set.reason_string
+
+-- ---- packets
+
+-- a packet, whose event is told
+abbrev pub heard : Session → Packet → ℕ → Answer
+heard s (packets.PubAck p) at = on_puback (map.get s.core.held p.pkid) s p.pkid at
+heard s (packets.PubRec p) at = on_pubrec (map.get s.core.held p.pkid) s p.reason p.pkid at
+heard s (packets.PubComp p) at = on_pubcomp (map.get s.core.held p.pkid) s p.pkid at
+heard s (packets.PubRel p) at = on_pubrel (set.contains s.incoming p.pkid) s p.reason p.pkid at
+heard s (packets.Publish p) at = on_publish (is_some (topic_of s p)) s p at
+heard s (packets.ConnAck p) at = on_connack p.code p.properties s at
+heard s (packets.PingResp p) at = takes (record s { awaits_ping = false }) at
+heard s (packets.SubAck p) at = takes s at
+heard s (packets.UnsubAck p) at = takes s at
+heard s (packets.Disconnect p) at = (Err (errors.ServerDisconnect p.reason_code (reason_in p.properties)), s)
+heard s other at = (Err errors.WrongPacket, s)
+
+-- a packet as it is told: a publish with the topic that its alias stands for (3.3.2.3.4)
+abbrev pub told : Session → Packet → Packet
+told s (packets.Publish p) = packets.Publish (record p { topic = unwrap_or (topic_of s p) p.topic })
+told s packet = packet
+
+-- a packet: its reply or its refusal, and the session after it, which has its event in both cases
+unfoldable pub inc : Session → Packet → ℕ → Answer
+inc s packet at = heard (hears s (told s packet)) packet at

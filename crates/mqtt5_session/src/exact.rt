@@ -1,0 +1,31 @@
+//! A clone of a request or of an event is the same value, and `==` decides equality.
+
+use crate::event::{Event, Outgoing, Request};
+use mqtt5_base::Exact;
+
+impl Exact for Request {
+    ghost use Rattle.std.proofs.Common.{rules};
+    ghost use Rattle.mqtt5_session.specs.Sound.{request_sound};
+
+    ghost same = { Prim.search rules };
+
+    ghost sound = { request_sound };
+}
+
+impl Exact for Outgoing {
+    ghost use Rattle.std.proofs.Common.{rules};
+    ghost use Rattle.mqtt5_session.specs.Sound.{outgoing_sound};
+
+    ghost same = { Prim.search rules };
+
+    ghost sound = { outgoing_sound };
+}
+
+impl Exact for Event {
+    ghost use Rattle.std.proofs.Common.{rules};
+    ghost use Rattle.mqtt5_session.specs.Sound.{event_sound};
+
+    ghost same = { Prim.search rules };
+
+    ghost sound = { event_sound };
+}

@@ -1,0 +1,19 @@
+//! The session of an MQTT 5 client, without sockets and clocks.
+#![tactic(auto)]
+
+mod aliases;
+#[cfg(test)]
+mod clean_tests;
+mod error;
+mod event;
+mod exact;
+mod ids;
+mod slot;
+mod slots;
+mod state;
+#[cfg(test)]
+mod tests;
+
+pub use error::StateError;
+pub use event::{Event, Incoming, Outgoing, Request};
+pub use state::MqttState;

@@ -1,0 +1,365 @@
+//! The session.
+
+ghost use Rattle.std.specs.Prelude.{◌≡◌, ◌<◌, IfOk, IfErr, OnOk, OnErr, drop, slice_get};
+ghost use Rattle.std.specs.FinMap as map;
+ghost use Rattle.std.specs.FinSet as set;
+ghost use Rattle.std.specs.Option.{option_copied};
+ghost use Rattle.mqtt5_session.specs.Held.{IsWithin, awaiting_ack, is_released};
+ghost use Rattle.mqtt5_session.specs.Session.{Sends, Hears, fresh, tells};
+ghost use Rattle.mqtt5_session.specs.Requests.{out, protocol_error};
+ghost use Rattle.mqtt5_session.specs.Packets.{inc};
+ghost use Rattle.mqtt5_session.specs.Cleaning.{requests_of, cleaned};
+
+/// Each packet's making.
+mod packed;
+/// What each packet from the broker makes of the session.
+mod packets;
+/// What each request makes of it.
+mod requests;
+
+use crate::aliases::Aliases;
+use crate::error::StateError;
+use crate::event::{Event, Incoming, Outgoing, Request};
+use crate::ids::Ids;
+use crate::slots::Slots;
+use bytes::Bytes;
+use mqtt5_base::{Exact, copied};
+use mqtt5_codec::Packet;
+use mqtt5_flow::Publish;
+use mqtt5_link::DisconnectReasonCode;
+use packed::as_disconnect;
+use std::alloc::{AllocError, Global};
+use std::collections::VecDeque;
+use std::marker::Model;
+
+/// The session of a client (MQTT 5.0 section 4.1): the packet identifiers in use, what happened, and
+/// what the broker allows. A call says what to send, and sends nothing itself.
+#[derive(Debug, Drop)]
+pub struct MqttState {
+    slots: Slots,
+    waiting: Option<Publish>,
+    last_pkid: u16,
+    current: u16,
+    aliases: Aliases,
+    alias_max: u16,
+    manual_acks: bool,
+    incoming: Ids,
+    awaits_ping: bool,
+    collision_pings: usize,
+    events: VecDeque<Event>,
+    last_incoming: u64,
+    last_outgoing: u64,
+}
+
+impl Model for MqttState {
+    ghost use Rattle.std.specs.Prelude.{◌<◌, ◌≤◌};
+    ghost use Rattle.std.specs.Coded.{codes, coded_ℕ};
+    ghost use Rattle.std.specs.FinSet as set;
+    ghost use Rattle.mqtt5_flow.specs.contracts.publish.Publish as publish;
+    ghost use Rattle.mqtt5_session.specs.contracts.event.Event as event;
+    ghost use Rattle.mqtt5_session.specs.Codes.{coded_held, coded_aliases, coded_incoming};
+    ghost use Rattle.mqtt5_session.specs.Release.{IsCounted};
+    ghost use Rattle.mqtt5_session.specs.Session.{Session};
+
+    ghost Value = { Session };
+
+    ghost coded = { Prim.hlevel (codes, coded_held, coded_aliases, coded_incoming, event.the_row.coded, publish.the_row.coded) };
+
+    ghost view = { λ a. record {
+      core = record {
+        limit = a.slots.limit;
+        current = a.current;
+        last = a.last_pkid;
+        held = a.slots.held;
+        waiting = a.waiting;
+        aliases = a.aliases;
+        alias_max = a.alias_max;
+        manual_acks = a.manual_acks;
+      };
+      incoming = a.incoming;
+      awaits_ping = a.awaits_ping;
+      collision_pings = a.collision_pings;
+      events = a.events.items;
+      last_incoming = a.last_incoming;
+      last_outgoing = a.last_outgoing;
+    } };
+
+    ghost invariant = { λ a. (a.last_pkid < a.slots.limit) × (a.current ≤ a.slots.limit) × IsCounted a.waiting };
+}
+
+impl MqttState {
+    /// A session in which nothing was sent. `max_inflight`, at least 1, is the greatest id, and so the most
+    /// ids in use at a time. S12.
+    pub fn new(alloc: Global, max_inflight: u16, manual_acks: bool) -> Result<MqttState, StateError>
+        requires { 0 < max_inflight }
+        ensures ok { IfOk result (λ s. s ≡ fresh max_inflight manual_acks) }
+        ensures err { IfErr result (λ e. e ≡ StateError.OutOfMemory) }
+    {
+        Ok(MqttState {
+            slots: Slots::new(alloc, max_inflight)?,
+            waiting: None,
+            last_pkid: 0,
+            current: max_inflight,
+            aliases: Aliases::new(alloc),
+            alias_max: 0,
+            manual_acks,
+            incoming: Ids::new(alloc),
+            awaits_ping: false,
+            collision_pings: 0,
+            events: VecDeque::new(alloc),
+            last_incoming: 0,
+            last_outgoing: 0,
+        })
+    }
+
+    /// How many ids are in use. Each is in 1..=limit, and a publish stands under its own id. Takes no memory.
+    pub fn inflight(&self) -> u16
+        ensures count { result ≡ map.len self.now.core.held }
+        ensures within { IsWithin self.now.core.limit self.now.core.held }
+    {
+        self.slots.len()
+    }
+
+    /// Whether a ping isn't answered. Takes no memory.
+    pub fn await_pingresp(&self) -> bool
+        ensures { result ≡ self.now.awaits_ping }
+    {
+        self.awaits_ping
+    }
+
+    /// Whether the user sends the acks. Takes no memory.
+    pub fn manual_acks(&self) -> bool
+        ensures { result ≡ self.now.core.manual_acks }
+    {
+        self.manual_acks
+    }
+
+    /// How many pings were asked for while a publish waits. Takes no memory.
+    pub fn collision_ping_count(&self) -> usize
+        ensures { result ≡ self.now.collision_pings }
+    {
+        self.collision_pings
+    }
+
+    /// The moment of the last packet from the broker that wasn't refused, 0 before the first. Takes no
+    /// memory.
+    pub fn last_incoming(&self) -> u64
+        ensures { result ≡ self.now.last_incoming }
+    {
+        self.last_incoming
+    }
+
+    /// The moment of the last request that wasn't refused, 0 before the first. Takes no memory.
+    pub fn last_outgoing(&self) -> u64
+        ensures { result ≡ self.now.last_outgoing }
+    {
+        self.last_outgoing
+    }
+
+    /// The last id that was given, or 0 where the next one is 1; it is below the limit on ids. Takes no
+    /// memory.
+    pub fn last_pkid(&self) -> u16
+        ensures last { result ≡ self.now.core.last }
+        ensures below { result < self.now.core.limit }
+    {
+        self.last_pkid
+    }
+
+    /// The broker's maximum of topic aliases. Takes no memory.
+    pub fn broker_topic_alias_max(&self) -> u16
+        ensures { result ≡ self.now.core.alias_max }
+    {
+        self.alias_max
+    }
+
+    /// The current maximum of ids in use. Takes no memory.
+    pub fn max_outgoing_inflight(&self) -> u16
+        ensures { result ≡ self.now.core.current }
+    {
+        self.current
+    }
+
+    /// The limit on ids. Takes no memory.
+    pub fn max_outgoing_inflight_upper_limit(&self) -> u16
+        ensures { result ≡ self.now.core.limit }
+    {
+        self.slots.limit()
+    }
+
+    /// The publish that waits for its id; None where there is none. Takes no memory.
+    pub fn collision(&self) -> Option<&Publish>
+        ensures { option_copied result ≡ self.now.core.waiting }
+    {
+        self.waiting.as_ref()
+    }
+
+    /// What happened and wasn't taken, the oldest first. Takes no memory.
+    pub fn events(&self) -> &VecDeque<Event>
+        ensures { result.now.items ≡ self.now.events }
+    {
+        &self.events
+    }
+
+    /// The publish that awaits an ack under an id; None where there is none. Takes no memory.
+    pub fn outgoing_pub(&self, id: u16) -> Option<&Publish>
+        ensures { option_copied result ≡ awaiting_ack (map.get self.now.core.held id) }
+    {
+        self.slots.sent(id)
+    }
+
+    /// Whether an id is released and awaits its PubComp. Takes no memory.
+    pub fn outgoing_rel(&self, id: u16) -> bool
+        ensures { result ≡ is_released (map.get self.now.core.held id) }
+    {
+        self.slots.is_released(id)
+    }
+
+    /// Whether a publish came under an id and isn't released. Takes no memory.
+    pub fn incoming_pub(&self, id: u16) -> bool
+        ensures { result ≡ set.contains self.now.incoming id }
+    {
+        self.incoming.contains(id)
+    }
+
+    /// The topic that an alias of the broker stands for; None where none is known. Takes no memory.
+    pub fn topic_alises(&self, alias: u16) -> Option<&Bytes>
+        ensures { option_copied result ≡ map.get self.now.core.aliases alias }
+    {
+        self.aliases.get(alias)
+    }
+
+    /// Takes the oldest event out; None where there is none. Takes no memory.
+    pub fn pop_event(&mut self) -> Option<Event>
+        ensures event { result ≡ slice_get self.old.events 0 }
+        ensures rest { self.new ≡ record self.old { events = drop 1 self.old.events } }
+    {
+        self.events.pop_front()
+    }
+
+    /// Sets whether the user sends the acks. Takes no memory.
+    pub fn set_manual_acks(&mut self, manual_acks: bool)
+        ensures { self.new ≡ record self.old { core = record self.old.core { manual_acks = manual_acks } } }
+    {
+        self.manual_acks = manual_acks;
+    }
+
+    /// Takes a request at a moment, and answers what to send; None for a publish that waits until its id is
+    /// free. S1: a publish whose id is in use while another waits; a PubRel of an id whose publish isn't
+    /// acked; a PubComp, PingResp, SubAck or UnsubAck. S2: a publish of QoS 1 or 2, or a PubRel, whose id is
+    /// above the limit. S3: a ping while another isn't answered. S5: a second ping while a publish waits.
+    /// S6: a subscribe without filters. S8: a publish whose topic alias is above the broker's maximum. S12.
+    /// After a refusal the session is unchanged, but a ping that was refused while a publish waits is
+    /// counted.
+    #[tactic(auto, unfolding(crate::specs::Requests::out))]
+    pub fn handle_outgoing_packet(
+        &mut self,
+        request: Request,
+        at: u64,
+    ) -> Result<Option<Packet>, StateError>
+        ensures { Sends result self.old self.new (out self.old request at) }
+    {
+        match request {
+            Request::Publish(publish) => self.send_publish(publish, at),
+            Request::PubRel(release) => self.send_pubrel(release.pkid, at),
+            Request::Subscribe(subscribe) => self.send_subscribe(subscribe, at),
+            Request::Unsubscribe(unsubscribe) => self.send_unsubscribe(unsubscribe, at),
+            Request::PingReq => self.send_ping(at),
+            Request::Disconnect => self.send_disconnect(at),
+            Request::PubAck(ack) => self.send_puback(ack, at),
+            Request::PubRec(ack) => self.send_pubrec(ack, at),
+            _other => Err(StateError::InvalidState),
+        }
+    }
+
+    /// Takes a packet from the broker at a moment, tells of it, and answers what to send. S2: an ack or a
+    /// PubRel of an id that awaits none. S4: an Auth, or a packet that a broker never sends. S10: a
+    /// Disconnect. S11: a ConnAck that refuses the connection. S12, which leaves the session unchanged; after
+    /// another refusal the packet's event stands, and nothing else is changed.
+    #[tactic(auto, unfolding(crate::specs::Packets::inc))]
+    pub fn handle_incoming_packet(
+        &mut self,
+        packet: Incoming,
+        at: u64,
+    ) -> Result<Option<Packet>, StateError>
+        ensures { Hears result self.old self.new (inc self.old packet at) }
+    {
+        match packet {
+            Packet::PubAck(ack) => self.hear_puback(ack, at),
+            Packet::PubRec(ack) => self.hear_pubrec(ack, at),
+            Packet::PubComp(ack) => self.hear_pubcomp(ack, at),
+            Packet::PubRel(release) => self.hear_pubrel(release, at),
+            Packet::Publish(publish) => self.hear_publish(publish, at),
+            Packet::ConnAck(ack) => self.hear_connack(ack, at),
+            Packet::PingResp(answer) => self.hear_pingresp(Packet::PingResp(answer), at),
+            Packet::SubAck(ack) => self.take(Packet::SubAck(ack), at),
+            Packet::UnsubAck(ack) => self.take(Packet::UnsubAck(ack), at),
+            Packet::Disconnect(disconnect) => self.hear_disconnect(disconnect),
+            other => self.refuse(other),
+        }
+    }
+
+    /// Tells of a Disconnect with ProtocolError, and answers it to send. S12; the session is then unchanged.
+    pub fn handle_protocol_error(&mut self) -> Result<Option<Packet>, StateError>
+        ensures { Sends result self.old self.new (protocol_error self.old) }
+    {
+        self.tell(Outgoing::Disconnect)?;
+        Ok(Some(as_disconnect(DisconnectReasonCode::ProtocolError)))
+    }
+
+    /// Answers what is to be sent again, the publishes that await an ack and then the releases, each by
+    /// rising id, and makes all ids free, those of the broker too; no ping is awaited then. S12; the session
+    /// is then unchanged.
+    pub fn clean(&mut self) -> Result<Vec<Request>, StateError>
+        ensures ok { IfOk result (λ v. v.items ≡ requests_of self.old.core.limit self.old.core.held) }
+        ensures cleaned { OnOk result (self.new ≡ cleaned self.old) }
+        ensures err { IfErr result (λ e. e ≡ StateError.OutOfMemory) }
+        ensures kept { OnErr result (self.new ≡ self.old) }
+    {
+        let requests = self.slots.requests()?;
+        self.slots.clear();
+        self.incoming.clear();
+        self.awaits_ping = false;
+        self.collision_pings = 0;
+        Ok(requests)
+    }
+
+    /// Tells of what is answered to send.
+    fn tell(&mut self, outgoing: Outgoing) -> Result<(), AllocError>
+        ensures ok { OnOk result (self.new ≡ tells self.old outgoing) }
+        ensures err { OnErr result (self.new ≡ self.old) }
+    {
+        self.events.reserve(1)?;
+        self.events.push_back_reserved(Event::Outgoing(outgoing));
+        Ok(())
+    }
+}
+
+/// A clone is the same session. Err where memory is refused.
+impl Clone for MqttState {
+    ghost is_clone = { λ s copy. copy ≡ s };
+
+    fn clone(&self) -> Result<MqttState, AllocError> {
+        Ok(MqttState {
+            slots: self.slots.clone()?,
+            waiting: copied(&self.waiting)?,
+            last_pkid: self.last_pkid,
+            current: self.current,
+            aliases: self.aliases.clone()?,
+            alias_max: self.alias_max,
+            manual_acks: self.manual_acks,
+            incoming: self.incoming.clone()?,
+            awaits_ping: self.awaits_ping,
+            collision_pings: self.collision_pings,
+            events: copied_queue(&self.events)?,
+            last_incoming: self.last_incoming,
+            last_outgoing: self.last_outgoing,
+        })
+    }
+}
+
+/// A clone of a queue, which has the same items.
+fn copied_queue<T: Exact>(queue: &VecDeque<T>) -> Result<VecDeque<T>, AllocError>
+    ensures { IfOk result (λ copy. copy.items ≡ queue.now.items) }
+{
+    queue.clone()
+}

@@ -1,0 +1,96 @@
+//! Packets made of what they hold: each in a function of its own, which the prover takes a second for.
+
+ghost use Rattle.std.specs.Prelude.{◌≡◌, None, option_map};
+ghost use Rattle.mqtt5_session.specs.Requests.{release_of, disconnect_of};
+
+use mqtt5_codec::Packet;
+use mqtt5_flow::{PingReq, PubAck, PubComp, PubRec, PubRel, Publish};
+use mqtt5_link::{ConnAck, Disconnect, DisconnectReasonCode};
+use mqtt5_subs::{Subscribe, Unsubscribe};
+
+/// A publish to send, as a packet.
+pub(super) fn as_reply(sent: Option<Publish>) -> Option<Packet>
+    ensures { result ≡ option_map Packet.Publish sent }
+{
+    match sent {
+        Some(publish) => Some(as_publish(publish)),
+        None => None,
+    }
+}
+
+pub(super) fn as_publish(publish: Publish) -> Packet
+    ensures { result ≡ Packet.Publish publish }
+{
+    Packet::Publish(publish)
+}
+
+pub(super) fn as_puback(ack: PubAck) -> Packet
+    ensures { result ≡ Packet.PubAck ack }
+{
+    Packet::PubAck(ack)
+}
+
+pub(super) fn as_pubrec(ack: PubRec) -> Packet
+    ensures { result ≡ Packet.PubRec ack }
+{
+    Packet::PubRec(ack)
+}
+
+pub(super) fn as_pubrel(release: PubRel) -> Packet
+    ensures { result ≡ Packet.PubRel release }
+{
+    Packet::PubRel(release)
+}
+
+pub(super) fn as_pubcomp(ack: PubComp) -> Packet
+    ensures { result ≡ Packet.PubComp ack }
+{
+    Packet::PubComp(ack)
+}
+
+/// A PubRel of success.
+pub(super) fn as_release(id: u16) -> Packet
+    ensures { result ≡ release_of id }
+{
+    as_pubrel(PubRel::new(id, None))
+}
+
+pub(super) fn as_subscribe(subscribe: Subscribe) -> Packet
+    ensures { result ≡ Packet.Subscribe subscribe }
+{
+    Packet::Subscribe(subscribe)
+}
+
+pub(super) fn as_unsubscribe(unsubscribe: Unsubscribe) -> Packet
+    ensures { result ≡ Packet.Unsubscribe unsubscribe }
+{
+    Packet::Unsubscribe(unsubscribe)
+}
+
+pub(super) fn as_ping() -> Packet
+    ensures { result ≡ Packet.PingReq (record {}) }
+{
+    Packet::PingReq(PingReq)
+}
+
+pub(super) fn as_connack(ack: ConnAck) -> Packet
+    ensures { result ≡ Packet.ConnAck ack }
+{
+    Packet::ConnAck(ack)
+}
+
+pub(super) fn disconnect_packet(disconnect: Disconnect) -> Packet
+    ensures { result ≡ Packet.Disconnect disconnect }
+{
+    Packet::Disconnect(disconnect)
+}
+
+/// A Disconnect without properties.
+pub(super) fn as_disconnect(code: DisconnectReasonCode) -> Packet
+    ensures { result ≡ disconnect_of code }
+{
+    disconnect_packet(Disconnect {
+        reason_code: code,
+        properties: None,
+    })
+}

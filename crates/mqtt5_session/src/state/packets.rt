@@ -1,0 +1,431 @@
+//! What each packet from the broker makes of the session.
+
+ghost use Rattle.std.specs.Prelude.{◌≡◌, ◌<◌, ◌≤◌, IfOk, OnOk, OnErr, Ok, Err, Some, None, is_some, true, false, unwrap_or};
+ghost use Rattle.std.specs.FinSet as set;
+ghost use Rattle.mqtt5_session.specs.Release.{sent_for, held_after, waiting_after, IsCounted};
+ghost use Rattle.mqtt5_session.specs.Session.{Session, Hears, tells};
+ghost use Rattle.mqtt5_session.specs.Requests.{alias_of, disconnect_of};
+ghost use Rattle.mqtt5_session.specs.Packets.{hears, takes, heard, told, freed_for, is_taken, on_received, on_released, topic_under, topics_with, ids_with, on_qos, aliases_allowed, current_allowed, on_connack, reason_in};
+
+use super::MqttState;
+use super::packed::{
+    as_connack, as_disconnect, as_puback, as_pubcomp, as_publish, as_pubrec, as_pubrel, as_release,
+    as_reply, disconnect_packet,
+};
+use super::requests::alias_of;
+use crate::aliases::Aliases;
+use crate::error::StateError;
+use crate::event::{Event, Outgoing};
+use crate::ids::Ids;
+use crate::slot::Slot;
+use crate::slots::Slots;
+use bytes::Bytes;
+use mqtt5_base::{QoS, Text, copied};
+use mqtt5_codec::Packet;
+use mqtt5_flow::{PubAck, PubComp, PubRec, PubRecReason, PubRel, PubRelReason, Publish};
+use mqtt5_link::{
+    ConnAck, ConnAckProperties, ConnectReturnCode, Disconnect, DisconnectProperties,
+    DisconnectReasonCode,
+};
+use std::alloc::AllocError;
+
+impl MqttState {
+    /// Adds the event of a packet.
+    fn note(&mut self, packet: Packet) -> Result<(), AllocError>
+        ensures ok { OnOk result (self.new ≡ hears self.old packet) }
+        ensures err { OnErr result (self.new ≡ self.old) }
+    {
+        self.events.reserve(1)?;
+        self.events.push_back_reserved(Event::Incoming(packet));
+        Ok(())
+    }
+
+    /// A packet of a type that the session doesn't take.
+    pub(super) fn refuse(&mut self, packet: Packet) -> Result<Option<Packet>, StateError>
+        ensures { Hears result self.old self.new (Err StateError.WrongPacket, hears self.old packet) }
+    {
+        self.note(packet)?;
+        Err(StateError::WrongPacket)
+    }
+
+    /// A packet that has no answer.
+    pub(super) fn take(&mut self, packet: Packet, at: u64) -> Result<Option<Packet>, StateError>
+        ensures { Hears result self.old self.new (takes (hears self.old packet) at) }
+    {
+        self.note(packet)?;
+        self.last_incoming = at;
+        Ok(None)
+    }
+
+    pub(super) fn hear_pingresp(
+        &mut self,
+        packet: Packet,
+        at: u64,
+    ) -> Result<Option<Packet>, StateError>
+        ensures { Hears result self.old self.new (takes (record (hears self.old packet) { awaits_ping = false }) at) }
+    {
+        self.note(packet)?;
+        self.awaits_ping = false;
+        self.last_incoming = at;
+        Ok(None)
+    }
+
+    pub(super) fn hear_puback(&mut self, ack: PubAck, at: u64) -> Result<Option<Packet>, StateError>
+        ensures { Hears result self.old self.new (heard (hears self.old (Packet.PubAck ack)) (Packet.PubAck ack) at) }
+    {
+        let id = ack.pkid;
+        if self.slots.sent(id).is_none() {
+            self.note(as_puback(ack))?;
+            return Err(StateError::Unsolicited(id));
+        }
+        self.free(as_puback(ack), id, at)
+    }
+
+    pub(super) fn hear_pubrec(&mut self, ack: PubRec, at: u64) -> Result<Option<Packet>, StateError>
+        ensures { Hears result self.old self.new (heard (hears self.old (Packet.PubRec ack)) (Packet.PubRec ack) at) }
+    {
+        let id = ack.pkid;
+        if self.slots.sent(id).is_none() {
+            self.note(as_pubrec(ack))?;
+            return Err(StateError::Unsolicited(id));
+        }
+        if !is_taken(ack.reason) {
+            return self.free(as_pubrec(ack), id, at);
+        }
+        self.release_sent(as_pubrec(ack), id, at)
+    }
+
+    pub(super) fn hear_pubcomp(
+        &mut self,
+        ack: PubComp,
+        at: u64,
+    ) -> Result<Option<Packet>, StateError>
+        ensures { Hears result self.old self.new (heard (hears self.old (Packet.PubComp ack)) (Packet.PubComp ack) at) }
+    {
+        let id = ack.pkid;
+        if !self.slots.is_released(id) {
+            self.note(as_pubcomp(ack))?;
+            return Err(StateError::Unsolicited(id));
+        }
+        self.free(as_pubcomp(ack), id, at)
+    }
+
+    /// Makes an id free, and sends the publish that waits for it.
+    fn free(&mut self, packet: Packet, id: u16, at: u64) -> Result<Option<Packet>, StateError>
+        requires low { 0 < id }
+        requires high { id ≤ self.old.core.limit }
+        ensures { Hears result self.old self.new (freed_for self.old.core.waiting (hears self.old packet) id at) }
+    {
+        self.events.reserve(2)?;
+        let sent = release(&mut self.slots, &mut self.waiting, id)?;
+        self.events.push_back_reserved(Event::Incoming(packet));
+        self.last_incoming = at;
+        if sent.is_some() {
+            self.events
+                .push_back_reserved(Event::Outgoing(Outgoing::Publish(id)));
+            self.collision_pings = 0;
+        }
+        Ok(as_reply(sent))
+    }
+
+    /// Releases an id whose publish was taken.
+    fn release_sent(
+        &mut self,
+        packet: Packet,
+        id: u16,
+        at: u64,
+    ) -> Result<Option<Packet>, StateError>
+        requires low { 0 < id }
+        requires high { id ≤ self.old.core.limit }
+        ensures { Hears result self.old self.new (on_received true (hears self.old packet) id at) }
+    {
+        self.events.reserve(2)?;
+        self.slots.insert(id, Slot::Released)?;
+        self.events.push_back_reserved(Event::Incoming(packet));
+        self.events
+            .push_back_reserved(Event::Outgoing(Outgoing::PubRel(id)));
+        self.last_incoming = at;
+        Ok(Some(as_release(id)))
+    }
+
+    pub(super) fn hear_pubrel(
+        &mut self,
+        release: PubRel,
+        at: u64,
+    ) -> Result<Option<Packet>, StateError>
+        ensures { Hears result self.old self.new (heard (hears self.old (Packet.PubRel release)) (Packet.PubRel release) at) }
+    {
+        let id = release.pkid;
+        let reason = release.reason;
+        if !self.incoming.contains(id) {
+            self.note(as_pubrel(release))?;
+            return Err(StateError::Unsolicited(id));
+        }
+        self.complete(as_pubrel(release), reason, id, at)
+    }
+
+    /// Takes out the id of a publish that was released.
+    fn complete(
+        &mut self,
+        packet: Packet,
+        reason: PubRelReason,
+        id: u16,
+        at: u64,
+    ) -> Result<Option<Packet>, StateError>
+        ensures { Hears result self.old self.new (on_released reason (record (hears self.old packet) { incoming = set.remove self.old.incoming id }) id at) }
+    {
+        self.events.reserve(2)?;
+        self.incoming.remove(id);
+        self.events.push_back_reserved(Event::Incoming(packet));
+        self.last_incoming = at;
+        if reason != PubRelReason::Success {
+            return Ok(None);
+        }
+        self.events
+            .push_back_reserved(Event::Outgoing(Outgoing::PubComp(id)));
+        Ok(Some(as_pubcomp(PubComp::new(id, None))))
+    }
+
+    pub(super) fn hear_publish(
+        &mut self,
+        mut publish: Publish,
+        at: u64,
+    ) -> Result<Option<Packet>, StateError>
+        ensures { Hears result self.old self.new (heard (hears self.old (told self.old (Packet.Publish publish))) (Packet.Publish publish) at) }
+    {
+        let topic = copied(&publish.topic)?;
+        let alias = alias_of(&publish);
+        let id = publish.pkid;
+        let qos = publish.qos;
+        if !name(&self.aliases, &mut publish)? {
+            return self.refuse_alias(as_publish(publish), at);
+        }
+        self.take_publish(as_publish(publish), alias, topic, qos, id, at)
+    }
+
+    /// Answers a publish under an alias that isn't known.
+    fn refuse_alias(&mut self, packet: Packet, at: u64) -> Result<Option<Packet>, StateError>
+        ensures { Hears result self.old self.new (Ok (Some (disconnect_of DisconnectReasonCode.ProtocolError)), record (tells (hears self.old packet) Outgoing.Disconnect) { last_incoming = at }) }
+    {
+        self.events.reserve(2)?;
+        self.events.push_back_reserved(Event::Incoming(packet));
+        self.events
+            .push_back_reserved(Event::Outgoing(Outgoing::Disconnect));
+        self.last_incoming = at;
+        Ok(Some(as_disconnect(DisconnectReasonCode::ProtocolError)))
+    }
+
+    /// Keeps the alias and the id of a publish, and answers it.
+    fn take_publish(
+        &mut self,
+        packet: Packet,
+        alias: Option<u16>,
+        topic: Bytes,
+        qos: QoS,
+        id: u16,
+        at: u64,
+    ) -> Result<Option<Packet>, StateError>
+        ensures { Hears result self.old self.new (on_qos qos (record (hears self.old packet) { core = record self.old.core { aliases = topics_with alias topic self.old.core.aliases }; incoming = ids_with qos self.old.incoming id }) id at) }
+    {
+        self.events.reserve(2)?;
+        keep(&mut self.aliases, &mut self.incoming, alias, topic, qos, id)?;
+        self.events.push_back_reserved(Event::Incoming(packet));
+        self.last_incoming = at;
+        if qos == QoS::AtMostOnce || self.manual_acks {
+            return Ok(None);
+        }
+        if qos == QoS::AtLeastOnce {
+            self.events
+                .push_back_reserved(Event::Outgoing(Outgoing::PubAck(id)));
+            return Ok(Some(as_puback(PubAck::new(id, None))));
+        }
+        self.events
+            .push_back_reserved(Event::Outgoing(Outgoing::PubRec(id)));
+        Ok(Some(as_pubrec(PubRec::new(id, None))))
+    }
+
+    pub(super) fn hear_connack(
+        &mut self,
+        ack: ConnAck,
+        at: u64,
+    ) -> Result<Option<Packet>, StateError>
+        ensures { Hears result self.old self.new (on_connack ack.code ack.properties (hears self.old (Packet.ConnAck ack)) at) }
+    {
+        match ack.code {
+            ConnectReturnCode::Success => {
+                let alias_max = aliases_allowed(&ack.properties, self.alias_max);
+                let current = current_allowed(&ack.properties, self.slots.limit(), self.current);
+                self.allow(as_connack(ack), alias_max, current, at)
+            }
+            reason => {
+                self.note(as_connack(ack))?;
+                Err(StateError::ConnFail { reason })
+            }
+        }
+    }
+
+    /// Keeps what the broker allows.
+    fn allow(
+        &mut self,
+        packet: Packet,
+        alias_max: u16,
+        current: u16,
+        at: u64,
+    ) -> Result<Option<Packet>, StateError>
+        requires { current ≤ self.old.core.limit }
+        ensures { Hears result self.old self.new (takes (record (hears self.old packet) { core = record self.old.core { alias_max = alias_max; current = current } }) at) }
+    {
+        self.note(packet)?;
+        self.alias_max = alias_max;
+        self.current = current;
+        self.last_incoming = at;
+        Ok(None)
+    }
+
+    pub(super) fn hear_disconnect(
+        &mut self,
+        disconnect: Disconnect,
+    ) -> Result<Option<Packet>, StateError>
+        ensures { Hears result self.old self.new (Err (StateError.ServerDisconnect disconnect.reason_code (reason_in disconnect.properties)), hears self.old (Packet.Disconnect disconnect)) }
+    {
+        let reason_code = disconnect.reason_code;
+        let reason_string = reason_in(&disconnect.properties)?;
+        self.note(disconnect_packet(disconnect))?;
+        Err(StateError::ServerDisconnect {
+            reason_code,
+            reason_string,
+        })
+    }
+}
+
+/// Whether a publish was taken.
+fn is_taken(reason: PubRecReason) -> bool
+    ensures { result ≡ is_taken reason }
+{
+    matches!(
+        reason,
+        PubRecReason::Success | PubRecReason::NoMatchingSubscribers
+    )
+}
+
+/// Makes an id free, or stores the publish that waits for it and answers that.
+fn release(
+    slots: &mut Slots,
+    waiting: &mut Option<Publish>,
+    id: u16,
+) -> Result<Option<Publish>, AllocError>
+    requires low { 0 < id }
+    requires high { id ≤ slots.old.limit }
+    requires counted { IsCounted waiting.old }
+    ensures sent { IfOk result (λ sent. sent ≡ sent_for waiting.old id) }
+    ensures slots { OnOk result (slots.new ≡ record slots.old { held = held_after waiting.old slots.old.held id }) }
+    ensures waiting { OnOk result (waiting.new ≡ waiting_after waiting.old id) }
+    ensures kept { OnErr result (slots.new ≡ slots.old) }
+    ensures waits { OnErr result (waiting.new ≡ waiting.old) }
+{
+    match waiting {
+        Some(publish) if publish.pkid == id => {
+            let sent = copied(publish)?;
+            slots.insert(id, Slot::Sent(sent))?;
+            Ok(waiting.take())
+        }
+        _ => {
+            slots.remove(id);
+            Ok(None)
+        }
+    }
+}
+
+/// Gives a publish without a topic the one that its alias stands for, and answers whether that is known.
+fn name(topics: &Aliases, publish: &mut Publish) -> Result<bool, AllocError>
+    ensures known { IfOk result (λ known. known ≡ is_some (topic_under (alias_of publish.old) publish.old.topic topics.now)) }
+    ensures topic { OnOk result (publish.new ≡ record publish.old { topic = unwrap_or (topic_under (alias_of publish.old) publish.old.topic topics.now) publish.old.topic }) }
+{
+    let Some(alias) = alias_of(publish) else {
+        return Ok(true);
+    };
+    if !publish.topic.is_empty() {
+        return Ok(true);
+    }
+    match topics.get(alias) {
+        Some(topic) => {
+            publish.topic = copied(topic)?;
+            Ok(true)
+        }
+        None => Ok(false),
+    }
+}
+
+/// Keeps the topic of an alias, and the id of a publish of QoS 2, both or none.
+fn keep(
+    topics: &mut Aliases,
+    ids: &mut Ids,
+    alias: Option<u16>,
+    topic: Bytes,
+    qos: QoS,
+    id: u16,
+) -> Result<(), AllocError>
+    ensures topics { OnOk result (topics.new ≡ topics_with alias topic topics.old) }
+    ensures ids { OnOk result (ids.new ≡ ids_with qos ids.old id) }
+    ensures topics_stay { OnErr result (topics.new ≡ topics.old) }
+    ensures ids_stay { OnErr result (ids.new ≡ ids.old) }
+{
+    if qos != QoS::ExactlyOnce {
+        return keep_topic(topics, alias, topic);
+    }
+    let was_kept = ids.contains(id);
+    ids.insert(id)?;
+    let Err(refused) = keep_topic(topics, alias, topic) else {
+        return Ok(());
+    };
+    if !was_kept {
+        ids.remove(id);
+    }
+    Err(refused)
+}
+
+/// Keeps the topic of an alias.
+fn keep_topic(topics: &mut Aliases, alias: Option<u16>, topic: Bytes) -> Result<(), AllocError>
+    ensures topics { OnOk result (topics.new ≡ topics_with alias topic topics.old) }
+    ensures topics_stay { OnErr result (topics.new ≡ topics.old) }
+{
+    match alias {
+        Some(alias) if !topic.is_empty() => topics.insert(alias, topic),
+        _ => Ok(()),
+    }
+}
+
+/// The broker's maximum of topic aliases.
+fn aliases_allowed(properties: &Option<ConnAckProperties>, max: u16) -> u16
+    ensures { result ≡ aliases_allowed properties.now max }
+{
+    match properties {
+        Some(set) => set.topic_alias_max.unwrap_or(max),
+        None => max,
+    }
+}
+
+/// The current maximum of ids in use.
+fn current_allowed(properties: &Option<ConnAckProperties>, limit: u16, current: u16) -> u16
+    requires { current ≤ limit }
+    ensures allowed { result ≡ current_allowed properties.now limit current }
+    ensures within { result ≤ limit }
+{
+    match properties {
+        Some(set) => match set.receive_max {
+            Some(max) => max.min(limit),
+            None => current,
+        },
+        None => current,
+    }
+}
+
+/// Why the broker ends the connection, as a text.
+fn reason_in(properties: &Option<DisconnectProperties>) -> Result<Option<Text>, AllocError>
+    ensures { IfOk result (λ text. text ≡ reason_in properties.now) }
+{
+    match properties {
+        Some(set) => copied(&set.reason_string),
+        None => Ok(None),
+    }
+}
