@@ -2,8 +2,6 @@
 #![tactic(auto)]
 
 mod aliases;
-#[cfg(test)]
-mod clean_tests;
 mod error;
 mod event;
 mod exact;
@@ -11,8 +9,6 @@ mod ids;
 mod slot;
 mod slots;
 mod state;
-#[cfg(test)]
-mod tests;
 
 pub use error::StateError;
 pub use event::{Event, Incoming, Outgoing, Request};
