@@ -5,6 +5,7 @@ mod cleaning;
 mod connection;
 mod ids;
 mod releases;
+mod resuming;
 mod sets;
 mod values;
 
@@ -33,9 +34,14 @@ fn fault_number(error: StateError) -> u32 {
     }
 }
 
-/// What a packet to send is told as.
+/// What a reply is told as.
 fn sent(reply: &Option<Packet>) -> Option<Outgoing> {
-    match reply.as_ref()? {
+    sent_as(reply.as_ref()?)
+}
+
+/// What a packet to send is told as.
+fn sent_as(packet: &Packet) -> Option<Outgoing> {
+    match packet {
         Packet::Publish(publish) => Some(Outgoing::Publish(publish.pkid)),
         Packet::PubAck(ack) => Some(Outgoing::PubAck(ack.pkid)),
         Packet::PubRec(ack) => Some(Outgoing::PubRec(ack.pkid)),
@@ -167,4 +173,23 @@ fn full(alloc: Global) -> Result<MqttState, StateError> {
         let _sent = publishes(&mut state, alloc, QoS::ExactlyOnce, 0);
     }
     Ok(state)
+}
+
+fn hears_alias_max(
+    state: &mut MqttState,
+    alloc: Global,
+    max: u16,
+) -> Result<Option<Outgoing>, u32> {
+    hears(state, Packet::ConnAck(connack(alloc, None, Some(max))))
+}
+
+fn publishes_under(
+    state: &mut MqttState,
+    alloc: Global,
+    alias: u16,
+) -> Result<Option<Outgoing>, u32> {
+    match under_alias(alloc, "a/b", alias) {
+        Ok(publish) => asks(state, Request::Publish(publish)),
+        Err(error) => Err(fault_number(error)),
+    }
 }

@@ -1,5 +1,5 @@
 -- A run over two lists.
-use Rattle.std.proofs.Common.{◌≡◌, ℕ, List, [], ◌∷◌, ◌++◌, Option, Result, Ok, Err, refl, sym, ap, ◌∙◌, append_assoc}
+use Rattle.std.proofs.Common.{◌≡◌, ℕ, List, [], ◌∷◌, ◌++◌, Option, Result, Ok, Err, refl, sym, ap, ◌∙◌, subst, inl, inr, ◌⊎◌, ⊎_elim, append_assoc}
 use Rattle.mqtt5_base.specs.Front.{Front, Bad, More, Whole}
 use Rattle.mqtt5_base.specs.FrontAt.{front}
 use Rattle.mqtt5_base.specs.declared.error.Error.{Error}
@@ -10,8 +10,9 @@ use Rattle.mqtt5_session.specs.Session.{Session}
 use Rattle.mqtt5_session.specs.Requests.{out}
 use Rattle.mqtt5_session.specs.Packets.{inc}
 use Rattle.mqtt5_session.specs.declared.error.StateError.{StateError}
+use Rattle.mqtt5_session.specs.declared.error.StateError.TheVariants as faults
 use Rattle.mqtt5_drive.specs.declared.run.Step.{Step}
-use Rattle.mqtt5_drive.specs.Course.{Course, Rests, Faults, Moves, End, Ending, Holds, Fault, finish}
+use Rattle.mqtt5_drive.specs.Course.{Course, Rests, Faults, Moves, End, Ending, Holds, Fault, finish, Passes, Stops}
 use Rattle.mqtt5_drive.specs.Run.{Turn, Byte, Ask, of_input, turns, reply_bytes, answered, moved, received, looked, run}
 
 -- a course, and from where it rests another
@@ -62,3 +63,24 @@ pub twice : (codec : Codec) (s t : Session) (o u held left : List ℕ) (first se
 twice codec s t o u held left first second e =
     ap (λ (xs : List Turn). finish s o (run codec xs s held)) (turns-append first second) ∙ ap (finish s o) (run_both codec (turns first) (turns second) s held)
     ∙ finish_after (λ v h. run codec (turns second) v h) s o (run codec (turns first) s held) t u left e
+
+pub twice_ok : (codec : Codec) (s t v : Session) (o u w held left last : List ℕ) (first second : List Step) → finish s o (run codec (turns first) s held) ≡ record { session = t; output = u; ending = Holds left }
+    → finish t u (run codec (turns second) t left) ≡ record { session = v; output = w; ending = Holds last }
+    → finish s o (run codec (turns (first ++ second)) s held) ≡ record { session = v; output = w; ending = Holds last }
+twice_ok codec s t v o u w held left last first second e f = twice codec s t o u held left first second e ∙ f
+
+-- a point of the second course is one of both
+passes_after : (k : Session → List ℕ → Course) (s : Session) (o : List ℕ) (c : Course) (t : Session) (u left : List ℕ) (v : Session) (w : List ℕ) → finish s o c ≡ record { session = t; output = u; ending = Holds left } → Passes t u (k t left) v w → Passes s o (after s c k) v w
+passes_after k s o (Rests held) t u left v w e h = subst (λ (x : End). Passes x.session x.output (k x.session (held_of x.ending)) v w) (sym e) h
+passes_after k s o (Faults f) t u left v w e h = let x = ap (λ (x : End). x.ending) e in absurd cc
+passes_after k s o (Moves next reply c) t u left v w e h = inr (inr (passes_after k next (o ++ reply) c t u left v w e h))
+
+pub twice_stops : (codec : Codec) (s t v : Session) (o u w held left : List ℕ) (first second : List Step) (why : StateError) → finish s o (run codec (turns first) s held) ≡ record { session = t; output = u; ending = Holds left }
+    → Stops why t u (run codec (turns second) t left) v w → Stops why s o (run codec (turns (first ++ second)) s held) v w
+twice_stops codec s t v o u w held left first second why e h = ⊎_elim
+    (λ (m : (why ≡ faults.OutOfMemory) × Passes t u (run codec (turns second) t left) v w). inl (m.0, subst (λ (c : Course). Passes s o c v w) (sym both) (passes_after (λ x y. run codec (turns second) x y) s o (run codec (turns first) s held) t u left v w e m.1)))
+    (λ (f : finish t u (run codec (turns second) t left) ≡ record { session = v; output = w; ending = Fault why }). inr (twice codec s t o u held left first second e ∙ f))
+    h
+  where
+    both : run codec (turns (first ++ second)) s held ≡ after s (run codec (turns first) s held) (λ x y. run codec (turns second) x y)
+    both = ap (λ (xs : List Turn). run codec xs s held) (turns-append first second) ∙ run_both codec (turns first) (turns second) s held

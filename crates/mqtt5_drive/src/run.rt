@@ -1,6 +1,7 @@
 //! The loop: bytes in pieces and requests go in, frames and events come out.
 
-ghost use Rattle.std.specs.Prelude.{◌≡◌, ℕ, Some, List, [], ◌∷◌, ◌++◌, Option, IfErr, OnOk, IsOk};
+ghost use Rattle.std.specs.Prelude.{◌≡◌, ℕ, Some, List, [], ◌++◌, map, Option, IfErr, OnOk, IsOk};
+ghost use Rattle.std.specs.List.{concat};
 ghost use Rattle.mqtt5_base.specs.FrontAt.{front};
 ghost use Rattle.mqtt5_codec.specs.declared.codec.Codec.{Codec};
 ghost use Rattle.mqtt5_session.specs.Session.{Session};
@@ -164,16 +165,26 @@ pub fn may_start()
     ensures { (limit : Option ℕ) (input : List ℕ) → input ≡ [] → IsMore (front limit input) }
 {}
 
-/// Cutting a piece in two changes nothing, where both keep its moment.
+/// A law, which does nothing when it is called: any two ways of cutting the same bytes into pieces, with the
+/// same moment, are the same run, whatever comes before and after.
 pub fn cutting()
-    ensures { (codec : Codec) (s : Session) (held : List ℕ) (before after : List Step) (at : ℕ) (left right : List ℕ)
-        → run codec (turns (before ++ piece at (left ++ right) ∷ after)) s held
-        ≡ run codec (turns (before ++ piece at left ∷ piece at right ∷ after)) s held }
+    ensures { (codec : Codec) (s : Session) (held : List ℕ) (before after : List Step) (at : ℕ) (pieces others : List (List ℕ))
+        → concat pieces ≡ concat others
+        → run codec (turns (before ++ map (piece at) pieces ++ after)) s held
+        ≡ run codec (turns (before ++ map (piece at) others ++ after)) s held }
 {}
 
-/// A second run from where a first one without fault ended is the run over the steps of both.
+/// A law of two calls of `drive` over the same state and buffers, the first of which answered Ok: together
+/// they are one call over the steps of both. Its premises are what the two calls ensure.
 pub fn twice()
-    ensures { (codec : Codec) (s t : Session) (o u held left : List ℕ) (first second : List Step)
+    // Where the second answers Ok, so does the one call, with the session, output and bytes held that it left.
+    ensures ok { (codec : Codec) (s t v : Session) (o u w held left last : List ℕ) (first second : List Step)
         → finish s o (run codec (turns first) s held) ≡ record { session = t; output = u; ending = Holds left }
-        → finish s o (run codec (turns (first ++ second)) s held) ≡ finish t u (run codec (turns second) t left) }
+        → finish t u (run codec (turns second) t left) ≡ record { session = v; output = w; ending = Holds last }
+        → finish s o (run codec (turns (first ++ second)) s held) ≡ record { session = v; output = w; ending = Holds last } }
+    // Where the second stops, the one call may stop so too.
+    ensures stops { (codec : Codec) (s t v : Session) (o u w held left : List ℕ) (first second : List Step) (why : StateError)
+        → finish s o (run codec (turns first) s held) ≡ record { session = t; output = u; ending = Holds left }
+        → Stops why t u (run codec (turns second) t left) v w
+        → Stops why s o (run codec (turns (first ++ second)) s held) v w }
 {}

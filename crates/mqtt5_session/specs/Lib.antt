@@ -7,5 +7,7 @@ pub mod Session
 pub mod Requests
 pub mod Packets
 pub mod Cleaning
+pub mod Again
+pub mod Ledger
 pub mod Sound
 pub mod Release

@@ -3,8 +3,10 @@
 ghost use Rattle.std.specs.Prelude.{◌≡◌, OnOk, OnErr};
 ghost use Rattle.std.specs.FinMap as map;
 ghost use Rattle.std.specs.Option.{option_copied};
+ghost use Rattle.mqtt5_session.specs.Requests.{alias_of, alias_over};
 
 use bytes::Bytes;
+use mqtt5_flow::Publish;
 use std::alloc::{AllocError, Global};
 use std::collections::BTreeMap;
 use std::marker::Model;
@@ -62,5 +64,25 @@ impl Clone for Aliases {
         Ok(Aliases {
             topics: self.topics.clone()?,
         })
+    }
+}
+
+/// The alias of a publish.
+pub fn alias_of(publish: &Publish) -> Option<u16>
+    ensures { result ≡ alias_of publish.now }
+{
+    match &publish.properties {
+        Some(properties) => properties.topic_alias,
+        None => None,
+    }
+}
+
+/// The alias of a publish, where it is above the maximum.
+pub fn alias_over(publish: &Publish, max: u16) -> Option<u16>
+    ensures { result ≡ alias_over max (alias_of publish.now) }
+{
+    match alias_of(publish) {
+        Some(alias) if alias > max => Some(alias),
+        _ => None,
     }
 }

@@ -6,10 +6,13 @@ mod error;
 mod event;
 mod exact;
 mod ids;
+mod laws;
+mod packed;
 mod slot;
 mod slots;
 mod state;
 
 pub use error::StateError;
 pub use event::{Event, Incoming, Outgoing, Request};
+pub use laws::ledger_law;
 pub use state::MqttState;

@@ -1,15 +1,19 @@
 //! The packet identifiers in use: a table of publishes, a list of flags and a count.
 
-ghost use Rattle.std.specs.Prelude.{◌≡◌, ◌<◌, ◌≤◌, ◌+◌, ◌^◌, IsTrue, IsSome, IfSome, IsOk, IfOk, OnOk, OnErr, ◌++◌, slice_set, slice_index_or, vec_len, length, ℕ, Some, None, false, if◌then◌else◌};
+ghost use Rattle.std.specs.Prelude.{◌≡◌, ◌<◌, ◌≤◌, ◌+◌, ◌^◌, IsTrue, IsSome, IfSome, IsOk, IfOk, OnOk, OnErr, ◌++◌, slice_get, slice_set, slice_index_or, vec_len, length, ℕ, Some, None, false, if◌then◌else◌};
 ghost use Rattle.std.specs.FinMap as map;
-ghost use Rattle.std.specs.Option.{option_copied};
+ghost use Rattle.std.specs.Option.{option_copied, option_to_list};
 ghost use Rattle.mqtt5_session.specs.Held.{HasId, IsWithin, awaiting_ack, is_released};
 ghost use Rattle.mqtt5_session.specs.Table.{slot_of};
 ghost use Rattle.mqtt5_session.specs.Cleaning.{by_id, publish_again, release_again, requests_of};
+ghost use Rattle.mqtt5_session.specs.Again.{packet_for, alias_again, packets_of};
 
+use crate::aliases::alias_over;
 use crate::event::Request;
+use crate::packed::{as_publish, as_pubrel};
 use crate::slot::Slot;
 use mqtt5_base::{Exact, copied};
+use mqtt5_codec::Packet;
 use mqtt5_flow::{PubRel, Publish};
 use std::alloc::{AllocError, Global};
 use std::marker::Model;
@@ -104,7 +108,8 @@ impl Slots {
 
     /// What is to be sent again: the publishes, then the releases, each by rising id.
     pub fn requests(&self) -> Result<Vec<Request>, AllocError>
-        ensures { IfOk result (λ v. v.items ≡ requests_of self.now.limit self.now.held) }
+        ensures items { IfOk result (λ v. v.items ≡ requests_of self.now.limit self.now.held) }
+        ensures count { IfOk result (λ v. length v.items ≡ map.len self.now.held) }
     {
         let mut requests = Vec::with_capacity(self.alloc, self.count as usize)?;
         self.push_sent(&mut requests)?;
@@ -132,6 +137,41 @@ impl Slots {
             }
         }
         Ok(())
+    }
+
+    /// The packets that these are sent as.
+    pub fn packets(&self) -> Result<Vec<Packet>, AllocError>
+        ensures { IfOk result (λ v. v.items ≡ packets_of self.now.limit self.now.held) }
+    {
+        let requests = self.requests()?;
+        let mut packets = Vec::with_capacity(self.alloc, requests.len())?;
+        for request in requests {
+            if let Some(packet) = as_packet(request) {
+                packets.push(packet)?;
+            }
+        }
+        Ok(packets)
+    }
+
+    /// The first topic alias above a maximum, by rising id.
+    pub fn alias_over(&self, max: u16) -> Option<u16>
+        ensures first { result ≡ slice_get (by_id (alias_again max) self.now.limit self.now.held) 0 }
+        ensures within { IsWithin self.now.limit self.now.held }
+    {
+        prove!(self.sent.len() > 0);
+        for before in 0..self.limit() {
+            let alias = self.alias_at(before + 1, max);
+            if alias.is_some() {
+                return alias;
+            }
+        }
+        None
+    }
+
+    fn alias_at(&self, id: u16, max: u16) -> Option<u16>
+        ensures { option_to_list result ≡ alias_again max id (map.get self.now.held id) }
+    {
+        alias_over(self.sent(id)?, max)
     }
 
     /// Sets what is known of an id. Only an id that wasn't in use may take memory.
@@ -184,6 +224,17 @@ impl Clone for Slots {
             count: self.count,
             alloc: self.alloc,
         })
+    }
+}
+
+/// The packet that a request is sent as.
+fn as_packet(request: Request) -> Option<Packet>
+    ensures { result ≡ packet_for request }
+{
+    match request {
+        Request::Publish(publish) => Some(as_publish(publish)),
+        Request::PubRel(release) => Some(as_pubrel(release)),
+        _other => None,
     }
 }
 

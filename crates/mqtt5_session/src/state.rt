@@ -1,6 +1,6 @@
 //! The session.
 
-ghost use Rattle.std.specs.Prelude.{◌≡◌, ◌<◌, IfOk, IfErr, OnOk, OnErr, drop, slice_get};
+ghost use Rattle.std.specs.Prelude.{◌≡◌, ◌+◌, ◌<◌, length, IfOk, IfErr, OnOk, OnErr, drop, slice_get};
 ghost use Rattle.std.specs.FinMap as map;
 ghost use Rattle.std.specs.FinSet as set;
 ghost use Rattle.std.specs.Option.{option_copied};
@@ -8,26 +8,27 @@ ghost use Rattle.mqtt5_session.specs.Held.{IsWithin, awaiting_ack, is_released};
 ghost use Rattle.mqtt5_session.specs.Session.{Sends, Hears, fresh, tells};
 ghost use Rattle.mqtt5_session.specs.Requests.{out, protocol_error};
 ghost use Rattle.mqtt5_session.specs.Packets.{inc};
-ghost use Rattle.mqtt5_session.specs.Cleaning.{requests_of, cleaned};
+ghost use Rattle.mqtt5_session.specs.Cleaning.{requests_of, cleaned, resume_of, Resumes};
+ghost use Rattle.mqtt5_session.specs.Ledger.{owed, adds, ends, accepted};
 
-/// Each packet's making.
-mod packed;
 /// What each packet from the broker makes of the session.
 mod packets;
 /// What each request makes of it.
 mod requests;
+/// What is sent again on a new connection.
+mod resuming;
 
 use crate::aliases::Aliases;
 use crate::error::StateError;
 use crate::event::{Event, Incoming, Outgoing, Request};
 use crate::ids::Ids;
+use crate::packed::as_disconnect;
 use crate::slots::Slots;
 use bytes::Bytes;
 use mqtt5_base::{Exact, copied};
 use mqtt5_codec::Packet;
 use mqtt5_flow::Publish;
 use mqtt5_link::DisconnectReasonCode;
-use packed::as_disconnect;
 use std::alloc::{AllocError, Global};
 use std::collections::VecDeque;
 use std::marker::Model;
@@ -250,12 +251,19 @@ impl MqttState {
     /// S6: a subscribe without filters. S8: a publish whose topic alias is above the broker's maximum. S12.
     /// After a refusal the session is unchanged, but a ping that was refused while a publish waits is
     /// counted.
-    #[tactic(auto, unfolding(crate::specs::Requests::out))]
     pub fn handle_outgoing_packet(
         &mut self,
         request: Request,
         at: u64,
     ) -> Result<Option<Packet>, StateError>
+        ensures step { Sends result self.old self.new (out self.old request at) }
+        ensures ledger { owed self.new.core ≡ owed self.old.core + accepted result (adds self.old.core request) }
+    {
+        self.send(request, at)
+    }
+
+    #[tactic(auto, unfolding(crate::specs::Requests::out))]
+    fn send(&mut self, request: Request, at: u64) -> Result<Option<Packet>, StateError>
         ensures { Sends result self.old self.new (out self.old request at) }
     {
         match request {
@@ -275,12 +283,19 @@ impl MqttState {
     /// PubRel of an id that awaits none. S4: an Auth, or a packet that a broker never sends. S10: a
     /// Disconnect. S11: a ConnAck that refuses the connection. S12, which leaves the session unchanged; after
     /// another refusal the packet's event stands, and nothing else is changed.
-    #[tactic(auto, unfolding(crate::specs::Packets::inc))]
     pub fn handle_incoming_packet(
         &mut self,
         packet: Incoming,
         at: u64,
     ) -> Result<Option<Packet>, StateError>
+        ensures step { Hears result self.old self.new (inc self.old packet at) }
+        ensures ledger { owed self.new.core + accepted result (ends packet) ≡ owed self.old.core }
+    {
+        self.hear(packet, at)
+    }
+
+    #[tactic(auto, unfolding(crate::specs::Packets::inc))]
+    fn hear(&mut self, packet: Incoming, at: u64) -> Result<Option<Packet>, StateError>
         ensures { Hears result self.old self.new (inc self.old packet at) }
     {
         match packet {
@@ -300,7 +315,8 @@ impl MqttState {
 
     /// Tells of a Disconnect with ProtocolError, and answers it to send. S12; the session is then unchanged.
     pub fn handle_protocol_error(&mut self) -> Result<Option<Packet>, StateError>
-        ensures { Sends result self.old self.new (protocol_error self.old) }
+        ensures step { Sends result self.old self.new (protocol_error self.old) }
+        ensures ledger { owed self.new.core ≡ owed self.old.core }
     {
         self.tell(Outgoing::Disconnect)?;
         Ok(Some(as_disconnect(DisconnectReasonCode::ProtocolError)))
@@ -312,6 +328,7 @@ impl MqttState {
     pub fn clean(&mut self) -> Result<Vec<Request>, StateError>
         ensures ok { IfOk result (λ v. v.items ≡ requests_of self.old.core.limit self.old.core.held) }
         ensures cleaned { OnOk result (self.new ≡ cleaned self.old) }
+        ensures ledger { IfOk result (λ v. owed self.new.core + length v.items ≡ owed self.old.core) }
         ensures err { IfErr result (λ e. e ≡ StateError.OutOfMemory) }
         ensures kept { OnErr result (self.new ≡ self.old) }
     {
@@ -321,6 +338,17 @@ impl MqttState {
         self.awaits_ping = false;
         self.collision_pings = 0;
         Ok(requests)
+    }
+
+    /// Answers what is to be sent on a new connection to the kept session, and tells of it: all that `clean`
+    /// would give, and it stays in use; the ids of the broker are free then, and no ping is awaited. S8 for
+    /// the first publish, by rising id, whose topic alias is above the broker's maximum. S12. After a refusal
+    /// the session is unchanged.
+    pub fn resume(&mut self, at: u64) -> Result<Vec<Packet>, StateError>
+        ensures sends { Resumes result self.old self.new (resume_of self.old at) }
+        ensures ledger { owed self.new.core ≡ owed self.old.core }
+    {
+        self.send_again(at)
     }
 
     /// Tells of what is answered to send.

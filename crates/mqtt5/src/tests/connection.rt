@@ -1,8 +1,8 @@
 //! Connections, their limits, pings and ends.
 
 use super::{
-    asks, connack, fault_number, hears, hears_ack, publishes, reason_sent, told_sent, under_alias,
-    waiting_id,
+    asks, connack, hears, hears_ack, hears_alias_max, publishes, publishes_under, reason_sent,
+    told_sent, waiting_id,
 };
 use crate::mqttbytes::QoS;
 use crate::mqttbytes::v5::{
@@ -19,25 +19,6 @@ fn hears_receive_max(
     max: u16,
 ) -> Result<Option<Outgoing>, u32> {
     hears(state, Packet::ConnAck(connack(alloc, Some(max), None)))
-}
-
-fn hears_alias_max(
-    state: &mut MqttState,
-    alloc: Global,
-    max: u16,
-) -> Result<Option<Outgoing>, u32> {
-    hears(state, Packet::ConnAck(connack(alloc, None, Some(max))))
-}
-
-fn publishes_under(
-    state: &mut MqttState,
-    alloc: Global,
-    alias: u16,
-) -> Result<Option<Outgoing>, u32> {
-    match under_alias(alloc, "a/b", alias) {
-        Ok(publish) => asks(state, Request::Publish(publish)),
-        Err(error) => Err(fault_number(error)),
-    }
 }
 
 /// Why the connection was refused; None where it wasn't.

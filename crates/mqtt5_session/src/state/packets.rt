@@ -8,15 +8,14 @@ ghost use Rattle.mqtt5_session.specs.Requests.{alias_of, disconnect_of};
 ghost use Rattle.mqtt5_session.specs.Packets.{hears, takes, heard, told, freed_for, is_taken, on_received, on_released, topic_under, topics_with, ids_with, on_qos, aliases_allowed, current_allowed, on_connack, reason_in};
 
 use super::MqttState;
-use super::packed::{
-    as_connack, as_disconnect, as_puback, as_pubcomp, as_publish, as_pubrec, as_pubrel, as_release,
-    as_reply, disconnect_packet,
-};
-use super::requests::alias_of;
-use crate::aliases::Aliases;
+use crate::aliases::{Aliases, alias_of};
 use crate::error::StateError;
 use crate::event::{Event, Outgoing};
 use crate::ids::Ids;
+use crate::packed::{
+    as_connack, as_disconnect, as_puback, as_pubcomp, as_publish, as_pubrec, as_pubrel, as_release,
+    as_reply, disconnect_packet,
+};
 use crate::slot::Slot;
 use crate::slots::Slots;
 use bytes::Bytes;

@@ -3,15 +3,16 @@
 ghost use Rattle.std.specs.Prelude.{◌≡◌, ◌≢◌, ◌<◌, ◌≤◌, OnOk, OnErr, None, Ok};
 ghost use Rattle.mqtt5_base.specs.declared.quality.QoS.TheVariants.{AtMostOnce};
 ghost use Rattle.mqtt5_session.specs.Session.{Session, Sends};
-ghost use Rattle.mqtt5_session.specs.Requests.{id_for, last_after, alias_of, alias_over, tells_at, out_once, out_identified, out_publish, stored, awaits, out_release, out_subscribe, out_unsubscribe, pings_with, counts_ping, out_ping, disconnect_of};
+ghost use Rattle.mqtt5_session.specs.Requests.{id_for, last_after, tells_at, out_once, out_identified, out_publish, stored, awaits, out_release, out_subscribe, out_unsubscribe, pings_with, counts_ping, out_ping, disconnect_of};
 
 use super::MqttState;
-use super::packed::{
+use crate::aliases::alias_over;
+use crate::error::StateError;
+use crate::event::{Event, Outgoing};
+use crate::packed::{
     as_disconnect, as_ping, as_puback, as_publish, as_pubrec, as_release, as_subscribe,
     as_unsubscribe,
 };
-use crate::error::StateError;
-use crate::event::{Event, Outgoing};
 use crate::slot::Slot;
 use mqtt5_base::{QoS, copied};
 use mqtt5_codec::Packet;
@@ -228,26 +229,6 @@ impl MqttState {
     {
         self.tell_at(Outgoing::PubRec(ack.pkid), at)?;
         Ok(Some(as_pubrec(ack)))
-    }
-}
-
-/// The alias of a publish.
-pub(super) fn alias_of(publish: &Publish) -> Option<u16>
-    ensures { result ≡ alias_of publish.now }
-{
-    match &publish.properties {
-        Some(properties) => properties.topic_alias,
-        None => None,
-    }
-}
-
-/// The alias of a publish, where it is above the maximum.
-fn alias_over(publish: &Publish, max: u16) -> Option<u16>
-    ensures { result ≡ alias_over max (alias_of publish.now) }
-{
-    match alias_of(publish) {
-        Some(alias) if alias > max => Some(alias),
-        _ => None,
     }
 }
 

@@ -9,7 +9,7 @@ use mqtt5_link::{ConnAck, Disconnect, DisconnectReasonCode};
 use mqtt5_subs::{Subscribe, Unsubscribe};
 
 /// A publish to send, as a packet.
-pub(super) fn as_reply(sent: Option<Publish>) -> Option<Packet>
+pub fn as_reply(sent: Option<Publish>) -> Option<Packet>
     ensures { result ≡ option_map Packet.Publish sent }
 {
     match sent {
@@ -18,75 +18,75 @@ pub(super) fn as_reply(sent: Option<Publish>) -> Option<Packet>
     }
 }
 
-pub(super) fn as_publish(publish: Publish) -> Packet
+pub fn as_publish(publish: Publish) -> Packet
     ensures { result ≡ Packet.Publish publish }
 {
     Packet::Publish(publish)
 }
 
-pub(super) fn as_puback(ack: PubAck) -> Packet
+pub fn as_puback(ack: PubAck) -> Packet
     ensures { result ≡ Packet.PubAck ack }
 {
     Packet::PubAck(ack)
 }
 
-pub(super) fn as_pubrec(ack: PubRec) -> Packet
+pub fn as_pubrec(ack: PubRec) -> Packet
     ensures { result ≡ Packet.PubRec ack }
 {
     Packet::PubRec(ack)
 }
 
-pub(super) fn as_pubrel(release: PubRel) -> Packet
+pub fn as_pubrel(release: PubRel) -> Packet
     ensures { result ≡ Packet.PubRel release }
 {
     Packet::PubRel(release)
 }
 
-pub(super) fn as_pubcomp(ack: PubComp) -> Packet
+pub fn as_pubcomp(ack: PubComp) -> Packet
     ensures { result ≡ Packet.PubComp ack }
 {
     Packet::PubComp(ack)
 }
 
 /// A PubRel of success.
-pub(super) fn as_release(id: u16) -> Packet
+pub fn as_release(id: u16) -> Packet
     ensures { result ≡ release_of id }
 {
     as_pubrel(PubRel::new(id, None))
 }
 
-pub(super) fn as_subscribe(subscribe: Subscribe) -> Packet
+pub fn as_subscribe(subscribe: Subscribe) -> Packet
     ensures { result ≡ Packet.Subscribe subscribe }
 {
     Packet::Subscribe(subscribe)
 }
 
-pub(super) fn as_unsubscribe(unsubscribe: Unsubscribe) -> Packet
+pub fn as_unsubscribe(unsubscribe: Unsubscribe) -> Packet
     ensures { result ≡ Packet.Unsubscribe unsubscribe }
 {
     Packet::Unsubscribe(unsubscribe)
 }
 
-pub(super) fn as_ping() -> Packet
+pub fn as_ping() -> Packet
     ensures { result ≡ Packet.PingReq (record {}) }
 {
     Packet::PingReq(PingReq)
 }
 
-pub(super) fn as_connack(ack: ConnAck) -> Packet
+pub fn as_connack(ack: ConnAck) -> Packet
     ensures { result ≡ Packet.ConnAck ack }
 {
     Packet::ConnAck(ack)
 }
 
-pub(super) fn disconnect_packet(disconnect: Disconnect) -> Packet
+pub fn disconnect_packet(disconnect: Disconnect) -> Packet
     ensures { result ≡ Packet.Disconnect disconnect }
 {
     Packet::Disconnect(disconnect)
 }
 
 /// A Disconnect without properties.
-pub(super) fn as_disconnect(code: DisconnectReasonCode) -> Packet
+pub fn as_disconnect(code: DisconnectReasonCode) -> Packet
     ensures { result ≡ disconnect_of code }
 {
     disconnect_packet(Disconnect {

@@ -1,5 +1,5 @@
 use Rattle.std.proofs.Common.{None}
-use Rattle.mqtt5_drive.proofs.tests.driven.Goals as goal
+use Rattle.mqtt5_drive.proofs.tests.acked_by_two_calls.Goals as goal
 
 -- an empty stream needs two bytes more
 pub drive-requires : goal.drive-requires

@@ -1,0 +1,239 @@
+-- What each call does to what is owed.
+use Rattle.std.proofs.Common.{◌≡◌, ℕ, zero, suc, ◌+◌, ◌-◌, ◌<◌, ◌≤◌, Bool, true, false, cond, List, ◌==◌, length, Option, Some, None, Result, Err, refl, sym, ap, ◌∙◌, subst, arith, nat_lt}
+use Rattle.std.proofs.lemmas.List.{length-append}
+use Rattle.std.proofs.lemmas.Bool.{ltb-false}
+use Rattle.std.specs.Prelude.{is_some}
+use Rattle.std.specs.Cmp.{nat_cmp_total}
+use Rattle.std.specs.FinMap.{get, len, insert, remove, contains_key, len-insert, len-remove, len-empty}
+use Rattle.std.specs.FinSet as set
+use Rattle.std.specs.Ordering.{nat_cmp}
+use Rattle.mqtt5_base.specs.declared.quality.QoS.{QoS}
+use Rattle.mqtt5_base.specs.declared.quality.QoS.TheVariants.{AtMostOnce, AtLeastOnce, ExactlyOnce}
+use Rattle.mqtt5_flow.specs.declared.publish.Publish.{Publish}
+use Rattle.mqtt5_flow.specs.declared.puback.PubAckReason.{PubAckReason}
+use Rattle.mqtt5_flow.specs.declared.pubrel.PubRelReason.{PubRelReason}
+use Rattle.mqtt5_flow.specs.declared.pubrel.PubRelReason.TheVariants as pubrel_reasons
+use Rattle.mqtt5_link.specs.declared.connack.ConnectReturnCode.{ConnectReturnCode}
+use Rattle.mqtt5_link.specs.declared.connack.ConnectReturnCode.TheVariants as return_codes
+use Rattle.mqtt5_link.specs.declared.connack.ConnAckProperties.{ConnAckProperties}
+use Rattle.mqtt5_codec.specs.declared.packet.Packet.{Packet}
+use Rattle.mqtt5_codec.specs.declared.packet.Packet.TheVariants as packets
+use Rattle.mqtt5_session.specs.declared.slot.Slot.{Slot}
+use Rattle.mqtt5_session.specs.declared.slot.Slot.TheVariants.{Sent, Released}
+use Rattle.mqtt5_session.specs.declared.event.Request.{Request}
+use Rattle.mqtt5_session.specs.declared.event.Request.TheVariants as requests
+use Rattle.mqtt5_session.specs.declared.event.Outgoing.{Outgoing}
+use Rattle.mqtt5_session.specs.declared.error.StateError.{StateError}
+use Rattle.mqtt5_session.specs.declared.error.StateError.TheVariants as errors
+use Rattle.mqtt5_session.specs.Held.{Held}
+use Rattle.mqtt5_session.specs.Session.{Core, Session, Answer, Sends, Hears}
+use Rattle.mqtt5_session.specs.Requests.{out, unless, over_maximum, judged, by_alias, by_use, Verdict, Refuse, Wait, Store, out_acked, out_publish, out_release, out_known, id_for, last_after, counts_ping, ping_fault}
+use Rattle.mqtt5_session.specs.Packets.{inc, heard, hears, told, freed_for, on_puback, on_received, on_pubrec, on_pubcomp, on_pubrel, on_publish, on_qos, answers, on_connack, is_taken, topic_of}
+use Rattle.mqtt5_session.specs.Cleaning.{by_id, publish_again, release_again, requests_of}
+use Rattle.mqtt5_session.specs.Ledger.{one_of, owed, owed_at, adds, ends, accepted}
+use Rattle.mqtt5_session.proofs.Tables.{one_in_use}
+use Rattle.mqtt5_session.proofs.Resume.{no_ids, is_sent, is_kept, with_slot, map_to, above, Fits, FreeFor, free_first, free_then, whole_map}
+
+-- what an answer owes, where n is added on success
+abbrev Adds : Session → ℕ → Answer → Type 0
+Adds s n a = owed a.1.core ≡ owed s.core + accepted a.0 n
+
+-- the same, where n is taken on success
+abbrev Takes : Session → ℕ → Answer → Type 0
+Takes s n a = owed a.1.core + accepted a.0 n ≡ owed s.core
+
+choose : (P : Answer → Type 0) (b : Bool) (x y : Answer) → (b ≡ true → P x) → (b ≡ false → P y) → P (cond b x y)
+choose P true x y f g = f refl
+choose P false x y f g = g refl
+
+unless_adds : (s : Session) (n : ℕ) (e : Option StateError) (a : Answer) → Adds s n a → Adds s n (unless e s a)
+unless_adds s n None a h = h
+unless_adds s n (Some e) a h = omega arith
+
+-- ---- the number of ids
+
+len_used : (m : Held) (id : ℕ) (x y : Slot) → get m id ≡ Some x → len (insert m id y) ≡ len m
+len_used m id x y e = len-insert nat_cmp_total m id y ∙ ap (λ b. cond b (len m) (len m + 1)) (ap is_some e)
+
+len_free : (m : Held) (id : ℕ) (y : Slot) → get m id ≡ None → len (insert m id y) ≡ len m + 1
+len_free m id y e = len-insert nat_cmp_total m id y ∙ ap (λ b. cond b (len m) (len m + 1)) (ap is_some e)
+
+len_removed : (m : Held) (id : ℕ) (x : Slot) → get m id ≡ Some x → len (remove m id) + 1 ≡ len m
+len_removed m id x e =
+    let some : 0 < len m = one_in_use m id (ap is_some e) in
+    let less : len (remove m id) ≡ len m - 1 = len-remove nat_cmp_total m id ∙ ap (λ b. cond b (len m - 1) (len m)) (ap is_some e) in
+    omega arith
+
+-- ---- requests
+
+-- the id of what was judged to be stored is free, and where a publish is to wait none waits
+abbrev pub Judges : Core → Publish → Verdict → Type 0
+Judges c p (Refuse e) = Unit {0}
+Judges c p Wait = c.waiting ≡ None
+Judges c p Store = (get c.held p.pkid ≡ None) × (p.pkid ≤ c.limit)
+
+judges_use : (c : Core) (p : Publish) (x : Option Slot) (w : Option Publish) → p.pkid ≤ c.limit → get c.held p.pkid ≡ x → c.waiting ≡ w → Judges c p (by_use x w)
+judges_use c p None w h e f = (e, h)
+judges_use c p (Some x) None h e f = f
+judges_use c p (Some x) (Some q) h e f = tt {0}
+
+judges_alias : (c : Core) (p : Publish) (e : Option StateError) (v : Verdict) → Judges c p v → Judges c p (by_alias e v)
+judges_alias c p None v h = h
+judges_alias c p (Some e) v h = tt {0}
+
+pub judges : (c : Core) (p : Publish) → Judges c p (judged c p)
+judges c p = by (nat_lt c.limit p.pkid) refl
+  where
+    by : (b : Bool) → nat_lt c.limit p.pkid ≡ b → Judges c p (cond b (Refuse (errors.Unsolicited p.pkid)) (by_alias (over_maximum c p) (by_use (get c.held p.pkid) c.waiting)))
+    by true e = tt {0}
+    by false e = judges_alias c p (over_maximum c p) (by_use (get c.held p.pkid) c.waiting) (judges_use c p (get c.held p.pkid) c.waiting (ltb-false c.limit p.pkid e) refl refl)
+
+acked_adds : (v : Verdict) (s : Session) (p : Publish) (last at : ℕ) → Judges s.core p v → Adds s 1 (out_acked v s p last at)
+acked_adds (Refuse e) s p last at h = omega arith
+acked_adds Wait s p last at h = let w : one_of s.core.waiting ≡ 0 = ap one_of h in omega arith
+acked_adds Store s p last at h = let n : len (insert s.core.held p.pkid (Sent p)) ≡ len s.core.held + 1 = len_free s.core.held p.pkid (Sent p) h.0 in omega arith
+
+publish_adds : (q : QoS) (s : Session) (p : Publish) (at : ℕ) → Adds s (owed_at q) (out_publish q s p at)
+publish_adds AtMostOnce s p at = unless_adds s 0 (over_maximum s.core p) _ (omega arith)
+publish_adds AtLeastOnce s p at = acked_adds _ s (record p { pkid = id_for s.core p.pkid }) (last_after s.core p.pkid) at (judges s.core (record p { pkid = id_for s.core p.pkid }))
+publish_adds ExactlyOnce s p at = acked_adds _ s (record p { pkid = id_for s.core p.pkid }) (last_after s.core p.pkid) at (judges s.core (record p { pkid = id_for s.core p.pkid }))
+
+known_adds : (x : Option Slot) (s : Session) (id last at : ℕ) → get s.core.held id ≡ x → Adds s (cond (is_some x) 0 1) (out_known x s id last at)
+known_adds None s id last at e = let n : len (insert s.core.held id Released) ≡ len s.core.held + 1 = len_free s.core.held id Released e in omega arith
+known_adds (Some Released) s id last at e = let n : len (insert s.core.held id Released) ≡ len s.core.held = len_used s.core.held id Released Released e in omega arith
+known_adds (Some (Sent p)) s id last at e = omega arith
+
+release_adds : (s : Session) (id last at : ℕ) → Adds s (cond (contains_key s.core.held id) 0 1) (out_release s id last at)
+release_adds s id last at = choose (Adds s (cond (contains_key s.core.held id) 0 1)) (nat_lt s.core.limit id) _ _ (λ _. omega arith) (λ _. known_adds (get s.core.held id) s id last at refl)
+
+pub out_adds : (s : Session) (r : Request) (at : ℕ) → Adds s (adds s.core r) (out s r at)
+unfolding out
+out_adds s (requests.Publish p) at = publish_adds p.qos s p at
+out_adds s (requests.PubRel p) at = release_adds s (id_for s.core p.pkid) (last_after s.core p.pkid) at
+out_adds s (requests.Subscribe p) at = choose (Adds s 0) (length p.filters == 0) _ _ (λ _. omega arith) (λ _. omega arith)
+out_adds s (requests.Unsubscribe p) at = omega arith
+out_adds s requests.PingReq at = unless_adds (counts_ping s) 0 (ping_fault s.core.waiting (counts_ping s).collision_pings s.awaits_ping) _ (omega arith)
+out_adds s requests.Disconnect at = omega arith
+out_adds s (requests.PubAck p) at = omega arith
+out_adds s (requests.PubRec p) at = omega arith
+out_adds s (requests.PubComp p) at = omega arith
+out_adds s requests.PingResp at = omega arith
+out_adds s (requests.SubAck p) at = omega arith
+out_adds s (requests.UnsubAck p) at = omega arith
+
+-- ---- packets
+
+-- an id that was in use is ended
+freed_takes : (w : Option Publish) (s : Session) (id at : ℕ) (x : Slot) → s.core.waiting ≡ w → get s.core.held id ≡ Some x → Takes s 1 (freed_for w s id at)
+freed_takes None s id at x e f =
+    let n : len (remove s.core.held id) + 1 ≡ len s.core.held = len_removed s.core.held id x f in
+    omega arith
+freed_takes (Some p) s id at x e f = choose (Takes s 1) (p.pkid == id) _ _
+    (λ _. let n : len (insert s.core.held id (Sent p)) ≡ len s.core.held = len_used s.core.held id x (Sent p) f in let w : one_of s.core.waiting ≡ 1 = ap one_of e in omega arith)
+    (λ _. let n : len (remove s.core.held id) + 1 ≡ len s.core.held = len_removed s.core.held id x f in omega arith)
+
+puback_takes : (x : Option Slot) (s : Session) (id at : ℕ) → get s.core.held id ≡ x → Takes s 1 (on_puback x s id at)
+puback_takes None s id at e = omega arith
+puback_takes (Some Released) s id at e = omega arith
+puback_takes (Some (Sent p)) s id at e = freed_takes s.core.waiting s id at (Sent p) refl e
+
+pubcomp_takes : (x : Option Slot) (s : Session) (id at : ℕ) → get s.core.held id ≡ x → Takes s 1 (on_pubcomp x s id at)
+pubcomp_takes None s id at e = omega arith
+pubcomp_takes (Some (Sent p)) s id at e = omega arith
+pubcomp_takes (Some Released) s id at e = freed_takes s.core.waiting s id at Released refl e
+
+received_takes : (b : Bool) (s : Session) (id at : ℕ) (x : Slot) → get s.core.held id ≡ Some x → Takes s (cond b 0 1) (on_received b s id at)
+received_takes true s id at x e = let n : len (insert s.core.held id Released) ≡ len s.core.held = len_used s.core.held id x Released e in omega arith
+received_takes false s id at x e = freed_takes s.core.waiting s id at x refl e
+
+pubrec_takes : (x : Option Slot) (s : Session) (reason : PubAckReason) (id at : ℕ) → get s.core.held id ≡ x → Takes s (cond (is_taken reason) 0 1) (on_pubrec x s reason id at)
+pubrec_takes None s reason id at e = omega arith
+pubrec_takes (Some Released) s reason id at e = omega arith
+pubrec_takes (Some (Sent p)) s reason id at e = received_takes (is_taken reason) s id at (Sent p) e
+
+pubrel_takes : (b : Bool) (s : Session) (reason : PubRelReason) (id at : ℕ) → Takes s 0 (on_pubrel b s reason id at)
+pubrel_takes false s reason id at = omega arith
+pubrel_takes true s pubrel_reasons.Success id at = omega arith
+pubrel_takes true s reason id at = omega arith
+
+answers_takes : (b : Bool) (ack : Packet) (event : Outgoing) (s : Session) (at : ℕ) → Takes s 0 (answers b ack event s at)
+answers_takes true ack event s at = omega arith
+answers_takes false ack event s at = omega arith
+
+qos_takes : (q : QoS) (s : Session) (id at : ℕ) → Takes s 0 (on_qos q s id at)
+qos_takes AtMostOnce s id at = omega arith
+qos_takes AtLeastOnce s id at = answers_takes s.core.manual_acks _ _ s at
+qos_takes ExactlyOnce s id at = answers_takes s.core.manual_acks _ _ s at
+
+publish_takes : (b : Bool) (s : Session) (p : Publish) (at : ℕ) → Takes s 0 (on_publish b s p at)
+publish_takes true s p at = qos_takes p.qos _ p.pkid at
+publish_takes false s p at = omega arith
+
+connack_takes : (code : ConnectReturnCode) (properties : Option ConnAckProperties) (s : Session) (at : ℕ) → Takes s 0 (on_connack code properties s at)
+connack_takes return_codes.Success properties s at = omega arith
+connack_takes code properties s at = omega arith
+
+heard_takes : (s : Session) (packet : Packet) (at : ℕ) → Takes s (ends packet) (heard s packet at)
+heard_takes s (packets.PubAck p) at = puback_takes (get s.core.held p.pkid) s p.pkid at refl
+heard_takes s (packets.PubRec p) at = pubrec_takes (get s.core.held p.pkid) s p.reason p.pkid at refl
+heard_takes s (packets.PubComp p) at = pubcomp_takes (get s.core.held p.pkid) s p.pkid at refl
+heard_takes s (packets.PubRel p) at = pubrel_takes (set.contains s.incoming p.pkid) s p.reason p.pkid at
+heard_takes s (packets.Publish p) at = publish_takes (is_some (topic_of s p)) s p at
+heard_takes s (packets.ConnAck p) at = connack_takes p.code p.properties s at
+heard_takes s packet at = omega arith
+
+pub inc_takes : (s : Session) (packet : Packet) (at : ℕ) → Takes s (ends packet) (inc s packet at)
+unfolding inc
+inc_takes s packet at = heard_takes (hears s (told s packet)) packet at
+
+-- ---- the clauses of calls
+
+pub adds_of : (result : Result (Option Packet) StateError) (old new : Session) (n : ℕ) (a : Answer) → Adds old n a → Sends result old new a → owed new.core ≡ owed old.core + accepted result n
+adds_of (Err errors.OutOfMemory) old new n a law h = let e = ap (λ s. owed s.core) h.0 in omega arith
+adds_of result old new n a law h = ap (λ s. owed s.core) h.1 ∙ law ∙ ap (λ x. owed old.core + accepted x n) (sym h.0)
+
+pub takes_of : (result : Result (Option Packet) StateError) (old new : Session) (n : ℕ) (a : Answer) → Takes old n a → Hears result old new a → owed new.core + accepted result n ≡ owed old.core
+takes_of (Err errors.OutOfMemory) old new n a law h = let e = ap (λ s. owed s.core) h in omega arith
+takes_of result old new n a law h = ap (λ s. owed s.core + accepted result n) h.1 ∙ ap (λ x. owed a.1.core + accepted x n) h.0 ∙ law
+
+-- ---- what a clean gives
+
+abbrev chosen : (Slot → Bool) → Option Slot → ℕ
+chosen ok None = 0
+chosen ok (Some x) = cond (ok x) 1 0
+
+len_with : (ok : Slot → Bool) (id : ℕ) (x : Option Slot) (b : Held) → FreeFor ok x (get b id) → len (with_slot ok id x b) ≡ len b + chosen ok x
+len_with ok id None b free = omega arith
+len_with ok id (Some x) b free = by (ok x) free
+  where
+    by : (t : Bool) → (t ≡ true → get b id ≡ None) → len (cond t (insert b id x) b) ≡ len b + cond t 1 0
+    by true free = len_free b id x (free refl)
+    by false free = omega arith
+
+len_to : (ok : Slot → Bool) (f : ℕ → Option Slot → List Request) → ((id : ℕ) (x : Option Slot) → length (f id x) ≡ chosen ok x) → (h b : Held) → ((k : ℕ) → FreeFor ok (get h k) (get b k)) → (n : ℕ) → len (map_to ok n h b) ≡ len b + length (by_id f n h)
+len_to ok f one h b free zero = omega arith
+len_to ok f one h b free (suc n) =
+    let here = len_with ok (suc n) (get h (suc n)) (map_to ok n h b) (subst (FreeFor ok (get h (suc n))) (sym (above ok h b n (suc n) (omega arith))) (free (suc n))) in
+    let rest = len_to ok f one h b free n in
+    let some = one (suc n) (get h (suc n)) in
+    let both = length-append (by_id f n h) (f (suc n) (get h (suc n))) in
+    omega arith
+
+one_sent : (id : ℕ) (x : Option Slot) → length (publish_again id x) ≡ chosen is_sent x
+one_sent id None = refl
+one_sent id (Some (Sent p)) = refl
+one_sent id (Some Released) = refl
+
+one_kept : (id : ℕ) (x : Option Slot) → length (release_again id x) ≡ chosen is_kept x
+one_kept id None = refl
+one_kept id (Some (Sent p)) = refl
+one_kept id (Some Released) = refl
+
+pub requests_len : (limit : ℕ) (h : Held) → ((k : ℕ) → Fits limit k (get h k)) → length (requests_of limit h) ≡ len h
+requests_len n h fit =
+    let sent = len_to is_sent publish_again one_sent h no_ids (free_first h) n in
+    let kept = len_to is_kept release_again one_kept h (map_to is_sent n h no_ids) (λ k. free_then n h k (fit k)) n in
+    let none : len no_ids ≡ 0 = len-empty nat_cmp _ in
+    let whole = ap len (whole_map n h fit) in
+    let both = length-append (by_id publish_again n h) (by_id release_again n h) in
+    omega arith

@@ -1,0 +1,321 @@
+-- To resume sends the packets of what is held, in one piece, and keeps what is held.
+use Rattle.std.proofs.Common.{◌≡◌, ◌≢◌, ℕ, zero, suc, ◌<◌, ◌≤◌, Bool, true, false, cond, List, [], ◌∷◌, ◌++◌, ◌==◌, Option, Some, None, Result, Ok, Err, refl, sym, ap, ◌∙◌, subst, ⊎_elim, arith, rules, le-ltb, ne_eqb, append_assoc, append-nil}
+use Rattle.std.specs.List.{filter_map}
+use Rattle.std.specs.Option.{option_to_list}
+use Rattle.std.proofs.lemmas.List.Elements.{filter_map-append}
+use Rattle.std.proofs.lemmas.Bool.{cases_eq}
+use Rattle.std.specs.Prelude.{is_some}
+use Rattle.std.specs.Cmp.{nat_cmp_total, unsigned_tied}
+use Rattle.std.specs.Ordering.{nat_cmp, eq_by_cmp}
+use Rattle.std.specs.FinMap.{get, insert, empty, same_map, get-empty, get-insert, nat_cmp-IsAntisymmetric}
+use Rattle.mqtt5_base.specs.declared.quality.QoS.{QoS}
+use Rattle.mqtt5_base.specs.declared.quality.QoS.TheVariants.{AtMostOnce, AtLeastOnce, ExactlyOnce}
+use Rattle.mqtt5_flow.specs.declared.publish.Publish.{Publish}
+use Rattle.mqtt5_codec.specs.declared.packet.Packet.{Packet}
+use Rattle.mqtt5_codec.specs.declared.packet.Packet.TheVariants as packets
+use Rattle.mqtt5_session.specs.declared.slot.Slot.{Slot}
+use Rattle.mqtt5_session.specs.declared.slot.Slot.TheVariants.{Sent, Released}
+use Rattle.mqtt5_session.specs.declared.event.Request.{Request}
+use Rattle.mqtt5_session.specs.declared.event.Request.TheVariants as requests
+use Rattle.mqtt5_session.specs.declared.error.StateError.{StateError}
+use Rattle.mqtt5_session.specs.declared.error.StateError.TheVariants as errors
+use Rattle.mqtt5_session.specs.Held.{Held, HasId, OwnId, IsWithin}
+use Rattle.mqtt5_session.specs.Session.{Session, Answer}
+use Rattle.mqtt5_session.specs.Requests.{out, alias_of, alias_over, alias_fault, id_for, last_after, by_alias, by_use, over_maximum, Refuse, Store, out_acked, out_identified, out_publish, out_release, out_known, stored}
+use Rattle.mqtt5_session.specs.Cleaning.{by_id, publish_again, release_again, cleaned, Sendings, with_reply, send_all, resume_of}
+use Rattle.mqtt5_session.specs.Again.{packet_for, event_for, moment_after, alias_again, after_sent, sent_unless, packets_of, resumed}
+
+-- ---- one list of requests after another
+
+abbrev pub sent_before : List Packet → Sendings → Sendings
+sent_before ps (Err e) = Err e
+sent_before ps (Ok r) = Ok (ps ++ r.0, r.1)
+
+abbrev pub and_then : Sendings → (Session → Sendings) → Sendings
+and_then (Err e) f = Err e
+and_then (Ok r) f = sent_before r.0 (f r.1)
+
+none_before : (r : Sendings) → r ≡ sent_before [] r
+none_before (Err e) = refl
+none_before (Ok r) = refl
+
+reply_before : (reply : Option Packet) (ps : List Packet) (r : Sendings) → with_reply (Ok reply) (sent_before ps r) ≡ sent_before (option_to_list reply ++ ps) r
+reply_before reply ps (Err e) = refl
+reply_before reply ps (Ok r) = ap (λ l. Ok (l, r.1)) (sym (append_assoc (option_to_list reply) ps r.0))
+
+reply_and_then : (a : Result (Option Packet) StateError) (r : Sendings) (f : Session → Sendings) → with_reply a (and_then r f) ≡ and_then (with_reply a r) f
+reply_and_then (Err e) r f = refl
+reply_and_then (Ok reply) (Err e) f = refl
+reply_and_then (Ok reply) (Ok r) f = reply_before reply r.0 (f r.1)
+
+send_append : (xs ys : List Request) (s : Session) (at : ℕ) → send_all (xs ++ ys) s at ≡ and_then (send_all xs s at) (λ t. send_all ys t at)
+send_append [] ys s at = none_before (send_all ys s at)
+send_append (x ∷ xs) ys s at =
+    ap (with_reply (out s x at).0) (send_append xs ys (out s x at).1 at)
+    ∙ reply_and_then (out s x at).0 (send_all xs (out s x at).1 at) (λ t. send_all ys t at)
+
+-- ---- one sending after another
+
+moment_twice : (ps qs : List Packet) (last at : ℕ) → moment_after qs (moment_after ps last at) at ≡ moment_after (ps ++ qs) last at
+moment_twice [] qs last at = refl
+moment_twice (p ∷ ps) [] last at = refl
+moment_twice (p ∷ ps) (q ∷ qs) last at = refl
+
+after_twice : (ps qs : List Packet) (m k : Held) (s : Session) (at : ℕ) → after_sent qs k (after_sent ps m s at) at ≡ after_sent (ps ++ qs) k s at
+after_twice ps qs m k s at i = record s {
+  core = record s.core { held = k };
+  events = (append_assoc s.events (filter_map event_for ps) (filter_map event_for qs) ∙ ap (λ l. s.events ++ l) (sym (filter_map-append event_for ps qs))) i;
+  last_outgoing = moment_twice ps qs s.last_outgoing at i;
+}
+
+none_after : (s : Session) (at : ℕ) → after_sent [] s.core.held s at ≡ s
+none_after s at i = record s { events = append-nil s.events i }
+
+both_sent : (xs ys : List ℕ) (ps qs : List Packet) (m k : Held) (s : Session) (at : ℕ) → and_then (sent_unless xs ps m s at) (λ t. sent_unless ys qs k t at) ≡ sent_unless (xs ++ ys) (ps ++ qs) k s at
+both_sent (x ∷ xs) ys ps qs m k s at = refl
+both_sent [] (y ∷ ys) ps qs m k s at = refl
+both_sent [] [] ps qs m k s at = ap (λ t. Ok (ps ++ qs, t)) (after_twice ps qs m k s at)
+
+sent_then : (xs ys : List ℕ) (ps qs : List Packet) (m k : Held) (s : Session) (f : Session → Sendings) (at : ℕ) → f (after_sent ps m s at) ≡ sent_unless ys qs k (after_sent ps m s at) at → and_then (sent_unless xs ps m s at) f ≡ sent_unless (xs ++ ys) (ps ++ qs) k s at
+sent_then (x ∷ xs) ys ps qs m k s f at e = refl
+sent_then [] ys ps qs m k s f at e = ap (sent_before ps) e ∙ both_sent [] ys ps qs m k s at
+
+-- ---- the map, id by id
+
+tied_same : (k : ℕ) → eq_by_cmp nat_cmp k k ≡ true
+tied_same k = unsigned_tied k k ∙ grind (arith, rules)
+
+pub get_insert_same : (m : Held) (k : ℕ) (x : Slot) → get (insert m k x) k ≡ Some x
+get_insert_same m k x = get-insert nat_cmp_total m k x k ∙ ap (λ b. cond b (Some x) (get m k)) (tied_same k)
+
+pub get_insert_other : (m : Held) (k : ℕ) (x : Slot) (j : ℕ) → j ≢ k → get (insert m k x) j ≡ get m j
+get_insert_other m k x j ne = get-insert nat_cmp_total m k x j ∙ ap (λ b. cond b (Some x) (get m j)) (unsigned_tied j k ∙ ne_eqb j k ne)
+
+abbrev pub no_ids : Held
+no_ids = empty
+
+abbrev pub is_sent : Slot → Bool
+is_sent (Sent p) = true
+is_sent Released = false
+
+abbrev pub is_kept : Slot → Bool
+is_kept (Sent p) = false
+is_kept Released = true
+
+-- what is known of an id is put into a map, where it is chosen
+abbrev pub with_slot : (Slot → Bool) → ℕ → Option Slot → Held → Held
+with_slot ok id None b = b
+with_slot ok id (Some x) b = cond (ok x) (insert b id x) b
+
+abbrev pub map_to : (Slot → Bool) → ℕ → Held → Held → Held
+map_to ok zero h b = b
+map_to ok (suc n) h b = with_slot ok (suc n) (get h (suc n)) (map_to ok n h b)
+
+abbrev pick : (Slot → Bool) → Option Slot → Option Slot → Option Slot
+pick ok None o = o
+pick ok (Some x) o = cond (ok x) (Some x) o
+
+get_with_same : (ok : Slot → Bool) (id : ℕ) (x : Option Slot) (b : Held) → get (with_slot ok id x b) id ≡ pick ok x (get b id)
+get_with_same ok id None b = refl
+get_with_same ok id (Some x) b = by (ok x)
+  where
+    by : (t : Bool) → get (cond t (insert b id x) b) id ≡ cond t (Some x) (get b id)
+    by true = get_insert_same b id x
+    by false = refl
+
+get_with_other : (ok : Slot → Bool) (id : ℕ) (x : Option Slot) (b : Held) (k : ℕ) → k ≢ id → get (with_slot ok id x b) k ≡ get b k
+get_with_other ok id None b k ne = refl
+get_with_other ok id (Some x) b k ne = by (ok x)
+  where
+    by : (t : Bool) → get (cond t (insert b id x) b) k ≡ get b k
+    by true = get_insert_other b id x k ne
+    by false = refl
+
+module _ (ok : Slot → Bool) (h b : Held) where
+  pub above : (n k : ℕ) → n < k → get (map_to ok n h b) k ≡ get b k
+  above zero k a = refl
+  above (suc n) k a = get_with_other ok (suc n) (get h (suc n)) (map_to ok n h b) k (λ e. absurd (omega arith)) ∙ above n k (omega arith)
+
+  inside : (n k : ℕ) → 0 < k → k ≤ n → get (map_to ok n h b) k ≡ pick ok (get h k) (get b k)
+  inside zero k low high = absurd (omega arith)
+  inside (suc n) k low high = ⊎_elim
+      (λ (e : k ≡ suc n). subst (λ j. get (map_to ok (suc n) h b) j ≡ pick ok (get h j) (get b j)) (sym e) (get_with_same ok (suc n) (get h (suc n)) (map_to ok n h b) ∙ ap (pick ok (get h (suc n))) (above n (suc n) (omega arith))))
+      (λ (ne : k ≢ suc n). get_with_other ok (suc n) (get h (suc n)) (map_to ok n h b) k ne ∙ inside n k low (omega arith))
+      (cases_eq k (suc n))
+
+  unknown : (n k : ℕ) → get h k ≡ None → get (map_to ok n h b) k ≡ get b k
+  unknown zero k e = refl
+  unknown (suc n) k e = ⊎_elim
+      (λ (same : k ≡ suc n). ap (λ x. get (with_slot ok (suc n) x (map_to ok n h b)) k) (ap (get h) (sym same) ∙ e) ∙ unknown n k e)
+      (λ (ne : k ≢ suc n). get_with_other ok (suc n) (get h (suc n)) (map_to ok n h b) k ne ∙ unknown n k e)
+      (cases_eq k (suc n))
+
+both_parts : (x : Option Slot) → pick is_kept x (pick is_sent x None) ≡ x
+both_parts None = refl
+both_parts (Some Released) = refl
+both_parts (Some (Sent p)) = refl
+
+-- an id in use lies in 1..=limit, and a publish has it as its own
+pub record IsUsed (limit id : ℕ) (x : Slot) : Type 0 where
+  pub low : 0 < id
+  pub high : id ≤ limit
+  pub own : HasId id x
+
+abbrev pub Fits : ℕ → ℕ → Option Slot → Type 0
+Fits limit id None = Unit {0}
+Fits limit id (Some x) = IsUsed limit id x
+
+pub fits : (limit : ℕ) (h : Held) → IsWithin limit h → (k : ℕ) → Fits limit k (get h k)
+fits limit h is k = by (get h k) refl
+  where
+    by : (x : Option Slot) → get h k ≡ x → Fits limit k x
+    by None e = tt {0}
+    by (Some x) e = record { low = is.low k (ap is_some e); high = is.high k (ap is_some e); own = subst (OwnId k) e (is.own k) }
+
+module _ (limit : ℕ) (h : Held) (ok : (k : ℕ) → Fits limit k (get h k)) where
+  pub whole_map : map_to is_kept limit h (map_to is_sent limit h empty) ≡ h
+  whole_map = same_map nat_cmp_total nat_cmp-IsAntisymmetric _ _ (λ k. by k (get h k) refl (ok k))
+    where
+      by : (k : ℕ) (x : Option Slot) → get h k ≡ x → Fits limit k x → get (map_to is_kept limit h (map_to is_sent limit h empty)) k ≡ get h k
+      by k None e f = unknown is_kept h (map_to is_sent limit h empty) limit k e ∙ unknown is_sent h empty limit k e ∙ get-empty nat_cmp k ∙ sym e
+      by k (Some x) e f =
+          inside is_kept h (map_to is_sent limit h empty) limit k f.low f.high
+          ∙ ap (pick is_kept (get h k)) (inside is_sent h empty limit k f.low f.high ∙ ap (pick is_sent (get h k)) (get-empty nat_cmp k))
+          ∙ both_parts (get h k)
+
+-- ---- the requests, id by id
+
+abbrev pub FreeFor : (Slot → Bool) → Option Slot → Option Slot → Type 0
+FreeFor ok None o = Unit {0}
+FreeFor ok (Some x) o = ok x ≡ true → o ≡ None
+
+-- what is chosen of an id is sent, and put into the map
+abbrev Steps : (Slot → Bool) → (ℕ → Option Slot → List Request) → (ℕ → Option Slot → List ℕ) → Session → ℕ → Type 0
+Steps ok f g s at = (ps : List Packet) (m : Held) (id : ℕ) (x : Option Slot) → Fits s.core.limit id x → FreeFor ok x (get m id) → send_all (f id x) (after_sent ps m s at) at ≡ sent_unless (g id x) (filter_map packet_for (f id x)) (with_slot ok id x m) (after_sent ps m s at) at
+
+all_sent : (ok : Slot → Bool) (f : ℕ → Option Slot → List Request) (g : ℕ → Option Slot → List ℕ) (s : Session) (at : ℕ) → Steps ok f g s at → (h : Held) → ((k : ℕ) → Fits s.core.limit k (get h k)) → ((k : ℕ) → FreeFor ok (get h k) (get s.core.held k)) → (n : ℕ) → send_all (by_id f n h) s at ≡ sent_unless (by_id g n h) (filter_map packet_for (by_id f n h)) (map_to ok n h s.core.held) s at
+all_sent ok f g s at step h fit free zero = ap (λ t. Ok ([], t)) (sym (none_after s at))
+all_sent ok f g s at step h fit free (suc n) =
+    send_append (by_id f n h) (f (suc n) (get h (suc n))) s at
+    ∙ ap (λ r. and_then r (λ t. send_all (f (suc n) (get h (suc n))) t at)) (all_sent ok f g s at step h fit free n)
+    ∙ sent_then (by_id g n h) (g (suc n) (get h (suc n))) (filter_map packet_for (by_id f n h)) (filter_map packet_for (f (suc n) (get h (suc n)))) (map_to ok n h s.core.held) (map_to ok (suc n) h s.core.held) s (λ t. send_all (f (suc n) (get h (suc n))) t at) at
+    (step (filter_map packet_for (by_id f n h)) (map_to ok n h s.core.held) (suc n) (get h (suc n)) (fit (suc n)) (subst (FreeFor ok (get h (suc n))) (sym (above ok h s.core.held n (suc n) (omega arith))) (free (suc n))))
+    ∙ ap (λ ps. sent_unless (by_id g (suc n) h) ps (map_to ok (suc n) h s.core.held) s at) (sym (filter_map-append packet_for (by_id f n h) (f (suc n) (get h (suc n)))))
+
+-- ---- one request
+
+same_id : (s : Session) (id : ℕ) → 0 < id → id_for s.core id ≡ id
+same_id s id pos = let e : (id == 0) ≡ false = ne_eqb id 0 (λ x. absurd (omega arith)) in rw e
+
+same_last : (s : Session) (id : ℕ) → 0 < id → last_after s.core id ≡ s.core.last
+same_last s id pos = let e : (id == 0) ≡ false = ne_eqb id 0 (λ x. absurd (omega arith)) in rw e
+
+-- a publish that is sent again
+abbrev sent_by : Option ℕ → Session → Publish → ℕ → Answer
+sent_by (Some alias) s p at = (Err (errors.InvalidAlias alias s.core.alias_max), s)
+sent_by None s p at = (Ok (Some (packets.Publish p)), stored s p s.core.last at)
+
+by_over : (o : Option ℕ) (s : Session) (p : Publish) (at : ℕ) → out_acked (by_alias (alias_fault s.core.alias_max o) Store) s p s.core.last at ≡ sent_by o s p at
+by_over None s p at = refl
+by_over (Some alias) s p at = refl
+
+identified : (s : Session) (p : Publish) (at : ℕ) → p.pkid ≤ s.core.limit → get s.core.held p.pkid ≡ None → out_identified s p s.core.last at ≡ sent_by (alias_over s.core.alias_max (alias_of p)) s p at
+identified s p at within free =
+    ap (λ b. out_acked (cond b (Refuse (errors.Unsolicited p.pkid)) (by_alias (over_maximum s.core p) (by_use (get s.core.held p.pkid) s.core.waiting))) s p s.core.last at) (le-ltb s.core.limit p.pkid within)
+    ∙ ap (λ x. out_acked (by_alias (over_maximum s.core p) (by_use x s.core.waiting)) s p s.core.last at) free
+    ∙ by_over (alias_over s.core.alias_max (alias_of p)) s p at
+
+resent_as : (s : Session) (p : Publish) (at : ℕ) → 0 < p.pkid → p.pkid ≤ s.core.limit → get s.core.held p.pkid ≡ None → out_identified s (record p { pkid = id_for s.core p.pkid }) (last_after s.core p.pkid) at ≡ sent_by (alias_over s.core.alias_max (alias_of p)) s p at
+resent_as s p at pos within free =
+    ap (λ i. out_identified s (record p { pkid = i }) (last_after s.core p.pkid) at) (same_id s p.pkid pos)
+    ∙ ap (λ l. out_identified s p l at) (same_last s p.pkid pos)
+    ∙ identified s p at within free
+
+resent_by : (q : QoS) (s : Session) (p : Publish) (at : ℕ) → q ≢ AtMostOnce → 0 < p.pkid → p.pkid ≤ s.core.limit → get s.core.held p.pkid ≡ None → out_publish q s p at ≡ sent_by (alias_over s.core.alias_max (alias_of p)) s p at
+resent_by AtMostOnce s p at counted pos within free = absurd (counted refl)
+resent_by AtLeastOnce s p at counted pos within free = resent_as s p at pos within free
+resent_by ExactlyOnce s p at counted pos within free = resent_as s p at pos within free
+
+-- nothing is sent of an id that has nothing to send
+nothing : (ps : List Packet) (m : Held) (s : Session) (at : ℕ) → ◌≡◌ {A = Sendings} (Ok ([], after_sent ps m s at)) (Ok ([], after_sent [] m (after_sent ps m s at) at))
+nothing ps m s at = ap (λ t. Ok ([], t)) (sym (none_after (after_sent ps m s at) at))
+
+resent : (s : Session) (p : Publish) (id at : ℕ) → Fits s.core.limit id (Some (Sent p)) → get s.core.held id ≡ None → out s (requests.Publish p) at ≡ sent_by (alias_over s.core.alias_max (alias_of p)) s p at
+unfolding out
+resent s p id at f free =
+    resent_by p.qos s p at f.own.1 (subst (λ i. 0 < i) (sym f.own.0) f.low) (subst (λ i. i ≤ s.core.limit) (sym f.own.0) f.high) (ap (get s.core.held) f.own.0 ∙ free)
+
+sent_step : (s : Session) (at : ℕ) → Steps is_sent publish_again (alias_again s.core.alias_max) s at
+sent_step s at ps m id None f free = nothing ps m s at
+sent_step s at ps m id (Some Released) f free = nothing ps m s at
+sent_step s at ps m id (Some (Sent p)) f free =
+    ap (λ a. with_reply a.0 (Ok ([], a.1))) (resent (after_sent ps m s at) p id at f (free refl)) ∙ by (alias_over s.core.alias_max (alias_of p))
+  where
+    by : (o : Option ℕ) → with_reply (sent_by o (after_sent ps m s at) p at).0 (Ok ([], (sent_by o (after_sent ps m s at) p at).1)) ≡ sent_unless (option_to_list o) (packets.Publish p ∷ []) (insert m id (Sent p)) (after_sent ps m s at) at
+    by (Some alias) = refl
+    by None = ap (λ i. Ok (packets.Publish p ∷ [], after_sent (packets.Publish p ∷ []) (insert m i (Sent p)) (after_sent ps m s at) at)) f.own.0
+
+-- an id that is released again
+rereleased : (s : Session) (id at : ℕ) → 0 < id → id ≤ s.core.limit → get s.core.held id ≡ None → out_release s (id_for s.core id) (last_after s.core id) at ≡ out_known None s id s.core.last at
+rereleased s id at pos within free =
+    ap (λ i. out_release s i (last_after s.core id) at) (same_id s id pos)
+    ∙ ap (λ l. out_release s id l at) (same_last s id pos)
+    ∙ ap (λ b. cond b (Err (errors.Unsolicited id), s) (out_known (get s.core.held id) s id s.core.last at)) (le-ltb s.core.limit id within)
+    ∙ ap (λ x. out_known x s id s.core.last at) free
+
+abbrev no_alias : ℕ → Option Slot → List ℕ
+no_alias id x = []
+
+kept_step : (s : Session) (at : ℕ) → Steps is_kept release_again no_alias s at
+unfolding out
+kept_step s at ps m id None f free = nothing ps m s at
+kept_step s at ps m id (Some (Sent p)) f free = nothing ps m s at
+kept_step s at ps m id (Some Released) f free = ap (λ a. with_reply a.0 (Ok ([], a.1))) (rereleased (after_sent ps m s at) id at f.low f.high (free refl))
+
+no_aliases : (n : ℕ) (h : Held) → by_id no_alias n h ≡ []
+no_aliases zero h = refl
+no_aliases (suc n) h = append-nil (by_id no_alias n h) ∙ no_aliases n h
+
+pub free_first : (h : Held) (k : ℕ) → FreeFor is_sent (get h k) (get no_ids k)
+free_first h k = by (get h k)
+  where
+    by : (x : Option Slot) → FreeFor is_sent x (get no_ids k)
+    by None = tt {0}
+    by (Some x) = λ _. get-empty nat_cmp k
+
+pub free_then : (limit : ℕ) (h : Held) (k : ℕ) → Fits limit k (get h k) → FreeFor is_kept (get h k) (get (map_to is_sent limit h empty) k)
+free_then limit h k f = by (get h k) refl f
+  where
+    by : (x : Option Slot) → get h k ≡ x → Fits limit k x → FreeFor is_kept x (get (map_to is_sent limit h empty) k)
+    by None e f = tt {0}
+    by (Some (Sent p)) e f = λ no. absurd cc
+    by (Some Released) e f = λ _. inside is_sent h empty limit k f.low f.high ∙ ap (λ x. pick is_sent x (get no_ids k)) e ∙ get-empty nat_cmp k
+
+-- to resume sends all in one piece, and keeps the ids in use
+pub resumes : (s : Session) (at : ℕ) → IsWithin s.core.limit s.core.held → resume_of s at ≡ resumed s at
+unfolding resume_of
+resumes s at is =
+    send_append (by_id publish_again n h) (by_id release_again n h) (cleaned s) at
+    ∙ ap (λ r. and_then r (λ t. send_all (by_id release_again n h) t at)) (all_sent is_sent publish_again (alias_again s.core.alias_max) (cleaned s) at (sent_step (cleaned s) at) h fit (free_first h) n)
+    ∙ sent_then (by_id (alias_again s.core.alias_max) n h) (by_id no_alias n h) ps qs m (map_to is_kept n h m) (cleaned s) (λ t. send_all (by_id release_again n h) t at) at (all_sent is_kept release_again no_alias (after_sent ps m (cleaned s) at) at (kept_step (after_sent ps m (cleaned s) at) at) h fit (λ k. free_then n h k (fit k)) n)
+    ∙ ap (λ xs. sent_unless xs (ps ++ qs) (map_to is_kept n h m) (cleaned s) at) (ap (λ l. by_id (alias_again s.core.alias_max) n h ++ l) (no_aliases n h) ∙ append-nil (by_id (alias_again s.core.alias_max) n h))
+    ∙ ap (λ ps. sent_unless (by_id (alias_again s.core.alias_max) n h) ps (map_to is_kept n h m) (cleaned s) at) (sym (filter_map-append packet_for (by_id publish_again n h) (by_id release_again n h)))
+    ∙ ap (λ k. sent_unless (by_id (alias_again s.core.alias_max) n h) (packets_of n h) k (cleaned s) at) (whole_map n h fit)
+  where
+    n : ℕ
+    n = s.core.limit
+
+    h : Held
+    h = s.core.held
+
+    fit : (k : ℕ) → Fits n k (get h k)
+    fit = fits n h is
+
+    m : Held
+    m = map_to is_sent n h empty
+
+    ps : List Packet
+    ps = filter_map packet_for (by_id publish_again n h)
+
+    qs : List Packet
+    qs = filter_map packet_for (by_id release_again n h)

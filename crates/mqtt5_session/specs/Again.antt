@@ -1,0 +1,61 @@
+-- This file serves the logic alone: what a resume sends and tells, in one piece.
+use Rattle.std.specs.Prelude.{ℕ, List, [], ◌∷◌, ◌++◌, Option, Some, None, Ok, Err}
+use Rattle.std.specs.List.{filter_map}
+use Rattle.std.specs.Option.{option_to_list}
+use Rattle.mqtt5_codec.specs.declared.packet.Packet.{Packet}
+use Rattle.mqtt5_codec.specs.declared.packet.Packet.TheVariants as packets
+use Rattle.mqtt5_session.specs.declared.slot.Slot.{Slot}
+use Rattle.mqtt5_session.specs.declared.slot.Slot.TheVariants.{Sent}
+use Rattle.mqtt5_session.specs.declared.event.Request.{Request}
+use Rattle.mqtt5_session.specs.declared.event.Request.TheVariants as requests
+use Rattle.mqtt5_session.specs.declared.event.Outgoing.TheVariants as outgoing
+use Rattle.mqtt5_session.specs.declared.event.Event.{Event}
+use Rattle.mqtt5_session.specs.declared.event.Event.TheVariants as events
+use Rattle.mqtt5_session.specs.declared.error.StateError.TheVariants as errors
+use Rattle.mqtt5_session.specs.Held.{Held}
+use Rattle.mqtt5_session.specs.Session.{Session}
+use Rattle.mqtt5_session.specs.Requests.{alias_of, alias_over}
+use Rattle.mqtt5_session.specs.Cleaning.{by_id, requests_of, cleaned, Sendings}
+
+-- the packet that a request which a clean gave is sent as
+abbrev pub packet_for : Request → Option Packet
+packet_for (requests.Publish p) = Some (packets.Publish p)
+packet_for (requests.PubRel p) = Some (packets.PubRel p)
+packet_for request = None
+
+-- what is told of it
+abbrev pub event_for : Packet → Option Event
+event_for (packets.Publish p) = Some (events.Outgoing (outgoing.Publish p.pkid))
+event_for (packets.PubRel p) = Some (events.Outgoing (outgoing.PubRel p.pkid))
+event_for packet = None
+
+-- the moment of the last request, once packets were sent
+abbrev pub moment_after : List Packet → ℕ → ℕ → ℕ
+moment_after [] last at = last
+moment_after (p ∷ ps) last at = at
+
+-- the alias of a publish that awaits its ack, where it is above the maximum
+abbrev pub alias_again : ℕ → ℕ → Option Slot → List ℕ
+alias_again max id (Some (Sent p)) = option_to_list (alias_over max (alias_of p))
+alias_again max id slot = []
+
+-- packets were sent, and these ids are in use
+abbrev pub after_sent : List Packet → Held → Session → ℕ → Session
+after_sent ps held s at = record s {
+  core = record s.core { held = held };
+  events = s.events ++ filter_map event_for ps;
+  last_outgoing = moment_after ps s.last_outgoing at;
+}
+
+-- the packets are sent, unless an alias is above the maximum
+abbrev pub sent_unless : List ℕ → List Packet → Held → Session → ℕ → Sendings
+sent_unless [] ps held s at = Ok (ps, after_sent ps held s at)
+sent_unless (alias ∷ others) ps held s at = Err (errors.InvalidAlias alias s.core.alias_max)
+
+-- the packets that are sent again
+abbrev pub packets_of : ℕ → Held → List Packet
+packets_of limit held = filter_map packet_for (requests_of limit held)
+
+-- what a resume does: the ids in use stay
+abbrev pub resumed : Session → ℕ → Sendings
+resumed s at = sent_unless (by_id (alias_again s.core.alias_max) s.core.limit s.core.held) (packets_of s.core.limit s.core.held) s.core.held (cleaned s) at
