@@ -12,6 +12,6 @@ returns-clause-count c =
     let h = c.args.self.now.held in
     let inside : IsWithin n h = subst (λ m. IsWithin m.limit m.held) c.self.view_is (within c.self.inside.sent.items c.self.inside.released.items c.self.inside.count c.self.invariant) in
     ap length
-      (c.in_ok-push_released.ensures
-      ∙ ap (λ l. l ++ by_id release_again n h) (c.in_ok-push_sent.ensures ∙ ap (λ l. l ++ by_id publish_again n h) c.in_ok-requests.ensures.items))
+    (c.in_ok-push_released.ensures
+    ∙ ap (λ l. l ++ by_id release_again n h) (c.in_ok-push_sent.ensures ∙ ap (λ l. l ++ by_id publish_again n h) c.in_ok-requests.ensures.items))
     ∙ requests_len n h (fits n h inside)
