@@ -32,15 +32,11 @@ use Rattle.mqtt5_session.specs.Cleaning.{by_id, cleaned, resume_of}
 use Rattle.mqtt5_session.specs.Again.{sent_unless, alias_again, packets_of}
 use Rattle.mqtt5_session.specs.Ledger.{owed, Call, Ask, Hear, Error, Clean, Resume, kept_by, after, added, taken, after_all, added_by, taken_by, IsLedger}
 use Rattle.mqtt5_session.proofs.Resume.{no_ids, get_insert_same, get_insert_other, Fits, IsUsed, resumes}
-use Rattle.mqtt5_session.proofs.Owed.{Judges, judges, out_adds, inc_takes, requests_len}
+use Rattle.mqtt5_session.proofs.Owed.{choose, Judges, judges, out_adds, inc_takes, requests_len}
 
 -- ids in use lie in 1..=limit, publishes stand under their own, and what waits isn't of QoS 0
 abbrev pub Sound : Core → Type 0
 Sound c = ((k : ℕ) → Fits c.limit k (get c.held k)) × IsCounted c.waiting
-
-choose : (P : Answer → Type 0) (b : Bool) (x y : Answer) → (b ≡ true → P x) → (b ≡ false → P y) → P (cond b x y)
-choose P true x y f g = f refl
-choose P false x y f g = g refl
 
 unless_sound : (s : Session) (e : Option StateError) (a : Answer) → Sound s.core → Sound a.1.core → Sound (unless e s a).1.core
 unless_sound s None a i h = h

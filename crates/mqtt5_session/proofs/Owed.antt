@@ -42,7 +42,7 @@ Adds s n a = owed a.1.core ≡ owed s.core + accepted a.0 n
 abbrev Takes : Session → ℕ → Answer → Type 0
 Takes s n a = owed a.1.core + accepted a.0 n ≡ owed s.core
 
-choose : (P : Answer → Type 0) (b : Bool) (x y : Answer) → (b ≡ true → P x) → (b ≡ false → P y) → P (cond b x y)
+pub choose : (P : Answer → Type 0) (b : Bool) (x y : Answer) → (b ≡ true → P x) → (b ≡ false → P y) → P (cond b x y)
 choose P true x y f g = f refl
 choose P false x y f g = g refl
 
