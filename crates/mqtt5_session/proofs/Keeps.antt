@@ -84,7 +84,7 @@ within_fits limit h fit = record {
 
 -- ---- requests
 
-id_positive : (c : Core) (id : ℕ) → 0 < id_for c id
+pub id_positive : (c : Core) (id : ℕ) → 0 < id_for c id
 id_positive c zero = omega arith
 id_positive c (suc id) = subst (λ b. 0 < cond b (next_id c) (suc id)) (sym (ne_eqb (suc id) 0 (λ e. absurd (omega arith)))) (omega arith)
 

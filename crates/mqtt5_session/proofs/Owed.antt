@@ -66,31 +66,31 @@ len_removed m id x e =
 
 -- ---- requests
 
--- the id of what was judged to be stored is free, and where a publish is to wait none waits
+-- the id of what was judged to be stored is free, and where a publish is to wait none waits; its alias isn't refused
 abbrev pub Judges : Core → Publish → Verdict → Type 0
 Judges c p (Refuse e) = Unit {0}
-Judges c p Wait = c.waiting ≡ None
-Judges c p Store = (get c.held p.pkid ≡ None) × (p.pkid ≤ c.limit)
+Judges c p Wait = (c.waiting ≡ None) × (over_maximum c p ≡ None)
+Judges c p Store = (get c.held p.pkid ≡ None) × (p.pkid ≤ c.limit) × (over_maximum c p ≡ None)
 
-judges_use : (c : Core) (p : Publish) (x : Option Slot) (w : Option Publish) → p.pkid ≤ c.limit → get c.held p.pkid ≡ x → c.waiting ≡ w → Judges c p (by_use x w)
-judges_use c p None w h e f = (e, h)
-judges_use c p (Some x) None h e f = f
-judges_use c p (Some x) (Some q) h e f = tt {0}
+judges_use : (c : Core) (p : Publish) (x : Option Slot) (w : Option Publish) → p.pkid ≤ c.limit → get c.held p.pkid ≡ x → c.waiting ≡ w → over_maximum c p ≡ None → Judges c p (by_use x w)
+judges_use c p None w h e f o = (e, h, o)
+judges_use c p (Some x) None h e f o = (f, o)
+judges_use c p (Some x) (Some q) h e f o = tt {0}
 
-judges_alias : (c : Core) (p : Publish) (e : Option StateError) (v : Verdict) → Judges c p v → Judges c p (by_alias e v)
-judges_alias c p None v h = h
-judges_alias c p (Some e) v h = tt {0}
+judges_alias : (c : Core) (p : Publish) (e : Option StateError) (v : Verdict) → over_maximum c p ≡ e → (over_maximum c p ≡ None → Judges c p v) → Judges c p (by_alias e v)
+judges_alias c p None v o h = h o
+judges_alias c p (Some e) v o h = tt {0}
 
 pub judges : (c : Core) (p : Publish) → Judges c p (judged c p)
 judges c p = by (nat_lt c.limit p.pkid) refl
   where
     by : (b : Bool) → nat_lt c.limit p.pkid ≡ b → Judges c p (cond b (Refuse (errors.Unsolicited p.pkid)) (by_alias (over_maximum c p) (by_use (get c.held p.pkid) c.waiting)))
     by true e = tt {0}
-    by false e = judges_alias c p (over_maximum c p) (by_use (get c.held p.pkid) c.waiting) (judges_use c p (get c.held p.pkid) c.waiting (ltb-false c.limit p.pkid e) refl refl)
+    by false e = judges_alias c p (over_maximum c p) (by_use (get c.held p.pkid) c.waiting) refl (judges_use c p (get c.held p.pkid) c.waiting (ltb-false c.limit p.pkid e) refl refl)
 
 acked_adds : (v : Verdict) (s : Session) (p : Publish) (last at : ℕ) → Judges s.core p v → Adds s 1 (out_acked v s p last at)
 acked_adds (Refuse e) s p last at h = omega arith
-acked_adds Wait s p last at h = let w : one_of s.core.waiting ≡ 0 = ap one_of h in omega arith
+acked_adds Wait s p last at h = let w : one_of s.core.waiting ≡ 0 = ap one_of h.0 in omega arith
 acked_adds Store s p last at h = let n : len (insert s.core.held p.pkid (Sent p)) ≡ len s.core.held + 1 = len_free s.core.held p.pkid (Sent p) h.0 in omega arith
 
 publish_adds : (q : QoS) (s : Session) (p : Publish) (at : ℕ) → Adds s (owed_at q) (out_publish q s p at)

@@ -81,10 +81,14 @@ on_pubcomp other s id at = (Err (errors.Unsolicited id), s)
 
 -- ---- what the broker publishes
 
+-- the answer to a release (3.7)
+abbrev pub pubcomp_of : ℕ → PubRelReason → Packet
+pubcomp_of id reason = packets.PubComp (record { pkid = id; reason = reason; properties = None })
+
 -- a release of success is answered (4.3.3)
 abbrev pub on_released : PubRelReason → Session → ℕ → ℕ → Answer
 on_released pubrel_reasons.Success s id at =
-    (Ok (Some (packets.PubComp (record { pkid = id; reason = pubrel_reasons.Success; properties = None }))), record (tells s (outgoing.PubComp id)) { last_incoming = at })
+    (Ok (Some (pubcomp_of id pubrel_reasons.Success)), record (tells s (outgoing.PubComp id)) { last_incoming = at })
 on_released other s id at = takes s at
 
 -- a PubRel takes out the id of a publish that came (4.3.3)
@@ -118,11 +122,19 @@ ids_with AtMostOnce ids id = ids
 ids_with AtLeastOnce ids id = ids
 ids_with ExactlyOnce ids id = set.insert ids id
 
+-- the ack of a publish of QoS 1 (3.4)
+abbrev pub puback_of : ℕ → Packet
+puback_of id = packets.PubAck (record { pkid = id; reason = Success; properties = None })
+
+-- the first ack of a publish of QoS 2 (3.5)
+abbrev pub pubrec_of : ℕ → Packet
+pubrec_of id = packets.PubRec (record { pkid = id; reason = Success; properties = None })
+
 -- a publish is acked by its QoS (4.3)
 abbrev pub on_qos : QoS → Session → ℕ → ℕ → Answer
 on_qos AtMostOnce s id at = takes s at
-on_qos AtLeastOnce s id at = answers s.core.manual_acks (packets.PubAck (record { pkid = id; reason = Success; properties = None })) (outgoing.PubAck id) s at
-on_qos ExactlyOnce s id at = answers s.core.manual_acks (packets.PubRec (record { pkid = id; reason = Success; properties = None })) (outgoing.PubRec id) s at
+on_qos AtLeastOnce s id at = answers s.core.manual_acks (puback_of id) (outgoing.PubAck id) s at
+on_qos ExactlyOnce s id at = answers s.core.manual_acks (pubrec_of id) (outgoing.PubRec id) s at
 
 -- a publish is taken where its topic is known; else its alias is an error of the broker (3.3.2.3.4)
 abbrev pub on_publish : Bool → Session → Publish → ℕ → Answer

@@ -1,4 +1,4 @@
-//! The ids of publishes that the broker sent with QoS 2 and hasn't released.
+//! Sets of packet identifiers: those of publishes of QoS 2 that came and aren't released.
 
 ghost use Rattle.std.specs.Prelude.{◌≡◌, OnOk, OnErr};
 ghost use Rattle.std.specs.FinSet as set;
@@ -7,7 +7,7 @@ use std::alloc::{AllocError, Global};
 use std::collections::BTreeSet;
 use std::marker::Model;
 
-/// A set of ids. Contracts see a finite set.
+/// A set of packet identifiers. Contracts see a finite set.
 #[derive(Debug, Drop)]
 pub struct Ids {
     ids: BTreeSet<u16>,
@@ -26,7 +26,7 @@ impl Model for Ids {
 }
 
 impl Ids {
-    /// No ids.
+    /// No ids. Takes no memory.
     pub fn new(alloc: Global) -> Ids
         ensures { result ≡ set.empty }
     {
@@ -35,14 +35,14 @@ impl Ids {
         }
     }
 
-    /// Whether an id is among them.
+    /// Whether an id is among them. Takes no memory.
     pub fn contains(&self, id: u16) -> bool
         ensures { result ≡ set.contains self.now id }
     {
         self.ids.contains(&id)
     }
 
-    /// Adds an id. Only an id that wasn't among them takes memory.
+    /// Adds an id. Only an id that wasn't among them takes memory; where it is refused, they are unchanged.
     pub fn insert(&mut self, id: u16) -> Result<(), AllocError>
         ensures ok { OnOk result (self.new ≡ set.insert self.old id) }
         ensures err { OnErr result (self.new ≡ self.old) }
@@ -51,14 +51,14 @@ impl Ids {
         Ok(())
     }
 
-    /// Takes an id out, if it is among them.
+    /// Takes an id out, if it is among them. Takes no memory.
     pub fn remove(&mut self, id: u16)
         ensures { self.new ≡ set.remove self.old id }
     {
         self.ids.remove(&id);
     }
 
-    /// Takes each id out.
+    /// Takes each id out. Takes no memory.
     pub fn clear(&mut self)
         ensures { self.new ≡ set.empty }
     {
@@ -66,6 +66,7 @@ impl Ids {
     }
 }
 
+/// A clone has the same ids. Err where memory is refused.
 impl Clone for Ids {
     ghost is_clone = { λ a copy. copy ≡ a };
 

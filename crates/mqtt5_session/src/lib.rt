@@ -14,5 +14,6 @@ mod state;
 
 pub use error::StateError;
 pub use event::{Event, Incoming, Outgoing, Request};
+pub use ids::Ids;
 pub use laws::ledger_law;
 pub use state::MqttState;
