@@ -1,0 +1,4 @@
+pub mod Broker
+pub mod World
+pub mod Delivery
+pub mod Happens
