@@ -4,3 +4,4 @@ pub mod Step
 pub mod Asks
 pub mod Arrivals
 pub mod Returns
+pub mod Losses

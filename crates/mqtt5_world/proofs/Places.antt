@@ -54,7 +54,7 @@ IsTokenOf t k x = (j : ℕ) → t j x ≡ (k == j)
 pub token_here : (t : ℕ → Packet → Bool) (k : ℕ) (x : Packet) → IsTokenOf t k x → t k x ≡ true
 token_here t k x own = own k ∙ eq-eqb k k refl
 
-token_other : (t : ℕ → Packet → Bool) (k : ℕ) (x : Packet) → IsTokenOf t k x → (j : ℕ) → j ≢ k → t j x ≡ false
+pub token_other : (t : ℕ → Packet → Bool) (k : ℕ) (x : Packet) → IsTokenOf t k x → (j : ℕ) → j ≢ k → t j x ≡ false
 token_other t k x own j ne = own j ∙ ne_eqb k j (λ e. ne (sym e))
 
 -- in front

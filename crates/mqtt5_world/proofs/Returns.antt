@@ -34,7 +34,7 @@ use Rattle.mqtt5_world.proofs.Asks.{refused_step, due_new}
 use Rattle.mqtt5_world.proofs.Arrivals.{used, allowed_slot}
 
 -- a publish that waits is acked
-counted_acked : (q : QoS) → q ≢ AtMostOnce → is_acked q ≡ true
+pub counted_acked : (q : QoS) → q ≢ AtMostOnce → is_acked q ≡ true
 counted_acked AtMostOnce ne = absurd (ne refl)
 counted_acked AtLeastOnce ne = refl
 counted_acked ExactlyOnce ne = refl

@@ -2,7 +2,8 @@
 
 ghost use Rattle.std.specs.Prelude.{◌≡◌, ◌<◌, ◌∷◌, ◌++◌, [], IfOk, IfErr, OnOk, drop};
 ghost use Rattle.std.specs.Option.{option_to_list};
-ghost use Rattle.mqtt5_world.specs.World.{start, asks, arrives, returns, takes, resumes, happens, taken_back, with_receive_max};
+ghost use Rattle.mqtt5_world.specs.World.{start, asks, served, arrives, returns, takes, resumes, happens, taken_back, with_receive_max};
+ghost use Rattle.mqtt5_world.specs.Broker.{serve};
 ghost use Rattle.mqtt5_world.specs.Happens.{Happens};
 
 use crate::broker::Broker;
@@ -128,10 +129,16 @@ impl World {
     fn go_up(&mut self) -> Result<(), StateError>
         ensures { Happens result self.new (arrives self.old self.old.up) }
     {
-        let Some(packet) = self.up.pop_front() else {
-            return Ok(());
-        };
-        let reply = self.broker.serve(&packet)?;
+        match self.up.pop_front() {
+            Some(packet) => self.arrive(&packet),
+            None => Ok(()),
+        }
+    }
+
+    fn arrive(&mut self, packet: &Packet) -> Result<(), StateError>
+        ensures { Happens result self.new (served self.old (serve self.old.broker packet.now)) }
+    {
+        let reply = self.broker.serve(packet)?;
         send(&mut self.down, reply)?;
         Ok(())
     }
