@@ -5,3 +5,5 @@ pub mod Asks
 pub mod Arrivals
 pub mod Returns
 pub mod Losses
+pub mod Runs
+pub mod Contents
