@@ -1,5 +1,5 @@
 -- What is said of a world, counted over its lists; and that a content is a class.
-use Rattle.std.proofs.Common.{◌≡◌, ℕ, zero, suc, ◌+◌, ◌*◌, ◌≤◌, Bool, true, false, cond, ◌&&◌, List, [], ◌∷◌, ◌++◌, count_by, Option, Some, None, refl, sym, ap, ◌∙◌, arith}
+use Rattle.std.proofs.Common.{◌≡◌, ◌≢◌, ℕ, zero, suc, ◌+◌, ◌*◌, ◌≤◌, Bool, true, false, cond, ◌&&◌, List, [], ◌∷◌, ◌++◌, count_by, Option, Some, None, refl, sym, ap, ◌∙◌, subst, arith}
 use Rattle.std.specs.Prelude.{not}
 use Rattle.std.specs.Option.{option_to_list}
 use Rattle.std.specs.FinMap.{get}
@@ -14,9 +14,11 @@ use Rattle.mqtt5_session.specs.declared.slot.Slot.TheVariants.{Sent, Released}
 use Rattle.mqtt5_session.specs.Held.{Held, awaiting_ack}
 use Rattle.mqtt5_session.specs.Cleaning.{by_id}
 use Rattle.mqtt5_world.specs.declared.event.WorldEvent.{WorldEvent}
+use Rattle.mqtt5_world.specs.declared.event.Report.{Report}
 use Rattle.mqtt5_world.specs.World.{World, start, run, losses}
+use Rattle.mqtt5_world.specs.Happens.{IsReport}
 use Rattle.mqtt5_world.specs.Delivery.{IsClass, stored_in, stored_without, waiting_in, has_content, times}
-use Rattle.mqtt5_world.proofs.Step.{one, is_sent, passes, sum_to, sum_same, stored, due, waiting, count_push}
+use Rattle.mqtt5_world.proofs.Step.{one, is_sent, passes, sum_to, sum_same, sum_less, stored, due, waiting, count_push}
 use Rattle.mqtt5_world.proofs.Runs.{most, least, each_loss, twice}
 
 -- ---- lists of publishes as sums over ids
@@ -74,28 +76,79 @@ one_less true true = omega arith
 one_less true false = omega arith
 one_less false b = omega arith
 
+without_less : (test : Publish → Bool) (w : World) → due ExactlyOnce test w ≤ stored test w
+without_less test w = sum_less w.session.core.limit _ _ (λ j. one_less (is_sent test (get w.session.core.held j)) (not (set.contains w.broker.ids j)))
+
 -- ---- the counts of a class
 
 abbrev pub played : ℕ → List WorldEvent → World
 played limit es = run es (start limit)
 
 module _ (test : Publish → Bool) (limit : ℕ) (es : List WorldEvent) where
-  pub class_most : IsClass AtMostOnce test → count_by test (played limit es).broker.handed ≤ count_by test (played limit es).accepted
-  class_most c = most test c limit es
+  abbrev all_handed : ℕ
+  all_handed = count_by test (played limit es).broker.handed
 
-  pub class_least : IsClass AtLeastOnce test → count_by test (played limit es).accepted ≤ count_by test (played limit es).broker.handed + count_by test (stored_in (played limit es).session.core) + count_by test (waiting_in (played limit es).session.core)
-  class_least c =
-      let l = least test c limit es in
-      let s = stored_is test (played limit es) in
-      let v = waiting_is test (played limit es) in
-      omega (arith, l, s, v)
+  abbrev all_accepted : ℕ
+  all_accepted = count_by test (played limit es).accepted
 
-  pub class_losses : IsClass AtLeastOnce test → count_by test (played limit es).broker.handed ≤ (losses es + 1) * count_by test (played limit es).accepted
-  class_losses c = each_loss test c limit es
+  abbrev all_stored : ℕ
+  all_stored = count_by test (stored_in (played limit es).session.core)
 
-  pub class_ledger : IsClass ExactlyOnce test → count_by test (played limit es).broker.handed + count_by test (waiting_in (played limit es).session.core) + count_by test (stored_without (played limit es).broker.ids (played limit es).session.core) ≡ count_by test (played limit es).accepted
-  class_ledger c =
+  abbrev all_waiting : ℕ
+  all_waiting = count_by test (waiting_in (played limit es).session.core)
+
+  pub ledger : IsClass ExactlyOnce test → all_handed + all_waiting + count_by test (stored_without (played limit es).broker.ids (played limit es).session.core) ≡ all_accepted
+  ledger c =
       let t = twice test c limit es in
       let d = without_is test (played limit es) in
       let v = waiting_is test (played limit es) in
       omega (arith, t, d, v)
+
+  pub at_most : (q : QoS) → q ≢ AtLeastOnce → IsClass q test → all_handed ≤ all_accepted
+  at_most AtMostOnce ne c = most test c limit es
+  at_most AtLeastOnce ne c = absurd (ne refl)
+  at_most ExactlyOnce ne c = let l = ledger c in omega (arith, l)
+
+  pub at_least : (q : QoS) → q ≢ AtMostOnce → IsClass q test → all_accepted ≤ all_handed + all_stored + all_waiting
+  at_least AtMostOnce ne c = absurd (ne refl)
+  at_least AtLeastOnce ne c =
+      let l = least test c limit es in
+      let s = stored_is test (played limit es) in
+      let v = waiting_is test (played limit es) in
+      omega (arith, l, s, v)
+  at_least ExactlyOnce ne c =
+      let t = twice test c limit es in
+      let u = without_less test (played limit es) in
+      let s = stored_is test (played limit es) in
+      let v = waiting_is test (played limit es) in
+      omega (arith, t, u, s, v)
+
+  pub for_each_loss : IsClass AtLeastOnce test → all_handed ≤ (losses es + 1) * all_accepted
+  for_each_loss c = each_loss test c limit es
+
+-- ---- contents
+
+pub content_class : (c : Publish) → IsClass c.qos (has_content c)
+content_class c = record { of_qos = λ p h. ap (λ (x : Publish). x.qos) (publish_sound (record p { pkid = 0 }) c h); blind = λ p id. refl }
+
+class_of : (c : Publish) (q : QoS) → c.qos ≡ q → IsClass q (has_content c)
+class_of c q e = subst (λ q. IsClass q (has_content c)) e (content_class c)
+
+module _ (limit : ℕ) (es : List WorldEvent) (r : Report) (is : IsReport r (played limit es)) (c : Publish) where
+  pub report_most : c.qos ≢ AtLeastOnce → times c r.handed.items ≤ times c r.accepted.items
+  report_most ne = rw (is.handed, is.accepted) (at_most (has_content c) limit es c.qos ne (content_class c))
+
+  pub report_least : c.qos ≢ AtMostOnce → times c r.accepted.items ≤ times c r.handed.items + times c (stored_in r.state.core) + times c (waiting_in r.state.core)
+  report_least ne = rw (is.handed, is.accepted, is.state) (at_least (has_content c) limit es c.qos ne (content_class c))
+
+  pub report_losses : c.qos ≡ AtLeastOnce → times c r.handed.items ≤ (losses es + 1) * times c r.accepted.items
+  report_losses e = rw (is.handed, is.accepted) (for_each_loss (has_content c) limit es (class_of c AtLeastOnce e))
+
+  pub report_ledger : c.qos ≡ ExactlyOnce → times c r.handed.items + times c (waiting_in r.state.core) + times c (stored_without (played limit es).broker.ids r.state.core) ≡ times c r.accepted.items
+  report_ledger e = rw (is.handed, is.accepted, is.state) (ledger (has_content c) limit es (class_of c ExactlyOnce e))
+
+  pub report_once : c.qos ≡ ExactlyOnce → times c (stored_in r.state.core) ≡ 0 → times c (waiting_in r.state.core) ≡ 0 → times c r.handed.items ≡ times c r.accepted.items
+  report_once e none_stored none_waiting =
+      let most = report_most (λ f. let g : ExactlyOnce ≡ AtLeastOnce = sym e ∙ f in absurd cc) in
+      let least = report_least (λ f. let g : ExactlyOnce ≡ AtMostOnce = sym e ∙ f in absurd cc) in
+      omega (arith, most, least, none_stored, none_waiting)

@@ -7,3 +7,4 @@ pub mod Returns
 pub mod Losses
 pub mod Runs
 pub mod Contents
+pub mod Faults

@@ -2,7 +2,7 @@
 
 ghost use Rattle.std.specs.Prelude.{◌≡◌, ◌<◌, ◌∷◌, ◌++◌, [], IfOk, IfErr, OnOk, drop};
 ghost use Rattle.std.specs.Option.{option_to_list};
-ghost use Rattle.mqtt5_world.specs.World.{start, asks, served, arrives, returns, takes, resumes, happens, taken_back, with_receive_max};
+ghost use Rattle.mqtt5_world.specs.World.{start, asks, served, arrives, returns, takes, resumes, happens, run, taken_back, with_receive_max};
 ghost use Rattle.mqtt5_world.specs.Broker.{serve};
 ghost use Rattle.mqtt5_world.specs.Happens.{Happens};
 
@@ -85,8 +85,18 @@ impl World {
         }
     }
 
+    /// Events, one after another.
+    pub fn play_all(&mut self, alloc: Global, events: &[WorldEvent]) -> Result<(), StateError>
+        ensures { Happens result self.new (run events.now self.old) }
+    {
+        for event in events {
+            self.play(alloc, event)?;
+        }
+        Ok(())
+    }
+
     /// An event.
-    pub fn play(&mut self, alloc: Global, event: &WorldEvent) -> Result<(), StateError>
+    fn play(&mut self, alloc: Global, event: &WorldEvent) -> Result<(), StateError>
         ensures { Happens result self.new (happens self.old event.now) }
     {
         match event {
