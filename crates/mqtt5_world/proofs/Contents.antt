@@ -1,6 +1,7 @@
 -- What is said of a world, counted over its lists; and that a content is a class.
 use Rattle.std.proofs.Common.{◌≡◌, ◌≢◌, ℕ, zero, suc, ◌+◌, ◌*◌, ◌≤◌, Bool, true, false, cond, ◌&&◌, List, [], ◌∷◌, ◌++◌, count_by, Option, Some, None, refl, sym, ap, ◌∙◌, subst, arith}
 use Rattle.std.specs.Prelude.{not}
+use Rattle.std.specs.Bool.{Decides}
 use Rattle.std.specs.Option.{option_to_list}
 use Rattle.std.specs.FinMap.{get}
 use Rattle.std.specs.FinSet as set
@@ -8,6 +9,8 @@ use Rattle.std.proofs.lemmas.List.Sums.{sum_by-append}
 use Rattle.mqtt5_base.specs.declared.quality.QoS.{QoS}
 use Rattle.mqtt5_base.specs.declared.quality.QoS.TheVariants.{AtMostOnce, AtLeastOnce, ExactlyOnce}
 use Rattle.mqtt5_flow.specs.declared.publish.Publish.{Publish}
+use Rattle.mqtt5_flow.specs.contracts.publish.PublishPartialEq.TheImpl as publish
+use Rattle.mqtt5_flow.specs.contracts.publish.PublishEq.TheImpl.Laws as reflexive
 use Rattle.mqtt5_flow.specs.Sound.{publish_sound}
 use Rattle.mqtt5_session.specs.declared.slot.Slot.{Slot}
 use Rattle.mqtt5_session.specs.declared.slot.Slot.TheVariants.{Sent, Released}
@@ -130,6 +133,9 @@ module _ (test : Publish → Bool) (limit : ℕ) (es : List WorldEvent) where
 
 pub content_class : (c : Publish) → IsClass c.qos (has_content c)
 content_class c = record { of_qos = λ p h. ap (λ (x : Publish). x.qos) (publish_sound (record p { pkid = 0 }) c h); blind = λ p id. refl }
+
+pub content_decides : (c p : Publish) → Decides (has_content c p) (record p { pkid = 0 } ≡ c)
+content_decides c p = (publish_sound (record p { pkid = 0 }) c, λ e. subst (λ x. publish.eq-value.it x c ≡ true) (sym e) (reflexive.laws-law.refl c))
 
 class_of : (c : Publish) (q : QoS) → c.qos ≡ q → IsClass q (has_content c)
 class_of c q e = subst (λ q. IsClass q (has_content c)) e (content_class c)

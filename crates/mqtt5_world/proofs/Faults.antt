@@ -71,8 +71,8 @@ stops_at e new old w all i event below is same h =
     stops e new old w event (drop (suc i) all) all (ap (λ es. run es w) (ap (λ x. x ∷ drop (suc i) all) is ∙ sym (drop-cons all i event below)) ∙ same) h
 
 -- of a new client memory alone is refused
-pub only_memory : (e : StateError) (new : World) (limit : ℕ) (es : List WorldEvent) → Happens {A = Unit {0}} (Err e) new (run es (start limit)) → e ≡ errors.OutOfMemory
-only_memory e new limit es h = by e h
+pub only_memory : (e : StateError) (new old : World) (limit : ℕ) (es : List WorldEvent) → old ≡ start limit → Happens {A = Unit {0}} (Err e) new (run es old) → e ≡ errors.OutOfMemory
+only_memory e new old limit es same h = by e (subst (λ w. Happens {A = Unit {0}} (Err e) new (run es w)) same h)
   where
     by : (e : StateError) → Happens {A = Unit {0}} (Err e) new (run es (start limit)) → e ≡ errors.OutOfMemory
     by errors.OutOfMemory h = refl

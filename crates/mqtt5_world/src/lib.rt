@@ -3,8 +3,10 @@
 
 mod broker;
 mod event;
+mod laws;
 mod player;
 mod world;
 
 pub use event::{Report, WorldEvent};
+pub use laws::{delivery_law, tokens_law};
 pub use player::play;
