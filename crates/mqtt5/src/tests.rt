@@ -3,6 +3,7 @@
 mod broker;
 mod cleaning;
 mod connection;
+mod delivery;
 mod ids;
 mod releases;
 mod resuming;

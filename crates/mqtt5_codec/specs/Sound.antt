@@ -1,5 +1,6 @@
 -- This file serves the logic alone: the derived `==` of packets and codecs finds equal values alone.
-use Rattle.std.proofs.Common.{ap}
+use Rattle.std.proofs.Common.{ap, sym}
+use mathlib.Core.Bool.{true≢false}
 use Rattle.mqtt5_base.specs.Sound.{Sound, both, number_sound, option_sound}
 use Rattle.mqtt5_flow.specs.Sound.{publish_sound, puback_sound, pubrec_sound, pubrel_sound, pubcomp_sound, pingreq_sound, pingresp_sound}
 use Rattle.mqtt5_subs.specs.Sound.{subscribe_sound, suback_sound, unsubscribe_sound, unsuback_sound}
@@ -27,7 +28,7 @@ packet_sound (packets.PubComp x) (packets.PubComp y) h = ap (λ z. packets.PubCo
 packet_sound (packets.Unsubscribe x) (packets.Unsubscribe y) h = ap (λ z. packets.Unsubscribe z) (unsubscribe_sound x y h)
 packet_sound (packets.UnsubAck x) (packets.UnsubAck y) h = ap (λ z. packets.UnsubAck z) (unsuback_sound x y h)
 packet_sound (packets.Disconnect x) (packets.Disconnect y) h = ap (λ z. packets.Disconnect z) (disconnect_sound x y h)
-packet_sound x y h = absurd cc
+packet_sound x y h = absurd (true≢false (sym h))
 
 pub codec_sound : Sound codec.eq-value.it
 codec_sound x y h =

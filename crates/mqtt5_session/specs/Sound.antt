@@ -1,5 +1,6 @@
 -- This file serves the logic alone: the derived `==` of requests and events finds equal values alone.
-use Rattle.std.proofs.Common.{ap, refl}
+use Rattle.std.proofs.Common.{ap, refl, sym}
+use mathlib.Core.Bool.{true≢false}
 use Rattle.mqtt5_base.specs.Sound.{Sound, number_sound}
 use Rattle.mqtt5_flow.specs.Sound.{publish_sound, puback_sound, pubrec_sound, pubrel_sound, pubcomp_sound}
 use Rattle.mqtt5_subs.specs.Sound.{subscribe_sound, suback_sound, unsubscribe_sound, unsuback_sound}
@@ -24,7 +25,7 @@ request_sound (requests.UnsubAck x) (requests.UnsubAck y) h = ap (λ z. requests
 request_sound requests.PingReq requests.PingReq h = refl
 request_sound requests.PingResp requests.PingResp h = refl
 request_sound requests.Disconnect requests.Disconnect h = refl
-request_sound x y h = absurd cc
+request_sound x y h = absurd (true≢false (sym h))
 
 pub outgoing_sound : Sound told.eq-value.it
 outgoing_sound (outgoing.Publish x) (outgoing.Publish y) h = ap (λ z. outgoing.Publish z) (number_sound x y h)
@@ -37,9 +38,9 @@ outgoing_sound (outgoing.PubComp x) (outgoing.PubComp y) h = ap (λ z. outgoing.
 outgoing_sound (outgoing.AwaitAck x) (outgoing.AwaitAck y) h = ap (λ z. outgoing.AwaitAck z) (number_sound x y h)
 outgoing_sound outgoing.PingReq outgoing.PingReq h = refl
 outgoing_sound outgoing.Disconnect outgoing.Disconnect h = refl
-outgoing_sound x y h = absurd cc
+outgoing_sound x y h = absurd (true≢false (sym h))
 
 pub event_sound : Sound event.eq-value.it
 event_sound (events.Incoming x) (events.Incoming y) h = ap (λ z. events.Incoming z) (packet_sound x y h)
 event_sound (events.Outgoing x) (events.Outgoing y) h = ap (λ z. events.Outgoing z) (outgoing_sound x y h)
-event_sound x y h = absurd cc
+event_sound x y h = absurd (true≢false (sym h))

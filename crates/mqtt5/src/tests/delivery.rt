@@ -1,0 +1,109 @@
+//! What is handed on over connections that are lost.
+
+use super::id_under;
+use crate::mqttbytes::QoS;
+use crate::mqttbytes::v5::{Packet, PubCompReason, Publish};
+use crate::{Event, Report, StateError, WorldEvent, delivery_law, play, tokens_law};
+use bytes::Bytes;
+use std::alloc::Global;
+use std::test::Fail;
+
+/// A request to publish one byte, its name.
+fn named(alloc: Global, name: u8, qos: QoS) -> Result<WorldEvent, StateError> {
+    let payload = Bytes::copy_from_slice(alloc, &[name])?;
+    Ok(WorldEvent::Publish(Publish::new(
+        alloc, "a", qos, payload, None,
+    )?))
+}
+
+/// An event by a letter: `^` and `v` are Up and Down, `!` is a loss, `2` a loss after which the receive
+/// maximum is 2, and another is the name of a publish.
+fn event(alloc: Global, letter: u8, qos: QoS) -> Result<WorldEvent, StateError> {
+    match letter {
+        b'^' => Ok(WorldEvent::Up),
+        b'v' => Ok(WorldEvent::Down),
+        b'!' => Ok(WorldEvent::Loss(None)),
+        b'2' => Ok(WorldEvent::Loss(Some(2))),
+        name => named(alloc, name, qos),
+    }
+}
+
+fn events(alloc: Global, letters: &[u8], qos: QoS) -> Result<Vec<WorldEvent>, StateError> {
+    let mut events = Vec::new(alloc);
+    for letter in letters {
+        events.push(event(alloc, *letter, qos)?)?;
+    }
+    Ok(events)
+}
+
+fn plays(alloc: Global, limit: u16, letters: &[u8], qos: QoS) -> Result<Report, StateError> {
+    let events = events(alloc, letters, qos)?;
+    play(alloc, limit, events.as_slice())
+}
+
+fn name_of(publish: &Publish) -> Option<u8> {
+    publish.payload.as_slice().first().copied()
+}
+
+/// Whether publishes have these names, in this order.
+fn are_named(publishes: &[Publish], names: &[u8]) -> bool {
+    let mut same = publishes.len() == names.len();
+    for (publish, name) in publishes.iter().zip(names) {
+        same = same && name_of(publish) == Some(*name);
+    }
+    same
+}
+
+/// The name of the first publish that was refused in state S1.
+fn refused_name(report: &Report) -> Option<u8> {
+    match report.refused.first() {
+        Some((publish, StateError::InvalidState)) => name_of(publish),
+        _other => None,
+    }
+}
+
+/// The reason of the PubComp that was heard last.
+fn last_reason(report: &Report) -> Option<PubCompReason> {
+    match report.state.events().back() {
+        Some(Event::Incoming(Packet::PubComp(ack))) => Some(ack.reason),
+        _other => None,
+    }
+}
+
+#[test]
+fn one_waits_and_one_is_refused(rt: HostRuntime) -> Result<(), Fail> {
+    tokens_law();
+    delivery_law();
+    let report = plays(rt.alloc(), 1, b"A^vBC^v^v^v", QoS::ExactlyOnce)?;
+    assert!(rt; are_named(report.handed.as_slice(), b"AB"));
+    assert!(rt; are_named(report.accepted.as_slice(), b"AB"));
+    assert_eq!(rt; refused_name(&report), Some(b'C'));
+    assert_eq!(rt; report.refused.len(), 1);
+    assert_eq!(rt; report.state.inflight(), 0);
+    Ok(())
+}
+
+#[test]
+fn handed_on_once_over_two_losses(rt: HostRuntime) -> Result<(), Fail> {
+    let report = plays(rt.alloc(), 1, b"A^!^v^!^v", QoS::ExactlyOnce)?;
+    assert!(rt; are_named(report.handed.as_slice(), b"A"));
+    assert_eq!(rt;
+        last_reason(&report),
+        Some(PubCompReason::PacketIdentifierNotFound)
+    );
+    assert_eq!(rt; report.state.inflight(), 0);
+    Ok(())
+}
+
+#[test]
+fn ids_over_a_smaller_maximum(rt: HostRuntime) -> Result<(), Fail> {
+    let report = plays(rt.alloc(), 5, b"ABCD^2E^", QoS::AtLeastOnce)?;
+    assert!(rt; are_named(report.handed.as_slice(), b"AA"));
+    for id in 1..=5 {
+        assert_eq!(rt; id_under(&report.state, id), id);
+    }
+    assert_eq!(rt; report.state.inflight(), 5);
+    assert_eq!(rt; report.state.last_pkid(), 0);
+    assert_eq!(rt; report.state.max_outgoing_inflight(), 2);
+    Ok(())
+}
