@@ -1,5 +1,5 @@
 -- A packet that arrives at the broker.
-use Rattle.std.proofs.Common.{◌≡◌, ℕ, ◌+◌, ◌<◌, ◌≤◌, Bool, true, false, cond, ◌&&◌, ◌==◌, List, [], ◌∷◌, ◌++◌, filter, count_by, Option, Some, None, refl, sym, ap, ◌∙◌, subst, arith, append-nil, eq-eqb}
+use Rattle.std.proofs.Common.{◌≡◌, ℕ, ◌+◌, Bool, true, false, cond, ◌&&◌, ◌==◌, List, [], ◌∷◌, ◌++◌, filter, count_by, Option, Some, refl, sym, ap, ◌∙◌, subst, arith, append-nil, eq-eqb}
 use Rattle.std.specs.FinMap.{get}
 use Rattle.std.specs.FinSet as set
 use Rattle.mqtt5_base.specs.declared.quality.QoS.{QoS}
@@ -15,9 +15,9 @@ use Rattle.mqtt5_session.proofs.Resume.{Fits, IsUsed}
 use Rattle.mqtt5_world.specs.Broker.{serve, serve_publish, reason_for}
 use Rattle.mqtt5_world.specs.World.{World, served, arrives}
 use Rattle.mqtt5_world.specs.Delivery.{is_acked, is_token_up, is_token_down, PubAckDown, PubRecDown, PubCompDown}
-use Rattle.mqtt5_world.proofs.Places.{View, view_of, Place, place, TokenAt, then_turn, add_id, take_id, push_down, pop_up, publish_token, token_here, front_none}
+use Rattle.mqtt5_world.proofs.Places.{view_of, place, TokenAt, then_turn, add_id, take_id, push_down, pop_up, publish_token, token_here, front_none}
 use Rattle.mqtt5_world.proofs.Tokens.{once_up, twice_up, release_up, goes_up, place_up}
-use Rattle.mqtt5_world.proofs.Step.{Inv, Step, Stays, Change, change_step, Quiet, quiet_step, AckedClass, Allowed, SlotAllowed, one, is_due, accepted, handed, waiting, on_way, way_front, is_publish, count_push, of_other, of_acked, and_no, and_yes}
+use Rattle.mqtt5_world.proofs.Step.{Inv, Step, Stays, change_step, quiet_step, AckedClass, SlotAllowed, one, is_due, accepted, handed, waiting, on_way, way_front, count_push, of_other, of_acked, and_no, and_yes}
 use Rattle.mqtt5_world.proofs.Asks.{refused_step}
 
 -- what is said of the slot of an id in use

@@ -1,24 +1,24 @@
 -- A publish that is asked for.
-use Rattle.std.proofs.Common.{◌≡◌, ℕ, ◌+◌, ◌<◌, ◌≤◌, Bool, true, false, ◌&&◌, List, [], ◌∷◌, ◌++◌, filter, count_by, Option, Some, None, Ok, Err, refl, sym, ap, ◌∙◌, subst, arith, append-nil, ◌==◌}
+use Rattle.std.proofs.Common.{◌≡◌, ℕ, ◌<◌, Bool, true, false, ◌&&◌, List, [], ◌∷◌, ◌++◌, filter, Option, Some, None, Ok, refl, ap, ◌∙◌, subst, arith, append-nil, ◌==◌}
 use Rattle.std.specs.FinMap.{get}
 use Rattle.mqtt5_base.specs.declared.quality.QoS.{QoS}
 use Rattle.mqtt5_base.specs.declared.quality.QoS.TheVariants.{AtMostOnce, AtLeastOnce, ExactlyOnce}
 use Rattle.mqtt5_flow.specs.declared.publish.Publish.{Publish}
 use Rattle.mqtt5_codec.specs.declared.packet.Packet.{Packet}
 use Rattle.mqtt5_codec.specs.declared.packet.Packet.TheVariants as packets
-use Rattle.mqtt5_session.specs.declared.slot.Slot.TheVariants.{Sent, Released}
+use Rattle.mqtt5_session.specs.declared.slot.Slot.TheVariants.{Sent}
 use Rattle.mqtt5_session.specs.declared.event.Request.TheVariants as requests
 use Rattle.mqtt5_session.specs.declared.event.Outgoing.TheVariants as outgoing
 use Rattle.mqtt5_session.specs.declared.error.StateError.{StateError}
-use Rattle.mqtt5_session.specs.Session.{Session, Answer}
-use Rattle.mqtt5_session.specs.Requests.{out, Verdict, Refuse, Wait, Store, judged, out_acked, out_identified, out_once, out_publish, unless, over_maximum, alias_fault, alias_of, alias_over, id_for, last_after, tells_at}
+use Rattle.mqtt5_session.specs.Session.{Answer}
+use Rattle.mqtt5_session.specs.Requests.{out, Verdict, Refuse, Wait, Store, out_acked, out_once, out_publish, unless, over_maximum, alias_fault, id_for, last_after, tells_at}
 use Rattle.mqtt5_session.proofs.Owed.{Judges, judges}
 use Rattle.mqtt5_session.proofs.Keeps.{Sound, out_sound, id_positive}
 use Rattle.mqtt5_world.specs.World.{World, asked, asks}
-use Rattle.mqtt5_world.specs.Delivery.{is_acked, is_token_up, IsClass, Free}
-use Rattle.mqtt5_world.proofs.Places.{View, view_of, Place, place, TokenAt, then_turn, set_slot, push_up, publish_token, back_none}
+use Rattle.mqtt5_world.specs.Delivery.{is_acked, is_token_up}
+use Rattle.mqtt5_world.proofs.Places.{View, view_of, place, TokenAt, then_turn, set_slot, push_up, publish_token, back_none}
 use Rattle.mqtt5_world.proofs.Tokens.{none_free, stored_token}
-use Rattle.mqtt5_world.proofs.Step.{Inv, Step, Stays, Change, change_step, Quiet, quiet_step, AckedClass, Allowed, one, passes, is_due, accepted, handed, waiting, on_way, way_append, way_push, count_push, of_other, of_acked, and_yes}
+use Rattle.mqtt5_world.proofs.Step.{Inv, Step, change_step, quiet_step, AckedClass, one, passes, is_due, accepted, on_way, way_push, count_push, of_other, of_acked, and_yes}
 
 -- nothing but the refusals changes
 pub refused_step : (w : World) (rs : List (Publish × StateError)) → Inv w → Step w (record w { refused = rs })

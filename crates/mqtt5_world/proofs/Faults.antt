@@ -1,5 +1,5 @@
 -- What was refused once stays so; and no world that is reached has a fault.
-use Rattle.std.proofs.Common.{◌≡◌, ◌≢◌, ℕ, zero, suc, ◌+◌, ◌<◌, List, [], ◌∷◌, ◌++◌, Option, Some, None, Result, Ok, Err, refl, sym, ap, ◌∙◌, subst, length, drop, slice_index_or}
+use Rattle.std.proofs.Common.{◌≡◌, ◌≢◌, ℕ, suc, ◌<◌, List, [], ◌∷◌, ◌++◌, Option, Result, Ok, Err, refl, sym, ap, ◌∙◌, subst, length, drop, slice_index_or}
 use Rattle.std.proofs.Math.Seq.{drop-cons}
 use Rattle.mqtt5_flow.specs.declared.publish.Publish.{Publish}
 use Rattle.mqtt5_codec.specs.declared.packet.Packet.{Packet}
@@ -12,7 +12,7 @@ use Rattle.mqtt5_session.specs.Cleaning.{Sendings, resume_of}
 use Rattle.mqtt5_session.specs.declared.event.Request.TheVariants as requests
 use Rattle.mqtt5_world.specs.declared.event.WorldEvent.{WorldEvent}
 use Rattle.mqtt5_world.specs.declared.event.WorldEvent.TheVariants as events
-use Rattle.mqtt5_world.specs.World.{World, start, asked, heard, takes, taken_back, arrives, returns, resumed, resumes, happens, run}
+use Rattle.mqtt5_world.specs.World.{World, start, asked, heard, takes, taken_back, arrives, returns, resumed, happens, run}
 use Rattle.mqtt5_world.specs.Happens.{Happens}
 use Rattle.mqtt5_world.proofs.Runs.{inv_start, inv_run}
 

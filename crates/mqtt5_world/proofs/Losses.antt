@@ -1,5 +1,5 @@
 -- A lost connection: both ways are emptied, and what the session keeps is sent again.
-use Rattle.std.proofs.Common.{◌≡◌, ◌≢◌, ℕ, zero, suc, ◌+◌, ◌<◌, ◌≤◌, Bool, true, false, ◌&&◌, ◌==◌, List, [], ◌∷◌, ◌++◌, filter, count_by, Option, Some, None, Result, Ok, Err, refl, sym, ap, ap₂, ◌∙◌, subst, ⊎_elim, arith, append-nil, eq-eqb, ◌⊎◌, inl, inr}
+use Rattle.std.proofs.Common.{◌≡◌, ◌≢◌, ℕ, zero, suc, ◌<◌, ◌≤◌, Bool, true, false, ◌&&◌, List, [], ◌++◌, filter, Option, Some, None, Ok, refl, sym, ap, ap₂, ◌∙◌, subst, ⊎_elim, arith, append-nil, eq-eqb, ◌⊎◌, inl, inr}
 use Rattle.std.proofs.lemmas.Bool.{cases_eq}
 use Rattle.std.proofs.lemmas.List.Elements.{filter-append, filter_map-append}
 use Rattle.std.specs.List.{filter_map}
@@ -16,17 +16,17 @@ use Rattle.mqtt5_session.specs.declared.slot.Slot.TheVariants.{Sent, Released}
 use Rattle.mqtt5_session.specs.declared.event.Request.{Request}
 use Rattle.mqtt5_session.specs.Held.{Held}
 use Rattle.mqtt5_session.specs.Session.{Core, Session}
-use Rattle.mqtt5_session.specs.Requests.{alias_of, alias_over, release_of}
+use Rattle.mqtt5_session.specs.Requests.{release_of}
 use Rattle.mqtt5_session.specs.Packets.{inc}
-use Rattle.mqtt5_session.specs.Cleaning.{by_id, publish_again, release_again, cleaned, Sendings, resume_of}
+use Rattle.mqtt5_session.specs.Cleaning.{by_id, publish_again, release_again, cleaned, resume_of}
 use Rattle.mqtt5_session.specs.Again.{packet_for, alias_again, after_sent, sent_unless, packets_of}
-use Rattle.mqtt5_session.proofs.Resume.{Fits, IsUsed}
+use Rattle.mqtt5_session.proofs.Resume.{Fits}
 use Rattle.mqtt5_session.proofs.Resume as session
 use Rattle.mqtt5_session.proofs.Keeps.{Sound, within_fits}
-use Rattle.mqtt5_world.specs.World.{World, heard, takes, taken_back, resumed, resumes, happens}
-use Rattle.mqtt5_world.specs.Delivery.{is_acked, is_token_up, Token, Free, PublishUp, PubAckDown, PublishTwiceUp, PubRecDown, PubRelUp, PubCompDown, IsClass}
-use Rattle.mqtt5_world.proofs.Places.{View, view_of, Place, place, TokenAt, IsTokenOf, token_here, token_other, front_here, front_none, publish_token}
-use Rattle.mqtt5_world.proofs.Step.{Inv, SlotAllowed, sum_less, one, is_sent, is_due, due_of, accepted, handed, waiting, stored, due, on_way, way_append, of_acked}
+use Rattle.mqtt5_world.specs.World.{World, takes, taken_back, resumed, resumes}
+use Rattle.mqtt5_world.specs.Delivery.{is_token_up, Token, Free, PublishUp, PubAckDown, PublishTwiceUp, PubRecDown, PubRelUp, PubCompDown, IsClass}
+use Rattle.mqtt5_world.proofs.Places.{token_here, token_other, front_here, front_none, publish_token}
+use Rattle.mqtt5_world.proofs.Step.{Inv, SlotAllowed, sum_less, one, is_sent, is_due, accepted, handed, waiting, stored, due, on_way, way_append, of_acked}
 use Rattle.mqtt5_world.proofs.Returns.{counted_acked}
 
 -- ---- a list of packets built id by id

@@ -1,5 +1,5 @@
 -- A packet that arrives at the client.
-use Rattle.std.proofs.Common.{◌≡◌, ◌≢◌, ℕ, ◌+◌, ◌<◌, ◌≤◌, Bool, true, false, cond, ◌&&◌, ◌==◌, List, [], ◌∷◌, ◌++◌, filter, Option, Some, None, Ok, refl, sym, ap, ◌∙◌, subst, arith, append-nil, eq-eqb}
+use Rattle.std.proofs.Common.{◌≡◌, ◌≢◌, ℕ, Bool, true, false, ◌&&◌, ◌==◌, List, [], ◌∷◌, filter, Option, Some, None, Ok, refl, sym, ap, ◌∙◌, subst, arith, append-nil, eq-eqb}
 use Rattle.std.proofs.lemmas.Bool.{eqb-true}
 use Rattle.std.specs.FinMap.{get, insert, remove}
 use Rattle.std.specs.FinSet as set
@@ -7,7 +7,6 @@ use Rattle.mqtt5_base.specs.declared.quality.QoS.{QoS}
 use Rattle.mqtt5_base.specs.declared.quality.QoS.TheVariants.{AtMostOnce, AtLeastOnce, ExactlyOnce}
 use Rattle.mqtt5_flow.specs.declared.publish.Publish.{Publish}
 use Rattle.mqtt5_flow.specs.declared.puback.PubAck.{PubAck}
-use Rattle.mqtt5_flow.specs.declared.puback.PubAckReason.{PubAckReason}
 use Rattle.mqtt5_flow.specs.declared.puback.PubAckReason.TheVariants.{Success}
 use Rattle.mqtt5_flow.specs.declared.pubrec.PubRec.{PubRec}
 use Rattle.mqtt5_flow.specs.declared.pubcomp.PubComp.{PubComp}
@@ -26,12 +25,12 @@ use Rattle.mqtt5_session.proofs.Resume.{IsUsed}
 use Rattle.mqtt5_session.proofs.Owed.{choose}
 use Rattle.mqtt5_session.proofs.Keeps.{Sound, inc_sound}
 use Rattle.mqtt5_world.specs.World.{World, heard, takes, returns}
-use Rattle.mqtt5_world.specs.Delivery.{is_acked, is_token_up, is_token_down, IsClass, Free, PubRelUp}
-use Rattle.mqtt5_world.proofs.Places.{View, view_of, Place, place, TokenAt, IsTokenOf, Turn, then_turn, set_slot, unset_slot, push_up, pop_down, publish_token, more_up}
+use Rattle.mqtt5_world.specs.Delivery.{is_acked, is_token_up, is_token_down, Free, PubRelUp}
+use Rattle.mqtt5_world.proofs.Places.{view_of, Place, place, TokenAt, IsTokenOf, then_turn, set_slot, unset_slot, push_up, pop_down, publish_token, more_up}
 use Rattle.mqtt5_world.proofs.Tokens.{ack_down, rec_down, comp_down, comes_down, place_down, stored_token}
-use Rattle.mqtt5_world.proofs.Step.{Inv, Step, Stays, Change, change_step, Ledger, Even, AckedClass, Allowed, WaitsAllowed, one, is_sent, is_due, passes, accepted, handed, waiting, on_way, way_append, way_push, of_other, of_acked, and_no, and_yes}
+use Rattle.mqtt5_world.proofs.Step.{Inv, Step, change_step, AckedClass, WaitsAllowed, one, is_sent, is_due, passes, waiting, on_way, way_push, of_other, of_acked, and_no}
 use Rattle.mqtt5_world.proofs.Asks.{refused_step, due_new}
-use Rattle.mqtt5_world.proofs.Arrivals.{used, allowed_slot}
+use Rattle.mqtt5_world.proofs.Arrivals.{used}
 
 -- a publish that waits is acked
 pub counted_acked : (q : QoS) → q ≢ AtMostOnce → is_acked q ≡ true
@@ -75,15 +74,14 @@ module _ (w : World) (i : Inv w) (events : List Event) (k : ℕ) (rest : List Pa
 
   -- the publish that waits goes out
   abbrev going : Publish → Answer
-  going p =
-      (
-        Ok (Some (packets.Publish p)),
-        record (tells hearing (outgoing.Publish k)) {
-          core = record w.session.core { held = insert w.session.core.held k (Sent p); waiting = None };
-          collision_pings = 0;
-          last_incoming = 0;
-        },
-      )
+  going p = (
+    Ok (Some (packets.Publish p)),
+    record (tells hearing (outgoing.Publish k)) {
+      core = record w.session.core { held = insert w.session.core.held k (Sent p); waiting = None };
+      collision_pings = 0;
+      last_incoming = 0;
+    },
+  )
 
   going_step : (p : Publish) → w.session.core.waiting ≡ Some p → p.pkid ≡ k → Sound (going p).1.core → Step w (after w rest (going p))
   going_step p e mine sound =

@@ -1,19 +1,17 @@
 -- Whole runs: what holds of every world that is reached.
-use Rattle.std.proofs.Common.{◌≡◌, ℕ, zero, suc, ◌+◌, ◌*◌, ◌≤◌, Bool, true, false, ◌&&◌, List, [], ◌∷◌, count_by, Option, Some, None, refl, sym, ap, ◌∙◌, subst, arith, add_assoc, add-zero, mul-le-mul_left}
+use Rattle.std.proofs.Common.{◌≡◌, ℕ, ◌+◌, ◌*◌, ◌≤◌, Bool, true, false, ◌&&◌, List, [], ◌∷◌, count_by, None, refl, sym, ap, subst, arith, add-zero, mul-le-mul_left}
 use Rattle.std.specs.Ordering.{nat_cmp}
 use Rattle.std.specs.FinMap.{get, get-empty}
 use Rattle.std.specs.FinSet as set
 use Rattle.mqtt5_base.specs.declared.quality.QoS.{QoS}
 use Rattle.mqtt5_base.specs.declared.quality.QoS.TheVariants.{AtMostOnce, AtLeastOnce, ExactlyOnce}
 use Rattle.mqtt5_flow.specs.declared.publish.Publish.{Publish}
-use Rattle.mqtt5_session.specs.declared.slot.Slot.{Slot}
 use Rattle.mqtt5_session.proofs.Resume.{no_ids, Fits}
 use Rattle.mqtt5_world.specs.declared.event.WorldEvent.{WorldEvent}
 use Rattle.mqtt5_world.specs.declared.event.WorldEvent.TheVariants as events
 use Rattle.mqtt5_world.specs.World.{World, start, happens, run, losses}
 use Rattle.mqtt5_world.specs.Delivery.{IsClass, Token, Free}
-use Rattle.mqtt5_world.proofs.Places.{view_of, place, TokenAt}
-use Rattle.mqtt5_world.proofs.Step.{Inv, Step, SlotAllowed, AckedClass, Balance, one, sum_less, sum_none, is_sent, is_due, handed, accepted, waiting, stored, due, on_way}
+use Rattle.mqtt5_world.proofs.Step.{Inv, SlotAllowed, AckedClass, Balance, one, sum_less, sum_none, is_sent, is_due, handed, accepted, waiting, stored, due, on_way}
 use Rattle.mqtt5_world.proofs.Asks.{ask_step}
 use Rattle.mqtt5_world.proofs.Arrivals.{up_step}
 use Rattle.mqtt5_world.proofs.Returns.{down_step}

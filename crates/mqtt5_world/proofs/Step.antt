@@ -10,13 +10,12 @@ use Rattle.mqtt5_flow.specs.declared.publish.Publish.{Publish}
 use Rattle.mqtt5_codec.specs.declared.packet.Packet.{Packet}
 use Rattle.mqtt5_codec.specs.declared.packet.Packet.TheVariants as packets
 use Rattle.mqtt5_session.specs.declared.slot.Slot.{Slot}
-use Rattle.mqtt5_session.specs.declared.slot.Slot.TheVariants.{Sent, Released}
-use Rattle.mqtt5_session.specs.Requests.{over_maximum, alias_fault, alias_of, alias_over}
-use Rattle.mqtt5_session.specs.Session.{Core}
+use Rattle.mqtt5_session.specs.declared.slot.Slot.TheVariants.{Sent}
+use Rattle.mqtt5_session.specs.Requests.{alias_of, alias_over}
 use Rattle.mqtt5_session.proofs.Keeps.{Sound}
 use Rattle.mqtt5_world.specs.World.{World}
 use Rattle.mqtt5_world.specs.Delivery.{is_acked, IsClass}
-use Rattle.mqtt5_world.proofs.Places.{View, view_of, Place, place, TokenAt, Turn, turned}
+use Rattle.mqtt5_world.proofs.Places.{view_of, Place, place, TokenAt, Turn, turned}
 
 -- ---- sums over ids
 

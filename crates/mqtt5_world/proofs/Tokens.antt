@@ -1,5 +1,5 @@
 -- What a token at the front of a way says of its id.
-use Rattle.std.proofs.Common.{◌≡◌, ℕ, Bool, true, false, ◌&&◌, ◌==◌, List, [], ◌∷◌, filter, Option, Some, None, refl, sym, ap, ◌∙◌, subst, eq-eqb}
+use Rattle.std.proofs.Common.{◌≡◌, ℕ, Bool, true, false, List, [], ◌∷◌, filter, Option, Some, None, refl, ap, ◌∙◌}
 use Rattle.mqtt5_base.specs.declared.quality.QoS.{QoS}
 use Rattle.mqtt5_base.specs.declared.quality.QoS.TheVariants.{AtMostOnce, AtLeastOnce, ExactlyOnce}
 use Rattle.mqtt5_flow.specs.declared.publish.Publish.{Publish}
@@ -13,7 +13,7 @@ use Rattle.mqtt5_codec.specs.declared.packet.Packet.TheVariants as packets
 use Rattle.mqtt5_session.specs.declared.slot.Slot.{Slot}
 use Rattle.mqtt5_session.specs.declared.slot.Slot.TheVariants.{Sent, Released}
 use Rattle.mqtt5_world.specs.Delivery.{is_acked, is_token_up, is_token_down, Token, Free, PublishUp, PubAckDown, PublishTwiceUp, PubRecDown, PubRelUp, PubCompDown}
-use Rattle.mqtt5_world.proofs.Places.{View, Place, place, TokenAt, front_here}
+use Rattle.mqtt5_world.proofs.Places.{View, place, front_here}
 
 -- a publish of QoS 1 on its way up
 pub once_up : {k : ℕ} {x : Option Slot} {b : Bool} {us ds : List Packet} {p : Publish} → p.qos ≡ AtLeastOnce → Token k x b (packets.Publish p ∷ us) ds → (x ≡ Some (Sent p)) × (b ≡ false) × (us ≡ []) × (ds ≡ [])

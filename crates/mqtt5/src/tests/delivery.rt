@@ -11,9 +11,7 @@ use std::test::Fail;
 /// A request to publish one byte, its name.
 fn named(alloc: Global, name: u8, qos: QoS) -> Result<WorldEvent, StateError> {
     let payload = Bytes::copy_from_slice(alloc, &[name])?;
-    Ok(WorldEvent::Publish(Publish::new(
-        alloc, "a", qos, payload, None,
-    )?))
+    Ok(WorldEvent::Publish(Publish::new(alloc, "a", qos, payload, None)?))
 }
 
 /// An event by a letter: `^` and `v` are Up and Down, `!` is a loss, `2` a loss after which the receive

@@ -1,4 +1,4 @@
-use Rattle.mqtt5_world.specs.World.{start, run}
+use Rattle.mqtt5_world.specs.World.{start}
 use Rattle.mqtt5_world.proofs.Runs.{inv_start, inv_run}
 use Rattle.mqtt5_world.proofs.laws.tokens_law.Goals as goal
 

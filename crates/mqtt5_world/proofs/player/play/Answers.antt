@@ -1,5 +1,4 @@
 use Rattle.std.proofs.lemmas.Result.{IfOk-weaker}
-use Rattle.mqtt5_world.specs.declared.event.Report.{Report}
 use Rattle.mqtt5_world.specs.World.{start, run}
 use Rattle.mqtt5_world.specs.Happens.{IsReport}
 use Rattle.mqtt5_world.proofs.Contents.{report_most, report_least, report_losses, report_ledger, report_once}
