@@ -1,5 +1,7 @@
 //! What is handed on over connections that are lost.
 
+ghost use Rattle.std.specs.Prelude.{◌<◌};
+
 use super::id_under;
 use crate::mqttbytes::QoS;
 use crate::mqttbytes::v5::{Packet, PubCompReason, Publish};
@@ -34,7 +36,9 @@ fn events(alloc: Global, letters: &[u8], qos: QoS) -> Result<Vec<WorldEvent>, St
     Ok(events)
 }
 
-fn plays(alloc: Global, limit: u16, letters: &[u8], qos: QoS) -> Result<Report, StateError> {
+fn plays(alloc: Global, limit: u16, letters: &[u8], qos: QoS) -> Result<Report, StateError>
+    requires { 0 < limit }
+{
     let events = events(alloc, letters, qos)?;
     play(alloc, limit, events.as_slice())
 }
