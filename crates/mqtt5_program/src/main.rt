@@ -1,8 +1,9 @@
-//! The program `mqtt5`: it runs a script of incoming bytes and requests and prints what came of it, or
-//! tries the vectors.
+//! The program `mqtt5`: it runs a script of incoming bytes and requests, or of what happens between a client and
+//! its broker, and prints what came of it; or it tries the vectors.
 #![tactic(auto)]
 
 mod bench;
+mod contents;
 mod outcome;
 mod report;
 pub mod run;

@@ -77,10 +77,15 @@ fn got(packet: &Packet) -> (&'static str, Option<u16>) {
 
 fn write_got<W: Write>(output: &mut W, publish: &Publish) -> io::Result<()> {
     write!(output, "got Publish {} ", publish.pkid)?;
+    write_message(output, publish)?;
+    output.write_all(b"\n")
+}
+
+/// Prints a publish's topic and payload.
+pub fn write_message<W: Write>(output: &mut W, publish: &Publish) -> io::Result<()> {
     write_hex(output, publish.topic.as_slice())?;
     output.write_all(b" ")?;
-    write_hex(output, publish.payload.as_slice())?;
-    output.write_all(b"\n")
+    write_hex(output, publish.payload.as_slice())
 }
 
 /// Two digits a byte, or `-` for none.

@@ -1,13 +1,14 @@
 //! What the program does with its words, its input and its output.
 
-ghost use Rattle.std.specs.Prelude.{◌≡◌, ◌<◌, IfOk, IsSome, IsTrue, length};
+ghost use Rattle.std.specs.Prelude.{◌≡◌, ◌<◌, IfOk, IsSome, length};
 ghost use Rattle.mqtt5_program.specs.declared.run.Status.TheVariants.{Fault, Refused};
 
 use crate::bench::{FRAMES, try_vectors};
+use crate::contents::write_contents;
 use crate::outcome::run_steps;
 use crate::report::{write_fault, write_outcome};
 use crate::script::{ScriptError, parse_number, read_script};
-use mqtt5::StateError;
+use mqtt5::{StateError, Step, WorldEvent, play};
 use std::alloc::Global;
 use std::io;
 use std::io::{ErrorKind, Read, Write};
@@ -21,6 +22,14 @@ enum Status {
     Refused = 2,
 }
 
+/// What the words ask for.
+#[derive(Clone, Copy, Debug, PartialEq, Eq)]
+enum Task {
+    Bench,
+    Drive(NonZeroU16),
+    World(NonZeroU16),
+}
+
 /// Runs the program on the words after its name, and answers its exit status: 0; 1 after a fault or a
 /// failing write; 2 where the words or the script are refused, as none and more than two words are.
 /// Nothing runs before the whole script is read.
@@ -28,13 +37,11 @@ pub fn run<R: Read, W: Write>(alloc: Global, words: &[String], input: &mut R, ou
     ensures status { result < 3 }
     ensures words { result ≡ 0 → (0 < length words.now) × (length words.now < 3) }
 {
-    let printed = if is_bench(words) {
-        run_bench(alloc, output)
-    } else {
-        match drive_limit(words) {
-            Some(limit) => run_script(alloc, limit, input, output),
-            None => write_usage(output),
-        }
+    let printed = match parse_words(words) {
+        Some(Task::Bench) => run_bench(alloc, output),
+        Some(Task::Drive(limit)) => run_drive(alloc, limit, input, output),
+        Some(Task::World(limit)) => run_world(alloc, limit, input, output),
+        None => write_usage(output),
     };
     printed.unwrap_or(Status::Fault) as u8
 }
@@ -51,13 +58,29 @@ pub fn refuse_words<W: Write>(error: &io::Error, output: &mut W) -> u8
     printed.unwrap_or(Status::Fault) as u8
 }
 
-fn is_bench(words: &[String]) -> bool
-    ensures { IsTrue result → length words.now ≡ 1 }
+/// None of words that ask for nothing.
+fn parse_words(words: &[String]) -> Option<Task>
+    ensures { IsSome result → (0 < length words.now) × (length words.now < 3) }
 {
     match words {
-        [word] => word.as_str() == "bench",
-        _ => false,
+        [word] if word.as_str() == "bench" => Some(Task::Bench),
+        [word, limit] => limited_task(word.as_str(), parse_limit(limit.as_str())?),
+        _ => None,
     }
+}
+
+fn limited_task(word: &str, limit: NonZeroU16) -> Option<Task> {
+    match word {
+        "drive" => Some(Task::Drive(limit)),
+        "world" => Some(Task::World(limit)),
+        _ => None,
+    }
+}
+
+/// A limit is 1 to 65535.
+fn parse_limit(field: &str) -> Option<NonZeroU16> {
+    let number = parse_number(field)?;
+    NonZeroU16::new(u16::try_from(number).ok()?)
 }
 
 fn run_bench<W: Write>(alloc: Global, output: &mut W) -> io::Result<Status> {
@@ -68,30 +91,25 @@ fn run_bench<W: Write>(alloc: Global, output: &mut W) -> io::Result<Status> {
     }
 }
 
-/// The limit of `drive LIMIT`, which is 1 to 65535; none of other words.
-fn drive_limit(words: &[String]) -> Option<NonZeroU16>
-    ensures { IsSome result → length words.now ≡ 2 }
-{
-    match words {
-        [word, limit] if word.as_str() == "drive" => {
-            let number = parse_number(limit.as_str())?;
-            NonZeroU16::new(u16::try_from(number).ok()?)
-        }
-        _ => None,
-    }
-}
-
-fn run_script<R: Read, W: Write>(
+fn run_drive<R: Read, W: Write>(
     alloc: Global,
     limit: NonZeroU16,
     input: &mut R,
     output: &mut W,
 ) -> io::Result<Status> {
-    let steps = match read_script(alloc, input) {
-        Ok(steps) => steps,
-        Err(error) => return write_refusal(output, &error),
-    };
-    match run_steps(alloc, limit, steps.as_slice()) {
+    match read_script(alloc, input) {
+        Ok(steps) => run_all(alloc, limit, steps.as_slice(), output),
+        Err(error) => write_refusal(output, &error),
+    }
+}
+
+fn run_all<W: Write>(
+    alloc: Global,
+    limit: NonZeroU16,
+    steps: &[Step],
+    output: &mut W,
+) -> io::Result<Status> {
+    match run_steps(alloc, limit, steps) {
         Ok(outcome) => {
             write_outcome(output, &outcome)?;
             Ok(if outcome.fault.is_none() {
@@ -100,10 +118,31 @@ fn run_script<R: Read, W: Write>(
                 Status::Fault
             })
         }
-        Err(fault) => {
-            write_fault(output, &fault)?;
-            Ok(Status::Fault)
-        }
+        Err(fault) => write_ending(output, &fault),
+    }
+}
+
+fn run_world<R: Read, W: Write>(
+    alloc: Global,
+    limit: NonZeroU16,
+    input: &mut R,
+    output: &mut W,
+) -> io::Result<Status> {
+    match read_script(alloc, input) {
+        Ok(events) => play_all(alloc, limit, events.as_slice(), output),
+        Err(error) => write_refusal(output, &error),
+    }
+}
+
+fn play_all<W: Write>(
+    alloc: Global,
+    limit: NonZeroU16,
+    events: &[WorldEvent],
+    output: &mut W,
+) -> io::Result<Status> {
+    match play(alloc, limit.get(), events) {
+        Ok(report) => write_contents(output, events, &report).map(|()| Status::Done),
+        Err(fault) => write_ending(output, &fault),
     }
 }
 
@@ -124,7 +163,14 @@ fn write_refusal<W: Write>(output: &mut W, error: &ScriptError) -> io::Result<St
 fn write_memory_fault<W: Write>(output: &mut W) -> io::Result<Status>
     ensures { IfOk result (λ s. s ≡ Fault) }
 {
-    write_fault(output, &StateError::OutOfMemory)?;
+    write_ending(output, &StateError::OutOfMemory)
+}
+
+/// Prints the fault that the program ends by.
+fn write_ending<W: Write>(output: &mut W, fault: &StateError) -> io::Result<Status>
+    ensures { IfOk result (λ s. s ≡ Fault) }
+{
+    write_fault(output, fault)?;
     Ok(Status::Fault)
 }
 

@@ -1,4 +1,4 @@
-//! A script of steps, one on each line.
+//! A script, with what it says on each line: a step of `drive`, or what happens in a `world`.
 
 ghost use Rattle.std.specs.Prelude.{◌≡◌, ◌↔◌, Some, codes};
 ghost use Rattle.hex.specs.declared.error.FromHexError.TheVariants as hex_errors;
@@ -9,7 +9,7 @@ ghost use Rattle.mqtt5_program.specs.declared.script.LineError.TheVariants as li
 
 use bytes::Bytes;
 use hex::FromHexError;
-use mqtt5::{Input, Request, Step};
+use mqtt5::{Input, Request, Step, WorldEvent};
 use mqtt5_base::{Error, QoS, qos};
 use mqtt5_flow::{PubAck, PubRec, PubRel, Publish};
 use mqtt5_subs::{Filter, Subscribe, Unsubscribe};
@@ -29,17 +29,17 @@ pub enum ScriptError {
     OutOfMemory,
 }
 
-impl From<AllocFailed<Step>> for ScriptError {
+impl<T: Drop> From<AllocFailed<T>> for ScriptError {
     ghost from_gives = { λ _ e. e ≡ script_errors.OutOfMemory };
 
-    fn from(_refused: AllocFailed<Step>) -> ScriptError {
+    fn from(_refused: AllocFailed<T>) -> ScriptError {
         ScriptError::OutOfMemory
     }
 }
 
-/// Why a line has no step.
+/// Why a line says nothing.
 #[derive(Clone, Copy, Debug, PartialEq, Eq)]
-enum LineError {
+pub enum LineError {
     Bad,
     OutOfMemory,
 }
@@ -75,8 +75,14 @@ impl From<Error> for LineError {
     }
 }
 
-/// Reads a script and takes its lines apart; empty lines count, and have no step.
-pub fn read_script<R: Read>(alloc: Global, input: &mut R) -> Result<Vec<Step>, ScriptError> {
+/// What a line of a script says.
+pub trait Line: Drop {
+    /// Takes a line apart, which isn't empty.
+    fn parse(alloc: Global, line: &str) -> Result<Self, LineError>;
+}
+
+/// Reads a script and takes its lines apart; empty lines count, and say nothing.
+pub fn read_script<L: Line, R: Read>(alloc: Global, input: &mut R) -> Result<Vec<L>, ScriptError> {
     let bytes = read_bytes(alloc, input)?;
     match str::from_utf8(bytes.as_slice()) {
         Ok(text) => parse_script(alloc, text),
@@ -94,31 +100,67 @@ fn read_bytes<R: Read>(alloc: Global, input: &mut R) -> Result<Vec<u8>, ScriptEr
     }
 }
 
-fn parse_script(alloc: Global, text: &str) -> Result<Vec<Step>, ScriptError> {
-    let mut steps = Vec::new(alloc);
+fn parse_script<L: Line>(alloc: Global, text: &str) -> Result<Vec<L>, ScriptError> {
+    let mut lines = Vec::new(alloc);
     let mut number = 0usize;
     for line in text.split('\n') {
         number = number.saturating_add(1);
         if !line.is_empty() {
-            steps.push(parse_line(alloc, line).map_err(|error| error.at(number))?)?;
+            lines.push(L::parse(alloc, line).map_err(|error| error.at(number))?)?;
         }
     }
-    Ok(steps)
+    Ok(lines)
 }
 
-/// A word, a moment and the word's fields, with one space between any two.
-fn parse_line(alloc: Global, line: &str) -> Result<Step, LineError> {
-    let (word, rest) = line.split_once(' ').ok_or(LineError::Bad)?;
-    let (at, fields) = match rest.split_once(' ') {
-        Some((at, fields)) => (at, Some(fields)),
-        None => (rest, None),
-    };
-    let at = parse_number(at).ok_or(LineError::Bad)?;
-    let input = match fields {
-        Some(fields) => parse_input(alloc, word, fields)?,
-        None => Input::Request(bare_request(word).ok_or(LineError::Bad)?),
-    };
-    Ok(Step { at, input })
+impl Line for Step {
+    /// A word, a moment and the word's fields, with one space between any two.
+    fn parse(alloc: Global, line: &str) -> Result<Step, LineError> {
+        let (word, rest) = line.split_once(' ').ok_or(LineError::Bad)?;
+        let (at, fields) = split_word(rest);
+        let at = parse_number(at).ok_or(LineError::Bad)?;
+        let input = match fields {
+            Some(fields) => parse_input(alloc, word, fields)?,
+            None => Input::Request(bare_request(word).ok_or(LineError::Bad)?),
+        };
+        Ok(Step { at, input })
+    }
+}
+
+impl Line for WorldEvent {
+    /// A word and its fields, with one space between any two.
+    fn parse(alloc: Global, line: &str) -> Result<WorldEvent, LineError> {
+        match split_word(line) {
+            (word, Some(fields)) => parse_event(alloc, word, fields),
+            (word, None) => bare_event(word).ok_or(LineError::Bad),
+        }
+    }
+}
+
+/// The text up to the first space, and what is behind that.
+fn split_word(text: &str) -> (&str, Option<&str>) {
+    match text.split_once(' ') {
+        Some((word, rest)) => (word, Some(rest)),
+        None => (text, None),
+    }
+}
+
+/// The event of a word without fields.
+fn bare_event(word: &str) -> Option<WorldEvent> {
+    match word {
+        "up" => Some(WorldEvent::Up),
+        "down" => Some(WorldEvent::Down),
+        "loss" => Some(WorldEvent::Loss(None)),
+        _ => None,
+    }
+}
+
+/// The event of a word with fields.
+fn parse_event(alloc: Global, word: &str, fields: &str) -> Result<WorldEvent, LineError> {
+    match word {
+        "pub" => Ok(WorldEvent::Publish(parse_publish(alloc, fields)?)),
+        "loss" => Ok(WorldEvent::Loss(Some(parse_u16(fields)?))),
+        _ => Err(LineError::Bad),
+    }
 }
 
 /// The request of a word without fields.
@@ -143,25 +185,24 @@ fn parse_input(alloc: Global, word: &str, fields: &str) -> Result<Input, LineErr
 
 fn parse_request(alloc: Global, word: &str, fields: &str) -> Result<Request, LineError> {
     match word {
-        "pub" => parse_publish(alloc, fields),
+        "pub" => Ok(Request::Publish(parse_publish(alloc, fields)?)),
         "sub" => parse_subscribe(alloc, fields),
         "unsub" => parse_unsubscribe(alloc, fields),
-        "ack" => Ok(Request::PubAck(PubAck::new(parse_id(fields)?, None))),
-        "rec" => Ok(Request::PubRec(PubRec::new(parse_id(fields)?, None))),
-        "rel" => Ok(Request::PubRel(PubRel::new(parse_id(fields)?, None))),
+        "ack" => Ok(Request::PubAck(PubAck::new(parse_u16(fields)?, None))),
+        "rec" => Ok(Request::PubRec(PubRec::new(parse_u16(fields)?, None))),
+        "rel" => Ok(Request::PubRel(PubRel::new(parse_u16(fields)?, None))),
         _ => Err(LineError::Bad),
     }
 }
 
 /// The QOS, TOPIC and PAYLOAD of a publish.
-fn parse_publish(alloc: Global, fields: &str) -> Result<Request, LineError> {
+fn parse_publish(alloc: Global, fields: &str) -> Result<Publish, LineError> {
     let (quality, fields) = fields.split_once(' ').ok_or(LineError::Bad)?;
     let (topic, payload) = fields.split_once(' ').ok_or(LineError::Bad)?;
     let quality = parse_quality(quality)?;
     let topic = parse_text(alloc, topic)?;
     let payload = parse_bytes(alloc, payload)?;
-    let publish = Publish::new(alloc, topic.as_str(), quality, payload, None)?;
-    Ok(Request::Publish(publish))
+    Ok(Publish::new(alloc, topic.as_str(), quality, payload, None)?)
 }
 
 /// The QOS and FILTER of a subscribe.
@@ -180,7 +221,7 @@ fn parse_unsubscribe(alloc: Global, field: &str) -> Result<Request, LineError> {
     Ok(Request::Unsubscribe(unsubscribe))
 }
 
-fn parse_id(field: &str) -> Result<u16, LineError> {
+fn parse_u16(field: &str) -> Result<u16, LineError> {
     let number = parse_number(field).ok_or(LineError::Bad)?;
     u16::try_from(number).map_err(|_| LineError::Bad)
 }

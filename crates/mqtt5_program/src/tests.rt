@@ -180,6 +180,53 @@ const SCRIPTS_OF_ONE: [(&str, &str, u8); 3] = [
     ),
 ];
 
+/// The words, a script, and what they print of it; the status is 0.
+const WORLDS: [(&str, &str, &str); 6] = [
+    (
+        "world 2",
+        "pub 0 61 78\nloss\npub 1 62 79\nup\nloss 1\nup\ndown\n",
+        "content 0 61 78 accepted 1 handed 0 stored 0 waiting 0\ncontent 1 62 79 accepted 1 handed 2 stored 0 waiting 0\nrefused 0\ninflight 0\n",
+    ),
+    (
+        "world 1",
+        "pub 2 61 78\nup\ndown\npub 2 62 78\npub 2 63 78\nup\ndown\nup\ndown\nup\ndown\n",
+        "content 2 61 78 accepted 1 handed 1 stored 0 waiting 0\ncontent 2 62 78 accepted 1 handed 1 stored 0 waiting 0\ncontent 2 63 78 accepted 0 handed 0 stored 0 waiting 0\nrefused 1\ninflight 0\n",
+    ),
+    (
+        "world 1",
+        "pub 2 61 78\nup\nloss\nup\ndown\nup\nloss\nup\ndown\n",
+        "content 2 61 78 accepted 1 handed 1 stored 0 waiting 0\nrefused 0\ninflight 0\n",
+    ),
+    (
+        "world 1",
+        "pub 1 4A -\npub 01 4a -\n\npub 1 4a -",
+        "content 1 4a - accepted 2 handed 0 stored 1 waiting 1\nrefused 1\ninflight 1\n",
+    ),
+    (
+        "world 3",
+        "pub 2 61 78\npub 1 61 78\nup\nup\ndown\n",
+        "content 2 61 78 accepted 1 handed 1 stored 0 waiting 0\ncontent 1 61 78 accepted 1 handed 1 stored 1 waiting 0\nrefused 0\ninflight 2\n",
+    ),
+    ("world 00001", "", "refused 0\ninflight 0\n"),
+];
+
+/// Lines that say nothing in a world.
+const BAD_EVENTS: [&str; 13] = [
+    "up 1",
+    "up ",
+    "down 0",
+    "loss x",
+    "loss 65536",
+    "loss ",
+    "loss 1 2",
+    "pub 3 61 78",
+    "pub 1 6 78",
+    "pub 1 ff 78",
+    "pub",
+    "bye 1",
+    "Up",
+];
+
 /// Lines that say nothing.
 const BAD_LINES: [&str; 50] = [
     "pub 0 3 61 -",
@@ -235,7 +282,7 @@ const BAD_LINES: [&str; 50] = [
 ];
 
 /// Words, and what the program prints on them where each read fails.
-const WORDS: [(&str, &str, u8); 14] = [
+const WORDS: [(&str, &str, u8); 18] = [
     ("drive 0", USAGE, 2),
     ("drive 65536", USAGE, 2),
     ("drive +1", USAGE, 2),
@@ -244,7 +291,11 @@ const WORDS: [(&str, &str, u8); 14] = [
     ("", USAGE, 2),
     ("drive ", USAGE, 2),
     ("drive 10 10", USAGE, 2),
-    ("world 10", USAGE, 2),
+    ("world", USAGE, 2),
+    ("world 0", USAGE, 2),
+    ("world 65536", USAGE, 2),
+    ("world 1 2", USAGE, 2),
+    ("world 065535", "fault stdin\n", 1),
     ("bench", VECTORS, 0),
     ("bench 1", USAGE, 2),
     ("drive 1", "fault stdin\n", 1),
@@ -328,6 +379,28 @@ fn scripts_of_one_id(rt: HostRuntime) -> Result<(), Fail> {
 }
 
 #[test]
+fn worlds(rt: HostRuntime) -> Result<(), Fail> {
+    for (words, script, lines) in WORLDS {
+        let mut input = script.as_bytes();
+        let (text, status) = printed(rt.alloc(), words, &mut input)?;
+        assert_eq!(rt; text.as_str(), lines, "of {script:?}");
+        assert_eq!(rt; status, 0, "of {script:?}");
+    }
+    Ok(())
+}
+
+#[test]
+fn bad_events(rt: HostRuntime) -> Result<(), Fail> {
+    for line in BAD_EVENTS {
+        let mut input = line.as_bytes();
+        let (text, status) = printed(rt.alloc(), "world 10", &mut input)?;
+        assert_eq!(rt; text.as_str(), "line 1: bad\n", "of {line:?}");
+        assert_eq!(rt; status, 2, "of {line:?}");
+    }
+    Ok(())
+}
+
+#[test]
 fn bad_lines(rt: HostRuntime) -> Result<(), Fail> {
     for line in BAD_LINES {
         let mut input = line.as_bytes();
@@ -367,10 +440,16 @@ fn words(rt: HostRuntime) -> Result<(), Fail> {
 
 #[test]
 fn failing_writes(rt: HostRuntime) -> Result<(), Fail> {
-    for (words, lines, done) in [("drive 10", ACKED, 0), ("fly", USAGE, 2)] {
+    let acked = "pub 0 1 612f62 6869\nin 1 40020001\n";
+    let (world, script, contents) = WORLDS[3];
+    for (words, script, lines, done) in [
+        ("drive 10", acked, ACKED, 0),
+        (world, script, contents, 0),
+        ("fly", acked, USAGE, 2),
+    ] {
         let words = owned(rt.alloc(), words)?;
         for room in 0..=lines.len() {
-            let mut input: &[u8] = b"pub 0 1 612f62 6869\nin 1 40020001\n";
+            let mut input = script.as_bytes();
             let mut output = FailingWriter { room };
             let status = run(rt.alloc(), words.as_slice(), &mut input, &mut output);
             let want = if room < lines.len() { 1 } else { done };
