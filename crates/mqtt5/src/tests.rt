@@ -8,6 +8,7 @@ mod ids;
 mod releases;
 mod resuming;
 mod sets;
+mod twins;
 mod values;
 
 use crate::mqttbytes::QoS;

@@ -28,8 +28,8 @@ use Rattle.mqtt5_session.specs.Release.{IsCounted}
 use Rattle.mqtt5_session.specs.Session.{Core, Session, Answer, fresh}
 use Rattle.mqtt5_session.specs.Requests.{out, next_id, unless, over_maximum, Verdict, Refuse, Wait, Store, out_acked, out_publish, out_release, out_known, id_for, last_after, ping_fault, counts_ping}
 use Rattle.mqtt5_session.specs.Packets.{inc, heard, hears, told, freed_for, on_puback, on_received, on_pubrec, on_pubcomp, on_pubrel, on_publish, on_qos, answers, on_connack, is_taken, topic_of}
-use Rattle.mqtt5_session.specs.Cleaning.{by_id, cleaned, resume_of}
-use Rattle.mqtt5_session.specs.Again.{sent_unless, alias_again, packets_of}
+use Rattle.mqtt5_session.specs.Cleaning.{alias_again, by_id, cleaned, resume_of}
+use Rattle.mqtt5_session.specs.Again.{sent_unless, packets_of}
 use Rattle.mqtt5_session.specs.Ledger.{owed, Call, Ask, Hear, Error, Clean, Resume, kept_by, after, added, taken, after_all, added_by, taken_by, IsLedger}
 use Rattle.mqtt5_session.proofs.Resume.{no_ids, get_insert_same, get_insert_other, Fits, IsUsed, resumes}
 use Rattle.mqtt5_session.proofs.Owed.{choose, Judges, judges, out_adds, inc_takes, requests_len}

@@ -22,8 +22,8 @@ use Rattle.mqtt5_session.specs.declared.error.StateError.TheVariants as errors
 use Rattle.mqtt5_session.specs.Held.{Held, HasId, OwnId, IsWithin}
 use Rattle.mqtt5_session.specs.Session.{Session, Answer}
 use Rattle.mqtt5_session.specs.Requests.{out, alias_of, alias_over, alias_fault, id_for, last_after, by_alias, by_use, over_maximum, Refuse, Store, out_acked, out_identified, out_publish, out_release, out_known, stored}
-use Rattle.mqtt5_session.specs.Cleaning.{by_id, publish_again, release_again, cleaned, Sendings, with_reply, send_all, resume_of}
-use Rattle.mqtt5_session.specs.Again.{packet_for, event_for, moment_after, alias_again, after_sent, sent_unless, packets_of, resumed}
+use Rattle.mqtt5_session.specs.Cleaning.{alias_again, by_id, publish_again, release_again, cleaned, Sendings, with_reply, send_all, resume_of}
+use Rattle.mqtt5_session.specs.Again.{packet_for, event_for, moment_after, after_sent, sent_unless, packets_of, resumed}
 
 -- ---- one list of requests after another
 

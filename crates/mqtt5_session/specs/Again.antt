@@ -1,11 +1,8 @@
 -- This file serves the logic alone: what a resume sends and tells, in one piece.
 use Rattle.std.specs.Prelude.{ℕ, List, [], ◌∷◌, ◌++◌, Option, Some, None, Ok, Err}
 use Rattle.std.specs.List.{filter_map}
-use Rattle.std.specs.Option.{option_to_list}
 use Rattle.mqtt5_codec.specs.declared.packet.Packet.{Packet}
 use Rattle.mqtt5_codec.specs.declared.packet.Packet.TheVariants as packets
-use Rattle.mqtt5_session.specs.declared.slot.Slot.{Slot}
-use Rattle.mqtt5_session.specs.declared.slot.Slot.TheVariants.{Sent}
 use Rattle.mqtt5_session.specs.declared.event.Request.{Request}
 use Rattle.mqtt5_session.specs.declared.event.Request.TheVariants as requests
 use Rattle.mqtt5_session.specs.declared.event.Outgoing.TheVariants as outgoing
@@ -14,8 +11,7 @@ use Rattle.mqtt5_session.specs.declared.event.Event.TheVariants as events
 use Rattle.mqtt5_session.specs.declared.error.StateError.TheVariants as errors
 use Rattle.mqtt5_session.specs.Held.{Held}
 use Rattle.mqtt5_session.specs.Session.{Session}
-use Rattle.mqtt5_session.specs.Requests.{alias_of, alias_over}
-use Rattle.mqtt5_session.specs.Cleaning.{by_id, requests_of, cleaned, Sendings}
+use Rattle.mqtt5_session.specs.Cleaning.{by_id, alias_again, requests_of, cleaned, Sendings}
 
 -- the packet that a request which a clean gave is sent as
 abbrev pub packet_for : Request → Option Packet
@@ -33,11 +29,6 @@ event_for packet = None
 abbrev pub moment_after : List Packet → ℕ → ℕ → ℕ
 moment_after [] last at = last
 moment_after (p ∷ ps) last at = at
-
--- the alias of a publish that awaits its ack, where it is above the maximum
-abbrev pub alias_again : ℕ → ℕ → Option Slot → List ℕ
-alias_again max id (Some (Sent p)) = option_to_list (alias_over max (alias_of p))
-alias_again max id slot = []
 
 -- packets were sent, and these ids are in use
 abbrev pub after_sent : List Packet → Held → Session → ℕ → Session

@@ -14,7 +14,7 @@ use Rattle.mqtt5_session.specs.declared.error.StateError.{StateError}
 use Rattle.mqtt5_session.specs.declared.error.StateError.TheVariants as errors
 use Rattle.mqtt5_session.specs.Held.{Held}
 use Rattle.mqtt5_session.specs.Session.{Session}
-use Rattle.mqtt5_session.specs.Requests.{out}
+use Rattle.mqtt5_session.specs.Requests.{out, alias_of, alias_over}
 
 -- what the ids from 1 to n give, by rising id
 abbrev pub by_id : {A : Type 0} → (ℕ → Option Slot → List A) → ℕ → Held → List A
@@ -34,6 +34,11 @@ release_again id slot = []
 -- what is to be sent again: the publishes, then the releases, each by rising id (4.4)
 abbrev pub requests_of : ℕ → Held → List Request
 requests_of limit held = by_id publish_again limit held ++ by_id release_again limit held
+
+-- the topic alias of a publish that awaits its ack, where it is above a maximum (3.3.2.3.4)
+abbrev pub alias_again : ℕ → ℕ → Option Slot → List ℕ
+alias_again max id (Some (Sent p)) = option_to_list (alias_over max (alias_of p))
+alias_again max id slot = []
 
 -- the session without it: no id is in use, none is kept, and no ping is awaited
 abbrev pub cleaned : Session → Session

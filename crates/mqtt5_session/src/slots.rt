@@ -5,8 +5,8 @@ ghost use Rattle.std.specs.FinMap as map;
 ghost use Rattle.std.specs.Option.{option_copied, option_to_list};
 ghost use Rattle.mqtt5_session.specs.Held.{HasId, IsWithin, awaiting_ack, is_released};
 ghost use Rattle.mqtt5_session.specs.Table.{slot_of};
-ghost use Rattle.mqtt5_session.specs.Cleaning.{by_id, publish_again, release_again, requests_of};
-ghost use Rattle.mqtt5_session.specs.Again.{packet_for, alias_again, packets_of};
+ghost use Rattle.mqtt5_session.specs.Cleaning.{alias_again, by_id, publish_again, release_again, requests_of};
+ghost use Rattle.mqtt5_session.specs.Again.{packet_for, packets_of};
 
 use crate::aliases::alias_over;
 use crate::event::Request;

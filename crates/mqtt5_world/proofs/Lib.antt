@@ -8,3 +8,4 @@ pub mod Losses
 pub mod Runs
 pub mod Contents
 pub mod Faults
+pub mod Alike

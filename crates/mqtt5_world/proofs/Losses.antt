@@ -18,8 +18,8 @@ use Rattle.mqtt5_session.specs.Held.{Held}
 use Rattle.mqtt5_session.specs.Session.{Core, Session}
 use Rattle.mqtt5_session.specs.Requests.{release_of}
 use Rattle.mqtt5_session.specs.Packets.{inc}
-use Rattle.mqtt5_session.specs.Cleaning.{by_id, publish_again, release_again, cleaned, resume_of}
-use Rattle.mqtt5_session.specs.Again.{packet_for, alias_again, after_sent, sent_unless, packets_of}
+use Rattle.mqtt5_session.specs.Cleaning.{alias_again, by_id, publish_again, release_again, cleaned, resume_of}
+use Rattle.mqtt5_session.specs.Again.{packet_for, after_sent, sent_unless, packets_of}
 use Rattle.mqtt5_session.proofs.Resume.{Fits}
 use Rattle.mqtt5_session.proofs.Resume as session
 use Rattle.mqtt5_session.proofs.Keeps.{Sound, within_fits}

@@ -2,3 +2,4 @@ pub mod Broker
 pub mod World
 pub mod Delivery
 pub mod Happens
+pub mod Twins

@@ -2,11 +2,15 @@
 #![tactic(auto)]
 
 mod broker;
+mod calls;
 mod event;
 mod laws;
 mod player;
+mod twins;
 mod world;
 
+pub use calls::{Call, Reply, Twin};
 pub use event::{Report, WorldEvent};
 pub use laws::{delivery_law, tokens_law};
 pub use player::play;
+pub use twins::{twin, twin_law};

@@ -1,6 +1,6 @@
 use Rattle.std.proofs.Common.{subst, sym, ◌∙◌, arith}
 use Rattle.mqtt5_session.specs.Held.{IsWithin}
-use Rattle.mqtt5_session.specs.Again.{alias_again}
+use Rattle.mqtt5_session.specs.Cleaning.{alias_again}
 use Rattle.mqtt5_session.proofs.Tables.{within}
 use Rattle.mqtt5_session.proofs.First.{first_by_id}
 use Rattle.mqtt5_session.proofs.slots.Slots.alias_over.Goals as goal

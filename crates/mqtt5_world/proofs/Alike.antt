@@ -1,0 +1,225 @@
+-- What is said to calls depends on the core alone, but for pings and releases; and a resume keeps the core.
+use Rattle.std.proofs.Common.{◌≡◌, ℕ, Bool, true, false, cond, List, [], ◌∷◌, ◌==◌, Option, Some, None, Result, Ok, Err, refl, sym, ap, ◌∙◌, subst, length, nat_lt}
+use Rattle.std.specs.Prelude.{is_some, IsOk, IfOk}
+use Rattle.std.specs.Ordering.{nat_cmp}
+use Rattle.std.specs.FinMap.{get, get-empty}
+use Rattle.std.specs.FinSet as set
+use Rattle.mqtt5_base.specs.declared.quality.QoS.{QoS}
+use Rattle.mqtt5_base.specs.declared.quality.QoS.TheVariants.{AtMostOnce, AtLeastOnce, ExactlyOnce}
+use Rattle.mqtt5_flow.specs.declared.publish.Publish.{Publish}
+use Rattle.mqtt5_flow.specs.declared.puback.PubAckReason.{PubAckReason}
+use Rattle.mqtt5_flow.specs.declared.pubrel.PubRelReason.{PubRelReason}
+use Rattle.mqtt5_flow.specs.declared.pubrel.PubRelReason.TheVariants as pubrel_reasons
+use Rattle.mqtt5_link.specs.declared.connack.ConnectReturnCode.{ConnectReturnCode}
+use Rattle.mqtt5_link.specs.declared.connack.ConnectReturnCode.TheVariants as return_codes
+use Rattle.mqtt5_link.specs.declared.connack.ConnAckProperties.{ConnAckProperties}
+use Rattle.mqtt5_subs.specs.declared.subscribe.Subscribe.{Subscribe}
+use Rattle.mqtt5_codec.specs.declared.packet.Packet.{Packet}
+use Rattle.mqtt5_codec.specs.declared.packet.Packet.TheVariants as packets
+use Rattle.mqtt5_session.specs.declared.slot.Slot.{Slot}
+use Rattle.mqtt5_session.specs.declared.slot.Slot.TheVariants.{Sent, Released}
+use Rattle.mqtt5_session.specs.declared.event.Request.{Request}
+use Rattle.mqtt5_session.specs.declared.event.Request.TheVariants as requests
+use Rattle.mqtt5_session.specs.declared.event.Outgoing.{Outgoing}
+use Rattle.mqtt5_session.specs.declared.error.StateError.{StateError}
+use Rattle.mqtt5_session.specs.declared.error.StateError.TheVariants as errors
+use Rattle.mqtt5_session.specs.Session.{Core, Session, Answer, fresh}
+use Rattle.mqtt5_session.specs.Requests.{out, alias_of, unless, over_maximum, Verdict, Refuse, Wait, Store, out_acked, out_publish, out_release, out_known, out_subscribe, id_for, last_after, ping_fault, counts_ping}
+use Rattle.mqtt5_session.specs.Packets.{inc, heard, hears, told, freed_for, on_puback, on_received, on_pubrec, on_pubcomp, on_pubrel, on_released, on_publish, on_qos, answers, on_connack, is_taken, topic_of, topics_with, ids_with}
+use Rattle.mqtt5_session.specs.Cleaning.{cleaned, resume_of}
+use Rattle.mqtt5_session.specs.Again.{sent_unless, packets_of}
+use Rattle.mqtt5_session.specs.Ledger.{kept_by}
+use Rattle.mqtt5_session.specs.Ledger as ledger
+use Rattle.mqtt5_session.proofs.Resume.{resumes, Fits}
+use Rattle.mqtt5_session.proofs.Keeps.{Sound, within_fits, out_sound, inc_sound, after_sound, resume_core}
+use Rattle.mqtt5_world.specs.declared.calls.Call.{Call}
+use Rattle.mqtt5_world.specs.declared.calls.Call.TheVariants as calls
+use Rattle.mqtt5_world.specs.declared.calls.Twin.{Twin}
+use Rattle.mqtt5_world.specs.Twins.{Said, Answered, all_said, reply_of, after_call, after_calls, replies_of, taken_up, aliases_over, SameReply, SameReplies}
+
+-- ---- a resume
+
+sound_start : (limit : ℕ) (manual : Bool) → Sound (fresh limit manual).core
+sound_start limit manual = (λ k. subst (Fits limit k) (sym (get-empty nat_cmp k)) (tt {0}), tt {0})
+
+sound_call : (s : Session) (call : Call) → Sound s.core → Sound (after_call s call).core
+sound_call s (calls.Outgoing request at) i = out_sound s request at i
+sound_call s (calls.Incoming packet at) i = inc_sound s packet at i
+sound_call s calls.Clean i = after_sound s ledger.Clean i
+sound_call s calls.ProtocolError i = i
+
+sound_calls : (cs : List Call) (s : Session) → Sound s.core → Sound (after_calls cs s).core
+sound_calls [] s i = i
+sound_calls (call ∷ rest) s i = sound_calls rest (after_call s call) (sound_call s call i)
+
+pub sound_after : (cs : List Call) (limit : ℕ) (manual : Bool) → Sound (after_calls cs (fresh limit manual)).core
+sound_after cs limit manual = sound_calls cs (fresh limit manual) (sound_start limit manual)
+
+in_one_piece : (s : Session) (at : ℕ) → Sound s.core → resume_of s at ≡ sent_unless (aliases_over s) (packets_of s.core.limit s.core.held) s.core.held (cleaned s) at
+in_one_piece s at i = resumes s at (within_fits s.core.limit s.core.held i.0)
+
+pub within : (s : Session) (at : ℕ) → Sound s.core → aliases_over s ≡ [] → IsOk (resume_of s at)
+within s at i e = subst IsOk (sym (in_one_piece s at i ∙ ap (λ xs. sent_unless xs (packets_of s.core.limit s.core.held) s.core.held (cleaned s) at) e)) refl
+
+pub over : (s : Session) (at alias : ℕ) (others : List ℕ) → Sound s.core → aliases_over s ≡ alias ∷ others → resume_of s at ≡ Err (errors.InvalidAlias alias s.core.alias_max)
+over s at alias others i e = in_one_piece s at i ∙ ap (λ xs. sent_unless xs (packets_of s.core.limit s.core.held) s.core.held (cleaned s) at) e
+
+pub core_kept : (s : Session) (at : ℕ) → Sound s.core → (taken_up s at).core ≡ s.core
+core_kept s at i = resume_core s at i
+
+-- ---- sessions of one core
+
+-- two answers say the same, and their sessions have one core
+abbrev Alike : Answer → Answer → Type 0
+Alike a b = (◌≡◌ {A = Said} (Answered a.0) (Answered b.0)) × (a.1.core ≡ b.1.core)
+
+-- the session with this core
+abbrev with : Core → Session → Session
+with c s = record s { core = c }
+
+choose : (b : Bool) (x y z w : Answer) → Alike x z → Alike y w → Alike (cond b x y) (cond b z w)
+choose true x y z w h k = h
+choose false x y z w h k = k
+
+acked_alike : (v : Verdict) (c : Core) (s t : Session) (p : Publish) (last at : ℕ) → Alike (out_acked v (with c s) p last at) (out_acked v (with c t) p last at)
+acked_alike (Refuse e) c s t p last at = (refl, refl)
+acked_alike Wait c s t p last at = (refl, refl)
+acked_alike Store c s t p last at = (refl, refl)
+
+once_alike : (o : Option StateError) (c : Core) (s t : Session) (x y : Answer) → Alike x y → Alike (unless o (with c s) x) (unless o (with c t) y)
+once_alike None c s t x y h = h
+once_alike (Some e) c s t x y h = (refl, refl)
+
+publish_alike : (q : QoS) (c : Core) (s t : Session) (p : Publish) (at : ℕ) → Alike (out_publish q (with c s) p at) (out_publish q (with c t) p at)
+publish_alike AtMostOnce c s t p at = once_alike (over_maximum c p) c s t _ _ (refl, refl)
+publish_alike AtLeastOnce c s t p at = acked_alike _ c s t (record p { pkid = id_for c p.pkid }) (last_after c p.pkid) at
+publish_alike ExactlyOnce c s t p at = acked_alike _ c s t (record p { pkid = id_for c p.pkid }) (last_after c p.pkid) at
+
+known_alike : (x : Option Slot) (c : Core) (s t : Session) (id last at : ℕ) → Alike (out_known x (with c s) id last at) (out_known x (with c t) id last at)
+known_alike (Some (Sent p)) c s t id last at = (refl, refl)
+known_alike (Some Released) c s t id last at = (refl, refl)
+known_alike None c s t id last at = (refl, refl)
+
+release_alike : (c : Core) (s t : Session) (id last at : ℕ) → Alike (out_release (with c s) id last at) (out_release (with c t) id last at)
+release_alike c s t id last at = by (nat_lt c.limit id)
+  where
+    by : (b : Bool) → Alike (cond b (Err (errors.Unsolicited id), with c s) (out_known (get c.held id) (with c s) id last at)) (cond b (Err (errors.Unsolicited id), with c t) (out_known (get c.held id) (with c t) id last at))
+    by true = (refl, refl)
+    by false = known_alike (get c.held id) c s t id last at
+
+empty_or : (b : Bool) (c : Core) (s t : Session) (x y : Answer) → Alike x y → Alike (cond b (Err errors.EmptySubscription, with c s) x) (cond b (Err errors.EmptySubscription, with c t) y)
+empty_or true c s t x y h = (refl, refl)
+empty_or false c s t x y h = h
+
+subscribe_alike : (c : Core) (s t : Session) (p : Subscribe) (at : ℕ) → Alike (out_subscribe (with c s) p at) (out_subscribe (with c t) p at)
+subscribe_alike c s t p at = empty_or (length p.filters == 0) c s t _ _ (refl, refl)
+
+-- what is said to a call is the same, and the core after it
+abbrev Agrees : Call → Answer → Answer → Type 0
+Agrees call a b = SameReply call (Answered a.0) (Answered b.0) × (a.1.core ≡ b.1.core)
+
+unless_core : (o : Option StateError) (s : Session) (a : Answer) → a.1.core ≡ s.core → (unless o s a).1.core ≡ s.core
+unless_core None s a h = h
+unless_core (Some e) s a h = refl
+
+ping_core : (s : Session) (at : ℕ) → (out s requests.PingReq at).1.core ≡ s.core
+unfolding out
+ping_core s at = unless_core (ping_fault s.core.waiting (counts_ping s).collision_pings s.awaits_ping) (counts_ping s) _ refl
+
+out_agrees : (c : Core) (s t : Session) (r : Request) (at : ℕ) → Agrees (calls.Outgoing r at) (out (with c s) r at) (out (with c t) r at)
+unfolding out
+out_agrees c s t (requests.Publish p) at = publish_alike p.qos c s t p at
+out_agrees c s t (requests.PubRel p) at = release_alike c s t (id_for c p.pkid) (last_after c p.pkid) at
+out_agrees c s t (requests.Subscribe p) at = subscribe_alike c s t p at
+out_agrees c s t requests.PingReq at = (tt {0}, ping_core (with c s) at ∙ sym (ping_core (with c t) at))
+out_agrees c s t r at = (refl, refl)
+
+-- ---- packets
+
+freed_alike : (w : Option Publish) (c : Core) (s t : Session) (id at : ℕ) → Alike (freed_for w (with c s) id at) (freed_for w (with c t) id at)
+freed_alike None c s t id at = (refl, refl)
+freed_alike (Some p) c s t id at = choose (p.pkid == id) _ _ _ _ (refl, refl) (refl, refl)
+
+puback_alike : (x : Option Slot) (c : Core) (s t : Session) (id at : ℕ) → Alike (on_puback x (with c s) id at) (on_puback x (with c t) id at)
+puback_alike (Some (Sent p)) c s t id at = freed_alike c.waiting c s t id at
+puback_alike x c s t id at = (refl, refl)
+
+received_alike : (b : Bool) (c : Core) (s t : Session) (id at : ℕ) → Alike (on_received b (with c s) id at) (on_received b (with c t) id at)
+received_alike true c s t id at = (refl, refl)
+received_alike false c s t id at = freed_alike c.waiting c s t id at
+
+pubrec_alike : (x : Option Slot) (c : Core) (s t : Session) (reason : PubAckReason) (id at : ℕ) → Alike (on_pubrec x (with c s) reason id at) (on_pubrec x (with c t) reason id at)
+pubrec_alike (Some (Sent p)) c s t reason id at = received_alike (is_taken reason) c s t id at
+pubrec_alike x c s t reason id at = (refl, refl)
+
+pubcomp_alike : (x : Option Slot) (c : Core) (s t : Session) (id at : ℕ) → Alike (on_pubcomp x (with c s) id at) (on_pubcomp x (with c t) id at)
+pubcomp_alike (Some Released) c s t id at = freed_alike c.waiting c s t id at
+pubcomp_alike x c s t id at = (refl, refl)
+
+answers_alike : (b : Bool) (ack : Packet) (event : Outgoing) (c : Core) (s t : Session) (at : ℕ) → Alike (answers b ack event (with c s) at) (answers b ack event (with c t) at)
+answers_alike true ack event c s t at = (refl, refl)
+answers_alike false ack event c s t at = (refl, refl)
+
+qos_alike : (q : QoS) (c : Core) (s t : Session) (id at : ℕ) → Alike (on_qos q (with c s) id at) (on_qos q (with c t) id at)
+qos_alike AtMostOnce c s t id at = (refl, refl)
+qos_alike AtLeastOnce c s t id at = answers_alike c.manual_acks _ _ c s t at
+qos_alike ExactlyOnce c s t id at = answers_alike c.manual_acks _ _ c s t at
+
+heard_alike : (b : Bool) (c : Core) (s t : Session) (p : Publish) (at : ℕ) → Alike (on_publish b (with c s) p at) (on_publish b (with c t) p at)
+heard_alike true c s t p at =
+    qos_alike p.qos (record c { aliases = topics_with (alias_of p) p.topic c.aliases }) (record s { incoming = ids_with p.qos s.incoming p.pkid }) (record t { incoming = ids_with p.qos t.incoming p.pkid }) p.pkid at
+heard_alike false c s t p at = (refl, refl)
+
+connack_alike : (code : ConnectReturnCode) (properties : Option ConnAckProperties) (c : Core) (s t : Session) (at : ℕ) → Alike (on_connack code properties (with c s) at) (on_connack code properties (with c t) at)
+connack_alike return_codes.Success properties c s t at = (refl, refl)
+connack_alike code properties c s t at = (refl, refl)
+
+released_core : (reason : PubRelReason) (s : Session) (id at : ℕ) → (on_released reason s id at).1.core ≡ s.core
+released_core pubrel_reasons.Success s id at = refl
+released_core reason s id at = refl
+
+pubrel_core : (b : Bool) (s : Session) (reason : PubRelReason) (id at : ℕ) → (on_pubrel b s reason id at).1.core ≡ s.core
+pubrel_core true s reason id at = released_core reason (record s { incoming = set.remove s.incoming id }) id at
+pubrel_core false s reason id at = refl
+
+heard_agrees : (c : Core) (s t : Session) (packet : Packet) (at : ℕ) → Agrees (calls.Incoming packet at) (heard (with c s) packet at) (heard (with c t) packet at)
+heard_agrees c s t (packets.PubAck p) at = puback_alike (get c.held p.pkid) c s t p.pkid at
+heard_agrees c s t (packets.PubRec p) at = pubrec_alike (get c.held p.pkid) c s t p.reason p.pkid at
+heard_agrees c s t (packets.PubComp p) at = pubcomp_alike (get c.held p.pkid) c s t p.pkid at
+heard_agrees c s t (packets.PubRel p) at = (tt {0}, pubrel_core (set.contains s.incoming p.pkid) (with c s) p.reason p.pkid at ∙ sym (pubrel_core (set.contains t.incoming p.pkid) (with c t) p.reason p.pkid at))
+heard_agrees c s t (packets.Publish p) at = heard_alike (is_some (topic_of (with c s) p)) c s t p at
+heard_agrees c s t (packets.ConnAck p) at = connack_alike p.code p.properties c s t at
+heard_agrees c s t packet at = (refl, refl)
+
+inc_agrees : (c : Core) (s t : Session) (packet : Packet) (at : ℕ) → Agrees (calls.Incoming packet at) (inc (with c s) packet at) (inc (with c t) packet at)
+unfolding inc
+inc_agrees c s t packet at = heard_agrees c (hears s (told (with c s) packet)) (hears t (told (with c t) packet)) packet at
+
+-- ---- any calls
+
+-- two sessions say the same to a call, and have one core after it
+abbrev Twins : Call → Session → Session → Type 0
+Twins call s t = SameReply call (reply_of s call) (reply_of t call) × ((after_call s call).core ≡ (after_call t call).core)
+
+one_call : (call : Call) (c : Core) (s t : Session) → Twins call (with c s) (with c t)
+one_call (calls.Outgoing request at) c s t = out_agrees c s t request at
+one_call (calls.Incoming packet at) c s t = inc_agrees c s t packet at
+one_call calls.Clean c s t = (refl, refl)
+one_call calls.ProtocolError c s t = (refl, refl)
+
+any_call : (call : Call) (s t : Session) → s.core ≡ t.core → Twins call s t
+any_call call s t e = subst (λ c. Twins call s (with c t)) e (one_call call s.core s t)
+
+pub same_replies : (cs : List Call) (s t : Session) → s.core ≡ t.core → SameReplies cs (replies_of cs s) (replies_of cs t)
+same_replies [] s t e = tt {0}
+same_replies (call ∷ rest) s t e = let h = any_call call s t e in (h.0, same_replies rest (after_call s call) (after_call t call) h.1)
+
+-- ---- two runs
+
+pub runs_alike : (before after : List Call) (limit : ℕ) (manual : Bool) (s : Session) (r : Result Twin StateError) → s ≡ after_calls before (fresh limit manual) → IfOk r (λ t. all_said t.plain.items ≡ replies_of after s) → IfOk r (λ t. all_said t.resumed.items ≡ replies_of after (taken_up s 0)) → IfOk r (λ t. SameReplies after (all_said t.plain.items) (all_said t.resumed.items))
+runs_alike before after limit manual s (Err e) is p q = p
+runs_alike before after limit manual s (Ok t) is p q =
+    subst (λ xs. SameReplies after xs (all_said t.resumed.items)) (sym p) (subst (λ ys. SameReplies after (replies_of after s) ys) (sym q) (same_replies after s (taken_up s 0) (sym core)))
+  where
+    core : (taken_up s 0).core ≡ s.core
+    core = core_kept s 0 (subst (λ u. Sound u.core) (sym is) (sound_after before limit manual))
