@@ -1,5 +1,7 @@
 //! Calls without and with a resume between them.
 
+ghost use Rattle.std.specs.Prelude.{◌<◌};
+
 use super::{connack, publish, sent, sent_as, under_alias};
 use crate::mqttbytes::QoS;
 use crate::mqttbytes::v5::{Packet, PubComp, PubRec, PubRel};
@@ -21,8 +23,63 @@ fn publishes(alloc: Global, qos: QoS) -> Result<Call, StateError> {
     Ok(asks(Request::Publish(publish)))
 }
 
+/// A request to publish under alias 5.
+fn publishes_under(alloc: Global) -> Result<Call, StateError> {
+    let publish = under_alias(alloc, "a/b", 5)?;
+    Ok(asks(Request::Publish(publish)))
+}
+
+/// A publish of QoS 2 from the broker, with id 7.
+fn hears_publish(alloc: Global) -> Result<Call, StateError> {
+    let publish = publish(alloc, QoS::ExactlyOnce, 7)?;
+    Ok(hears(Packet::Publish(publish)))
+}
+
 fn hears_alias_max(alloc: Global, max: u16) -> Call {
     hears(Packet::ConnAck(connack(alloc, None, Some(max))))
+}
+
+/// A call by a letter: `p` a ping, `1` and `2` publishes of that QoS, `a` one under alias 5, `b` a publish from
+/// the broker, and another is one of those below.
+fn call(alloc: Global, letter: u8) -> Result<Call, StateError> {
+    match letter {
+        b'p' => Ok(asks(Request::PingReq)),
+        b'1' => publishes(alloc, QoS::AtLeastOnce),
+        b'2' => publishes(alloc, QoS::ExactlyOnce),
+        b'a' => publishes_under(alloc),
+        b'b' => hears_publish(alloc),
+        other => Ok(hears_other(alloc, other)),
+    }
+}
+
+/// `r` is PubRec 1, `c` PubComp 1, `l` PubRel 7, `5` and `4` a ConnAck with that alias maximum, and another is a
+/// clean.
+fn hears_other(alloc: Global, letter: u8) -> Call {
+    match letter {
+        b'r' => hears(Packet::PubRec(PubRec::new(1, None))),
+        b'c' => hears(Packet::PubComp(PubComp::new(1, None))),
+        b'l' => hears(Packet::PubRel(PubRel::new(7, None))),
+        b'5' => hears_alias_max(alloc, 5),
+        b'4' => hears_alias_max(alloc, 4),
+        _other => Call::Clean,
+    }
+}
+
+fn calls(alloc: Global, letters: &[u8]) -> Result<Vec<Call>, StateError> {
+    let mut calls = Vec::new(alloc);
+    for letter in letters {
+        calls.push(call(alloc, *letter)?)?;
+    }
+    Ok(calls)
+}
+
+/// Both runs, of calls by their letters.
+fn runs(alloc: Global, limit: u16, before: &[u8], after: &[u8]) -> Result<Twin, StateError>
+    requires { 0 < limit }
+{
+    let before = calls(alloc, before)?;
+    let after = calls(alloc, after)?;
+    twin(alloc, limit, false, before.as_slice(), after.as_slice())
 }
 
 /// What is sent by the reply at a place; None where nothing is.
@@ -35,59 +92,54 @@ fn sent_at(replies: &[Reply], i: usize) -> Option<Outgoing> {
 
 /// Whether the reply at a place accepts the call and sends nothing.
 fn is_silent(replies: &[Reply], i: usize) -> bool {
-    matches!(replies.get(i), Some(Reply::Packet(Ok(None))))
+    match replies.get(i) {
+        Some(Reply::Packet(Ok(reply))) => reply.is_none(),
+        _other => false,
+    }
 }
 
-/// Why the call at a place is refused; None where it isn't.
-fn refusal_at(replies: &[Reply], i: usize) -> Option<&StateError> {
+/// Whether a clean at a place gives nothing back.
+fn gives_nothing(replies: &[Reply], i: usize) -> bool {
     match replies.get(i) {
-        Some(Reply::Packet(Err(error))) => Some(error),
+        Some(Reply::Cleaned(requests)) => requests.is_empty(),
+        _other => false,
+    }
+}
+
+/// Whether the ping at a place is refused, since another isn't answered.
+fn awaits_at(replies: &[Reply], i: usize) -> bool {
+    match replies.get(i) {
+        Some(Reply::Packet(Err(StateError::AwaitPingResp))) => true,
+        _other => false,
+    }
+}
+
+/// The id for which the packet at a place is refused; None where it isn't.
+fn unsolicited_at(replies: &[Reply], i: usize) -> Option<u16> {
+    match replies.get(i) {
+        Some(Reply::Packet(Err(StateError::Unsolicited(id)))) => Some(*id),
         _other => None,
     }
 }
 
-/// A ping, and another.
-fn pings(alloc: Global) -> Result<Twin, StateError> {
-    let before = vec![in alloc; asks(Request::PingReq)]?;
-    let after = vec![in alloc; asks(Request::PingReq)]?;
-    twin(alloc, 2, false, before.as_slice(), after.as_slice())
+/// The alias for which the resume is refused, and the maximum.
+fn refused_alias(answer: &Result<Twin, StateError>) -> Option<(u16, u16)> {
+    match answer {
+        Err(StateError::InvalidAlias { alias, max }) => Some((*alias, *max)),
+        _other => None,
+    }
 }
 
-/// A publish that the broker received; its end, and another publish.
-fn releases(alloc: Global) -> Result<Twin, StateError> {
-    let first = publishes(alloc, QoS::ExactlyOnce)?;
-    let second = publishes(alloc, QoS::AtLeastOnce)?;
-    let received = hears(Packet::PubRec(PubRec::new(1, None)));
-    let before = vec![in alloc; first, received]?;
-    let after = vec![in alloc; hears(Packet::PubComp(PubComp::new(1, None))), second]?;
-    twin(alloc, 2, false, before.as_slice(), after.as_slice())
-}
-
-/// A publish under alias 5, of which the broker then takes 4 alone.
-fn aliases(alloc: Global) -> Result<Twin, StateError> {
-    let under = asks(Request::Publish(under_alias(alloc, "a/b", 5)?));
-    let more = hears_alias_max(alloc, 5);
-    let fewer = hears_alias_max(alloc, 4);
-    let before = vec![in alloc; more, under, fewer]?;
-    twin(alloc, 10, false, before.as_slice(), &[])
-}
-
-/// A publish from the broker; its release, and a clean.
-fn broker_releases(alloc: Global) -> Result<Twin, StateError> {
-    let came = publish(alloc, QoS::ExactlyOnce, 7)?;
-    let before = vec![in alloc; hears(Packet::Publish(came))]?;
-    let after = vec![in alloc; hears(Packet::PubRel(PubRel::new(7, None))), Call::Clean]?;
-    twin(alloc, 2, false, before.as_slice(), after.as_slice())
+/// Whether a PubComp is silent, and the publish after it takes id 2.
+fn goes_on(replies: &[Reply]) -> bool {
+    is_silent(replies, 0) && sent_at(replies, 1) == Some(Outgoing::Publish(2)) && replies.len() == 2
 }
 
 #[test]
 fn a_ping_is_forgotten(rt: HostRuntime) -> Result<(), Fail> {
     twin_law();
-    let twin = pings(rt.alloc())?;
-    assert_eq!(rt;
-        refusal_at(twin.plain.as_slice(), 0),
-        Some(&StateError::AwaitPingResp)
-    );
+    let twin = runs(rt.alloc(), 2, b"p", b"p")?;
+    assert!(rt; awaits_at(twin.plain.as_slice(), 0));
     assert_eq!(rt;
         sent_at(twin.resumed.as_slice(), 0),
         Some(Outgoing::PingReq)
@@ -98,42 +150,32 @@ fn a_ping_is_forgotten(rt: HostRuntime) -> Result<(), Fail> {
 
 #[test]
 fn a_release_is_sent_again(rt: HostRuntime) -> Result<(), Fail> {
-    let twin = releases(rt.alloc())?;
+    let twin = runs(rt.alloc(), 2, b"2r", b"c1")?;
     assert_eq!(rt; twin.resent.len(), 1);
     assert_eq!(rt;
-        twin.resent.first().and_then(|packet| sent_as(packet)),
+        twin.resent.first().and_then(sent_as),
         Some(Outgoing::PubRel(1))
     );
-    for replies in [&twin.plain, &twin.resumed] {
-        assert!(rt; is_silent(replies.as_slice(), 0));
-        assert_eq!(rt; sent_at(replies.as_slice(), 1), Some(Outgoing::Publish(2)));
-        assert_eq!(rt; replies.len(), 2);
-    }
+    assert!(rt; goes_on(twin.plain.as_slice()));
+    assert!(rt; goes_on(twin.resumed.as_slice()));
     Ok(())
 }
 
 #[test]
-fn an_alias_above_the_maximum(rt: HostRuntime) -> Result<(), Fail> {
-    match aliases(rt.alloc()) {
-        Ok(_twin) => assert!(rt; false),
-        Err(error) => assert_eq!(rt; error, StateError::InvalidAlias { alias: 5, max: 4 }),
-    }
-    Ok(())
+fn an_alias_above_the_maximum(rt: HostRuntime) {
+    let answer = runs(rt.alloc(), 10, b"5a4", b"");
+    assert_eq!(rt; refused_alias(&answer), Some((5, 4)));
 }
 
 #[test]
 fn an_id_of_the_broker_is_forgotten(rt: HostRuntime) -> Result<(), Fail> {
-    let twin = broker_releases(rt.alloc())?;
+    let twin = runs(rt.alloc(), 2, b"b", b"lx")?;
     assert_eq!(rt;
         sent_at(twin.plain.as_slice(), 0),
         Some(Outgoing::PubComp(7))
     );
-    assert_eq!(rt;
-        refusal_at(twin.resumed.as_slice(), 0),
-        Some(&StateError::Unsolicited(7))
-    );
-    for replies in [&twin.plain, &twin.resumed] {
-        assert!(rt; matches!(replies.get(1), Some(Reply::Cleaned(given)) if given.is_empty()));
-    }
+    assert_eq!(rt; unsolicited_at(twin.resumed.as_slice(), 0), Some(7));
+    assert!(rt; gives_nothing(twin.plain.as_slice(), 1));
+    assert!(rt; gives_nothing(twin.resumed.as_slice(), 1));
     Ok(())
 }
