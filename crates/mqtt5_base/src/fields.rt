@@ -1,7 +1,7 @@
 //! Fields at the front of bytes. A reader answers the field's value and leaves the bytes after it.
 //! After a refusal the bytes are unchanged.
 
-ghost use Rattle.std.specs.Prelude.{◌≡◌, ◌+◌, ◌*◌, ◌^◌, ◌<◌, ◌≤◌, ℕ, drop, length, OnErr, IfOk};
+ghost use Rattle.std.specs.Prelude.{◌≡◌, ◌+◌, ◌*◌, ◌^◌, ◌<◌, ◌≤◌, ℕ, take, drop, length, OnErr, IfOk};
 ghost use Rattle.std.specs.Int.{w8, w16, w32};
 ghost use Rattle.mqtt5_base.specs.Answers.{Finds, Gives};
 ghost use Rattle.mqtt5_base.specs.Reading.{number_at, bytes_at, text_at, var_int_at};
@@ -48,17 +48,21 @@ pub fn read_u32(stream: &mut Bytes) -> Result<u32, Error>
 
 /// The bytes behind the two byte length at the front.
 #[tactic(auto, unfolding(crate::specs::Reading::bytes_at))]
-fn front_bytes(stream: &Bytes) -> Result<Bytes, Error>
-    ensures read { Gives (λ b. (b, drop (2 + length b) stream.now)) result (bytes_at stream.now) }
-    ensures within { IfOk result (λ b. 2 + length b ≤ length stream.now) }
+fn front_slice(stream: &[u8]) -> Result<&[u8], Error>
+    ensures read { Gives (λ b. (b.now, drop (2 + length b.now) stream.now)) result (bytes_at stream.now) }
+    ensures place { IfOk result (λ b. b.now ≡ take (length b.now) (drop 2 stream.now)) }
+    ensures within { IfOk result (λ b. 2 + length b.now ≤ length stream.now) }
 {
-    let mut rest = stream.clone()?;
-    let len = usize::from(read_u16(&mut rest)?);
-    if rest.len() < len {
-        return Err(Error::BoundaryCrossed(len));
+    match stream {
+        [high, low, rest @ ..] => {
+            let len = usize::from(u16::from_be_bytes([*high, *low]));
+            if rest.len() < len {
+                return Err(Error::BoundaryCrossed(len));
+            }
+            Ok(&rest[..len])
+        }
+        _ => Err(Error::MalformedPacket),
     }
-    rest.truncate(len);
-    Ok(rest)
 }
 
 /// A two byte length and that many bytes, cut from the stream. E16 where the length is cut short,
@@ -67,8 +71,11 @@ pub fn read_bytes(stream: &mut Bytes) -> Result<Bytes, Error>
     ensures read { Gives (λ b. (b, stream.new)) result (bytes_at stream.old) }
     ensures kept { OnErr result (stream.new ≡ stream.old) }
 {
-    let content = front_bytes(stream)?;
-    stream.advance(2 + content.len());
+    let len = front_slice(stream.as_slice())?.len();
+    let mut content = stream.clone()?;
+    content.advance(2);
+    content.truncate(len);
+    stream.advance(2 + len);
     Ok(content)
 }
 
@@ -80,12 +87,13 @@ pub fn read_text(alloc: Global, stream: &mut Bytes) -> Result<Text, Error>
     ensures read { Gives (λ t. (t.bytes, stream.new)) result (text_at stream.old) }
     ensures kept { OnErr result (stream.new ≡ stream.old) }
 {
-    let content = front_bytes(stream)?;
-    let Ok(text) = std::str::from_utf8(content.as_slice()) else {
+    let content = front_slice(stream.as_slice())?;
+    let len = content.len();
+    let Ok(text) = std::str::from_utf8(content) else {
         return Err(Error::TopicNotUtf8);
     };
     let text = Text::from(String::from_str(alloc, text)?);
-    stream.advance(2 + content.len());
+    stream.advance(2 + len);
     Ok(text)
 }
 
@@ -122,11 +130,19 @@ pub fn read_varint(stream: &mut Bytes) -> Result<usize, Error>
     ensures read { Finds (λ n. (n, stream.new)) result (var_int_at stream.old) }
     ensures kept { OnErr result (stream.new ≡ stream.old) }
 {
-    match varint_in(stream.as_slice(), 4) {
-        Ok((count, n)) => {
-            stream.advance(count);
-            Ok(n)
-        }
+    let (count, n) = front_varint(stream.as_slice())?;
+    stream.advance(count);
+    Ok(n)
+}
+
+/// The variable byte integer at the front: the count of its bytes, and its value.
+#[tactic(auto, unfolding(crate::specs::Reading::var_int_at))]
+pub(crate) fn front_varint(stream: &[u8]) -> Result<(usize, usize), Error>
+    ensures read { Finds (λ r. (r.1, drop r.0 stream.now)) result (var_int_at stream.now) }
+    ensures within { IfOk result (λ r. r.0 ≤ length stream.now) }
+{
+    match varint_in(stream, 4) {
+        Ok(found) => Ok(found),
         Err(Error::InsufficientBytes(_)) => Err(Error::MalformedPacket),
         Err(_unfinished) => Err(Error::MalformedRemainingLength),
     }

@@ -10,7 +10,9 @@ ghost use Rattle.mqtt5_base.specs.Puts.{Puts, Writes};
 ghost use Rattle.mqtt5_base.specs.Layout.{items_bytes, items_fit, block_bytes, block_fits, block_writing};
 
 use crate::error::Error;
-use crate::fields::{read_bytes, read_text, read_u8, read_u16, read_u32, read_varint};
+use crate::fields::{
+    front_varint, read_bytes, read_text, read_u8, read_u16, read_u32, read_varint,
+};
 use crate::text::Text;
 use crate::value::{FieldValue, varint_len};
 use bytes::{Bytes, BytesMut};
@@ -217,19 +219,20 @@ pub fn read_block<P: PropertySet>(alloc: Global, stream: &mut Bytes) -> Result<O
     ensures read { Gives (λ p. (option_map P.found p, stream.new)) result (block_at P.table stream.old) }
     ensures kept { OnErr result (stream.new ≡ stream.old) }
 {
-    let mut rest = stream.clone()?;
-    let len = read_varint(&mut rest)?;
+    let (count, len) = front_varint(stream.as_slice())?;
     if len == 0 {
-        *stream = rest;
+        stream.advance(count);
         return Ok(None);
     }
-    if rest.len() < len {
+    if stream.len() - count < len {
         return Err(Error::BoundaryCrossed(len));
     }
-    let block = rest.split_to(len)?;
+    let mut block = stream.clone()?;
+    block.advance(count);
+    block.truncate(len);
     let mut set = P::empty(alloc);
     read_items(alloc, &mut set, block)?;
-    *stream = rest;
+    stream.advance(count + len);
     Ok(Some(set))
 }
 

@@ -1,20 +1,20 @@
--- What a packet's own reading and writing say of the codec's.
-use Rattle.std.proofs.Common.{◌≡◌, ℕ, List, take, drop, Option, Result, Ok, Err, refl, sym, ap, ◌∙◌, inl, inr}
+-- What a packet's own reading says of the codec's.
+use Rattle.std.proofs.Common.{◌≡◌, ℕ, ◌/◌, List, take, drop, Option, Some, None, Result, Ok, Err, ◌⊎◌, refl, sym, ap, subst, ◌∙◌, inl, inr}
 use Rattle.mqtt5_base.specs.declared.error.Error.{Error}
-use Rattle.mqtt5_base.specs.Front.{Whole, front_of_error}
+use Rattle.mqtt5_base.specs.declared.error.Error.TheVariants.{OutOfMemory}
+use Rattle.mqtt5_base.specs.declared.header.FixedHeader.{FixedHeader}
+use Rattle.mqtt5_base.specs.Headers.{IsHeader, IsType}
+use Rattle.mqtt5_base.specs.Front.{Front, Whole, front_of_error}
 use Rattle.mqtt5_base.specs.FrontAt.{front}
 use Rattle.mqtt5_base.specs.Frames.{IsWhole}
 use Rattle.mqtt5_base.proofs.FrontLemmas.{front_is}
 use Rattle.mqtt5_codec.specs.declared.packet.Packet.{Packet}
 use Rattle.mqtt5_codec.specs.Packets.{IsFrameOf, IsFaultOf}
 use Rattle.mqtt5_codec.specs.PacketsIn.{packet_in}
-use Rattle.mqtt5_codec.specs.Codecs.{TakesFrame, FailsFrame, ReadsPacket}
-use Rattle.mqtt5_codec.specs.Taken.{TakesBytes}
+use Rattle.mqtt5_codec.specs.Codecs.{FailsFrame, ReadsPacket, Decodes}
+use Rattle.mqtt5_codec.specs.Taken.{ReadsBody}
 use Rattle.mqtt5_codec.proofs.FrameLaws.{frames_read}
-
--- a stream whose front has no frame is left as it is
-pub read_unchecked : (limit : Option ℕ) (s : List ℕ) (e : Error) → front limit s ≡ front_of_error e → ReadsPacket (Err e) limit s s
-read_unchecked limit s e h = inr (h, refl)
+use Rattle.mqtt5_codec.proofs.ReadingLemmas.{frame_read, frame_fault, no_type}
 
 -- what is said of the frame at the front is said of a whole frame
 whole_at : {X : Type 0} (limit : Option ℕ) (s frame new : List ℕ) → front limit s ≡ Whole frame new → ((first : ℕ) (body : List ℕ) → IsWhole frame first body → X) → X
@@ -32,16 +32,26 @@ taken_fault limit s frame new e h is = whole_at limit s frame new h (λ first bo
 pub packet_taken : (limit : Option ℕ) (s frame new : List ℕ) (p : Packet) → front limit s ≡ Whole frame new → packet_in frame ≡ Ok p → IsFrameOf frame p
 packet_taken limit s frame new p h is = whole_at limit s frame new h (λ first body w. ((frames_read frame first body w).value p).0 is)
 
--- a packet that was read from the bytes of the frame at the front
-pub taken_frame : (limit : Option ℕ) (n : ℕ) (s new : List ℕ) (p : Packet) → front limit s ≡ Whole (take n s) (drop n s) → TakesBytes n (Ok p) s new → TakesFrame (λ frame. IsFrameOf frame p) limit s new
-taken_frame limit n s new p h t = (take n s, h ∙ ap (λ rest. Whole (take n s) rest) (sym t.1), t.0)
+-- a frame that was taken out and read is what decoding answers
+pub decoded : (limit : Option ℕ) (n : ℕ) (s new : List ℕ) (h : FixedHeader) (r : Result (Option Packet) Error) → front limit s ≡ Whole (take n s) (drop n s) → IsHeader h (take n s) → new ≡ drop n s → ReadsBody r h.byte1 (drop h.fixed_header_len (take n s)) → Decodes r limit s new
+decoded limit n s new h (Ok (Some p)) f is left g = (take n s, f ∙ ap (λ rest. Whole (take n s) rest) (sym left), frame_read h (take n s) is p g)
+decoded limit n s new h (Ok None) f is left g = elim g [ ]
+decoded limit n s new h (Err e) f is left g = inl (by (frame_fault h (take n s) is e g))
+  where
+    by : IsFaultOf (take n s) e ⊎ (e ≡ OutOfMemory) → FailsFrame e limit s new
+    by (inl fault) = inl (take n s, f ∙ ap (λ rest. Whole (take n s) rest) (sym left), fault)
+    by (inr memory) = inr (memory, (take n s, drop n s, f, inr left))
 
--- an error of those bytes
-pub taken_fails : (limit : Option ℕ) (n : ℕ) (s new : List ℕ) (e : Error) → front limit s ≡ Whole (take n s) (drop n s) → TakesBytes n (Err e) s new → FailsFrame e limit s new
-taken_fails limit n s new e h (inl t) = inl (take n s, h ∙ ap (λ rest. Whole (take n s) rest) (sym t.1), t.0)
-taken_fails limit n s new e h (inr m) = inr (m.0, (take n s, drop n s, h, m.1))
+-- and so is the fault of a frame of type 0
+pub undecoded : (limit : Option ℕ) (n : ℕ) (s new : List ℕ) (h : FixedHeader) (e : Error) → front limit s ≡ Whole (take n s) (drop n s) → IsHeader h (take n s) → new ≡ drop n s → IsType (Err e) (h.byte1 / 16) → Decodes (Err e) limit s new
+undecoded limit n s new h e f is left none =
+    decoded limit n s new h (Err e) f is left (λ memory. no_type h.byte1 (drop h.fixed_header_len (take n s)) none.0 ∙ ap (λ e. Err e) (sym none.1))
 
--- what was read from those bytes is what reading the stream answers
-pub taken_reads : (limit : Option ℕ) (n : ℕ) (s new : List ℕ) (r : Result Packet Error) → front limit s ≡ Whole (take n s) (drop n s) → TakesBytes n r s new → ReadsPacket r limit s new
-taken_reads limit n s new (Ok p) h t = taken_frame limit n s new p h t
-taken_reads limit n s new (Err e) h t = inl (taken_fails limit n s new e h t)
+-- where a frame is at the front, an error of decoding is one of reading
+pub reads_fault : (limit : Option ℕ) (s new frame rest : List ℕ) (e : Error) → front limit s ≡ Whole frame rest → Decodes (Err e) limit s new → ReadsPacket (Err e) limit s new
+reads_fault limit s new frame rest e w (inl fails) = inl fails
+reads_fault limit s new frame rest e w (inr bad) = elim (subst Frameless (sym bad.0 ∙ w) (tt {0})) [ ]
+  where
+    Frameless : Front → Type 0
+    Frameless (Whole frame rest) = ⊥
+    Frameless f = Unit {0}

@@ -1,11 +1,13 @@
--- This file serves the logic alone: a frame that is taken out of a stream.
-use Rattle.std.specs.Prelude.{◌≡◌, ℕ, List, take, drop, Result, Ok, Err, ◌⊎◌}
+-- This file serves the logic alone: a frame that is read by its type's own reader.
+use Rattle.std.specs.Prelude.{◌≡◌, ℕ, ◌/◌, List, Option, Some, None, Result, Ok, Err}
 use Rattle.mqtt5_base.specs.declared.error.Error.{Error}
 use Rattle.mqtt5_base.specs.declared.error.Error.TheVariants.{OutOfMemory}
+use Rattle.mqtt5_base.specs.Reading.{frame_values}
 use Rattle.mqtt5_codec.specs.declared.packet.Packet.{Packet}
-use Rattle.mqtt5_codec.specs.Packets.{IsFrameOf, IsFaultOf}
+use Rattle.mqtt5_codec.specs.Packets.{packet_rows, packet_type, packet_content, IsRead}
 
--- A frame of so many bytes was taken out and read, or, for want of memory, perhaps neither.
-abbrev pub TakesBytes : ℕ → Result Packet Error → List ℕ → List ℕ → Type 0
-TakesBytes n (Ok p) old new = IsFrameOf (take n old) p × (new ≡ drop n old)
-TakesBytes n (Err e) old new = (IsFaultOf (take n old) e × (new ≡ drop n old)) ⊎ ((e ≡ OutOfMemory) × ((new ≡ old) ⊎ (new ≡ drop n old)))
+-- The packet of a whole frame's body, by its first byte; or the first fault, unless memory ran out. Never None.
+abbrev pub ReadsBody : Result (Option Packet) Error → ℕ → List ℕ → Type 0
+ReadsBody (Ok (Some p)) first body = (frame_values packet_rows first body ≡ Ok (packet_content p)) × (packet_type p ≡ first / 16) × IsRead p
+ReadsBody (Ok None) first body = ⊥
+ReadsBody (Err e) first body = (e ≡ OutOfMemory → ⊥) → frame_values packet_rows first body ≡ Err e

@@ -6,9 +6,9 @@ ghost use Rattle.mqtt5_codec.specs.Packets.{writing_under};
 ghost use Rattle.mqtt5_codec.specs.Codecs.{Decodes, Reserves};
 
 use crate::packet::Packet;
-use crate::reading::take_frame;
+use crate::reading;
 use bytes::BytesMut;
-use mqtt5_base::{Error, check};
+use mqtt5_base::{Error, PacketType, check};
 use std::alloc::Global;
 
 /// Limits on the frames of a stream, in bytes: on the remaining length of what comes in, and on whole
@@ -30,10 +30,29 @@ impl Codec {
         ensures reserves { Reserves result stream.old stream.new }
         ensures shorter { IfOk result (λ m. IfSome m (λ _. length stream.new.items < length stream.old.items)) }
     {
-        match check(stream.as_slice(), self.max_incoming_size) {
-            Ok(header) => Ok(Some(take_frame(alloc, header, stream)?)),
-            Err(Error::InsufficientBytes(_)) => Ok(None),
-            Err(error) => Err(error),
+        let header = match check(stream.as_slice(), self.max_incoming_size) {
+            Ok(header) => header,
+            Err(Error::InsufficientBytes(_)) => return Ok(None),
+            Err(error) => return Err(error),
+        };
+        let frame = stream.freeze_to(header.frame_length())?;
+        // Each arm returns: as the value of the match the answer would be copied once more.
+        match header.packet_type()? {
+            PacketType::Connect => return reading::read_connect(alloc, header, frame),
+            PacketType::ConnAck => return reading::read_connack(alloc, header, frame),
+            PacketType::Publish => return reading::read_publish(alloc, header, frame),
+            PacketType::PubAck => return reading::read_puback(alloc, header, frame),
+            PacketType::PubRec => return reading::read_pubrec(alloc, header, frame),
+            PacketType::PubRel => return reading::read_pubrel(alloc, header, frame),
+            PacketType::PubComp => return reading::read_pubcomp(alloc, header, frame),
+            PacketType::Subscribe => return reading::read_subscribe(alloc, header, frame),
+            PacketType::SubAck => return reading::read_suback(alloc, header, frame),
+            PacketType::Unsubscribe => return reading::read_unsubscribe(alloc, header, frame),
+            PacketType::UnsubAck => return reading::read_unsuback(alloc, header, frame),
+            PacketType::PingReq => return reading::read_pingreq(header, frame),
+            PacketType::PingResp => return reading::read_pingresp(header, frame),
+            PacketType::Disconnect => return reading::read_disconnect(alloc, header, frame),
+            PacketType::Auth => return reading::read_auth(alloc, header, frame),
         }
     }
 

@@ -8,12 +8,8 @@ mod exact;
 mod frames;
 mod laws;
 mod options;
-#[cfg(test)]
-mod options_tests;
 mod packet;
 mod reading;
-#[cfg(test)]
-mod tests;
 
 pub use codec::Codec;
 pub use frames::frame_laws;

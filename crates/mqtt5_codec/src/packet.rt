@@ -1,6 +1,6 @@
 //! Packets of every type.
 
-use crate::reading::take_frame;
+use crate::codec::Codec;
 use bytes::BytesMut;
 use mqtt5_base::{Error, check, frame_size};
 use mqtt5_connect::{Connect, LastWill, Login};
@@ -47,8 +47,15 @@ impl Packet {
         ensures reads { ReadsPacket result max_size stream.old.items stream.new.items }
         ensures shorter { IfOk result (λ _. length stream.new.items < length stream.old.items) }
     {
-        let header = check(stream.as_slice(), max_size)?;
-        take_frame(alloc, header, stream)
+        check(stream.as_slice(), max_size)?;
+        let codec = Codec {
+            max_incoming_size: max_size,
+            max_outgoing_size: None,
+        };
+        match codec.decode(alloc, stream)? {
+            Some(packet) => Ok(packet),
+            None => unreachable!(),
+        }
     }
 
     /// How many bytes the packet takes, or the greatest `usize` where they are more. Takes no memory.

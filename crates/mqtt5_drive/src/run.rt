@@ -68,6 +68,7 @@ fn deliver(
     }
 }
 
+#[inline(never)]
 fn ask(
     state: &mut MqttState,
     codec: &Codec,
@@ -87,6 +88,7 @@ fn ask(
 }
 
 /// Takes each whole frame.
+#[inline(never)]
 fn take_frames(
     alloc: Global,
     state: &mut MqttState,

@@ -1,10 +1,10 @@
-//! The vectors: packets with the frames that they are written as and read from, and frames that are refused.
+//! The vectors: frames with the packets that are read from them and written as them, and frames that are refused.
 
 use bytes::{Bytes, BytesMut};
-use mqtt5_base::{Error, QoS, Sequence, Text, same};
+use mqtt5_base::{Error, PropertySet, QoS, Sequence, Text, same};
 use mqtt5_codec::Packet;
 use mqtt5_connect::{Connect, LastWill, Login};
-use mqtt5_flow::{PingReq, PingResp, PubAck, PubComp, PubCompReason, Publish};
+use mqtt5_flow::{PingReq, PingResp, PubAck, PubComp, PubCompReason, Publish, PublishProperties};
 use mqtt5_link::{Auth, AuthReasonCode, ConnAck, ConnAckProperties, ConnectReturnCode};
 use mqtt5_subs::{
     Filter, SubAck, Subscribe, SubscribeReasonCode, UnsubAck, UnsubAckReason, Unsubscribe,
@@ -13,8 +13,8 @@ use std::alloc::Global;
 use std::io;
 use std::io::Write;
 
-/// The frames of the vectors, in their order: the first 13 are of packets, the others are refused.
-pub const FRAMES: [&[u8]; 24] = [
+/// The frames of the vectors, in their order: the first 13 and the last 3 are of packets, the others are refused.
+pub const FRAMES: [&[u8]; 36] = [
     &[
         0x10, 0x0E, 0x00, 0x04, 0x4D, 0x51, 0x54, 0x54, 0x05, 0x02, 0x00, 0x3C, 0x00, 0x00, 0x01,
         0x63,
@@ -49,6 +49,24 @@ pub const FRAMES: [&[u8]; 24] = [
     &[0xF0, 0x01, 0x00],
     &[0x40, 0x05, 0x00, 0x01, 0x00, 0x01, 0x03],
     &[0xE0, 0x01, 0x01],
+    &[0x30, 0x06, 0x00, 0x01, 0x61, 0x02, 0x26, 0x00],
+    &[
+        0x30, 0x09, 0x00, 0x01, 0x61, 0x04, 0x08, 0x00, 0x02, 0x78, 0x79,
+    ],
+    &[
+        0x30, 0x09, 0x00, 0x01, 0x61, 0x05, 0x0B, 0x80, 0x80, 0x80, 0x80,
+    ],
+    &[0x30, 0x06, 0x00, 0x01, 0x61, 0x02, 0x0B, 0x80],
+    &[0x30, 0x08, 0x00, 0x01, 0x61, 0x04, 0x03, 0x00, 0x01, 0xFF],
+    &[0x30, 0x06, 0x00, 0x01, 0x61, 0x02, 0x04, 0x00],
+    &[0x30, 0x07, 0x00, 0x01, 0x61, 0x80, 0x80, 0x80, 0x80],
+    &[0x40, 0x05, 0x00, 0x01, 0x00, 0x05, 0x1F],
+    &[
+        0x30, 0x09, 0x00, 0x01, 0x61, 0x04, 0x02, 0x00, 0x00, 0x00, 0x01,
+    ],
+    &[0x30, 0x04, 0x00, 0x01, 0xFF, 0x00],
+    &[0x30, 0x08, 0x00, 0x01, 0x61, 0x04, 0x01, 0x00, 0x01, 0x01],
+    &[0x30, 0x05, 0x00, 0x01, 0x61, 0x80, 0x00],
 ];
 
 /// Tries each frame as the vector of its place, and prints whether it is what the vector says.
@@ -74,7 +92,7 @@ pub fn try_vectors<W: Write>(
 fn is_good(alloc: Global, place: usize, frame: &[u8]) -> Result<bool, Error> {
     let judged = match fault(place) {
         Some(fault) => is_refused(alloc, frame, &fault),
-        None => goes_both_ways(alloc, place, frame),
+        None => is_of_packet(alloc, place, frame),
     };
     match judged {
         Err(Error::OutOfMemory) => Err(Error::OutOfMemory),
@@ -93,9 +111,14 @@ fn fault(place: usize) -> Option<Error> {
         17 => Error::EmptySubscription,
         18 => Error::InvalidRetainForwardRule(3),
         19 => Error::InvalidQoS(3),
-        20 | 21 => Error::MalformedPacket,
+        20 | 21 | 24 | 27 | 32 => Error::MalformedPacket,
         22 => Error::InvalidPropertyType(3),
         23 => Error::InvalidConnectReturnCode(1),
+        25 => Error::BoundaryCrossed(2),
+        26 | 30 => Error::MalformedRemainingLength,
+        28 => Error::TopicNotUtf8,
+        29 => Error::InvalidPropertyType(4),
+        31 => Error::BoundaryCrossed(5),
         _ => return None,
     })
 }
@@ -112,16 +135,48 @@ fn is_refused(alloc: Global, frame: &[u8], fault: &Error) -> Result<bool, Error>
     Ok(refused && stream.is_empty())
 }
 
-/// Whether the packet of this place is written as the frame, and read back from it.
-fn goes_both_ways(alloc: Global, place: usize, frame: &[u8]) -> Result<bool, Error> {
+/// Whether the packet of this place is read from the frame, and written as it or as the stricter one.
+fn is_of_packet(alloc: Global, place: usize, frame: &[u8]) -> Result<bool, Error> {
+    let strict = stricter(place).unwrap_or(frame);
     let packet = packet(alloc, place)?;
+    let good = goes_both_ways(alloc, &packet, strict, frame);
+    drop(packet);
+    good
+}
+
+/// Whether the packet is written as the one frame, and read from the other.
+fn goes_both_ways(
+    alloc: Global,
+    packet: &Packet,
+    written: &[u8],
+    frame: &[u8],
+) -> Result<bool, Error> {
+    Ok(is_written_as(alloc, packet, written)? && is_read_as(alloc, packet, frame)?)
+}
+
+/// What the packet of this place is written as, where that isn't the frame that it is read from: a property once, and
+/// the shortest length of no properties.
+fn stricter(place: usize) -> Option<&'static [u8]> {
+    match place {
+        34 => Some(&[0x30, 0x06, 0x00, 0x01, 0x61, 0x02, 0x01, 0x01]),
+        35 => Some(&[0x30, 0x04, 0x00, 0x01, 0x61, 0x00]),
+        _ => None,
+    }
+}
+
+fn is_written_as(alloc: Global, packet: &Packet, frame: &[u8]) -> Result<bool, Error> {
     let mut stream = BytesMut::new(alloc);
     packet.write(&mut stream, None)?;
-    if stream.as_slice() != frame {
-        return Ok(false);
-    }
+    Ok(stream.as_slice() == frame)
+}
+
+fn is_read_as(alloc: Global, packet: &Packet, frame: &[u8]) -> Result<bool, Error> {
+    let mut stream = BytesMut::new(alloc);
+    stream.extend_from_slice(frame)?;
     let read = Packet::read(alloc, &mut stream, None)?;
-    Ok(same(&read, &packet) && stream.is_empty())
+    let good = same(&read, packet) && stream.is_empty();
+    drop(read);
+    Ok(good)
 }
 
 /// The packet of this place, counted from 0.
@@ -139,7 +194,10 @@ fn packet(alloc: Global, place: usize) -> Result<Packet, Error> {
         9 => unsuback(alloc),
         10 => Ok(Packet::PingReq(PingReq)),
         11 => Ok(Packet::PingResp(PingResp)),
-        _ => Ok(Packet::Auth(Auth::new(AuthReasonCode::Continue, None))),
+        12 => Ok(Packet::Auth(Auth::new(AuthReasonCode::Continue, None))),
+        33 => Ok(Packet::Publish(bare_publish(b"\xFF", None))),
+        34 => Ok(Packet::Publish(indicated_publish(alloc))),
+        _ => Ok(Packet::Publish(bare_publish(b"a", None))),
     }
 }
 
@@ -194,6 +252,25 @@ fn publish(alloc: Global) -> Result<Packet, Error> {
     let mut publish = Publish::new(alloc, "a/b", QoS::AtLeastOnce, payload, None)?;
     publish.pkid = 1;
     Ok(Packet::Publish(publish))
+}
+
+/// A publish of QoS 0 without a payload.
+fn bare_publish(topic: &'static [u8], properties: Option<PublishProperties>) -> Publish {
+    Publish {
+        dup: false,
+        qos: QoS::AtMostOnce,
+        retain: false,
+        topic: Bytes::from_static(topic),
+        pkid: 0,
+        payload: Bytes::new(),
+        properties,
+    }
+}
+
+fn indicated_publish(alloc: Global) -> Publish {
+    let mut properties = PublishProperties::empty(alloc);
+    properties.payload_format_indicator = Some(1);
+    bare_publish(b"a", Some(properties))
 }
 
 fn pubcomp() -> PubComp {

@@ -3,9 +3,9 @@
 ghost use Rattle.std.specs.Prelude.{◌≡◌, Some, false};
 ghost use Rattle.mqtt5_codec.specs.Options.{properties_of, with_properties};
 
-use crate::options::MqttOptions;
 use bytes::Bytes;
-use mqtt5_base::{Error, QoS, Sequence, Text, same};
+use mqtt5_base::{Error, Exact, QoS, Sequence, Text, same};
+use mqtt5_codec::MqttOptions;
 use mqtt5_connect::{ConnectProperties, LastWill, Login};
 use std::alloc::{AllocError, Global};
 use std::test::Fail;
@@ -32,10 +32,6 @@ const ALL_SET: &str = "MqttOptions { broker_addr: \"localhost\", port: 1883, \
 
 fn text(alloc: Global, text: &str) -> Result<Text, Error> {
     Ok(Text::from(String::from_str(alloc, text)?))
-}
-
-fn fresh(alloc: Global) -> Result<MqttOptions, Error> {
-    MqttOptions::new(alloc, "c", "localhost", 1883)
 }
 
 fn will(alloc: Global) -> Result<LastWill, Error> {
@@ -105,9 +101,10 @@ fn shown(alloc: Global, options: &MqttOptions) -> Result<String, AllocError> {
 
 /// Whether Debug of the options and of their clone is that text.
 fn shows(alloc: Global, options: &MqttOptions, wanted: &str) -> Result<bool, AllocError> {
-    let shown_as = shown(alloc, options)?;
-    let clone_as = shown(alloc, &options.clone()?)?;
-    Ok(shown_as.as_str() == wanted && clone_as.as_str() == wanted)
+    let clone = options.clone()?;
+    let clone_as = shown(alloc, &clone);
+    drop(clone);
+    Ok(clone_as?.as_str() == wanted && shown(alloc, options)?.as_str() == wanted)
 }
 
 fn has_numbers(options: &MqttOptions) -> bool {
@@ -138,27 +135,34 @@ fn has_client_id(options: &MqttOptions, id: &str) -> Result<bool, Error> {
     Ok(options.client_id()?.as_str() == id)
 }
 
+/// Whether two values, which are then let go, are the same.
+fn equal<T: Exact + Drop>(value: T, wanted: T) -> bool {
+    same(&value, &wanted)
+}
+
 fn has_will(alloc: Global, options: &MqttOptions) -> Result<bool, Error> {
-    Ok(same(&options.last_will()?, &Some(will(alloc)?)))
+    let wanted = Some(will(alloc)?);
+    Ok(equal(options.last_will()?, wanted))
 }
 
 fn has_credentials(alloc: Global, options: &MqttOptions) -> Result<bool, Error> {
-    let login = Login::new(alloc, "u", "p")?;
-    Ok(same(&options.credentials()?, &Some(login)))
+    let wanted = Some(Login::new(alloc, "u", "p")?);
+    Ok(equal(options.credentials()?, wanted))
 }
 
 fn has_pair(alloc: Global, options: &MqttOptions) -> Result<bool, Error> {
-    Ok(same(&options.user_properties()?, &pair(alloc)?))
+    let wanted = pair(alloc)?;
+    Ok(equal(options.user_properties()?, wanted))
 }
 
 fn has_method(alloc: Global, options: &MqttOptions) -> Result<bool, Error> {
-    let method = text(alloc, "test")?;
-    Ok(same(&options.authentication_method()?, &Some(method)))
+    let wanted = Some(text(alloc, "test")?);
+    Ok(equal(options.authentication_method()?, wanted))
 }
 
 fn has_auth_data(alloc: Global, options: &MqttOptions) -> Result<bool, Error> {
-    let content = Bytes::copy_from_slice(alloc, b"d")?;
-    Ok(same(&options.authentication_data()?, &Some(content)))
+    let wanted = Some(Bytes::copy_from_slice(alloc, b"d")?);
+    Ok(equal(options.authentication_data()?, wanted))
 }
 
 fn has_texts(alloc: Global, options: &MqttOptions) -> Result<bool, Error> {
@@ -182,36 +186,46 @@ fn has_no_pairs(options: &MqttOptions) -> Result<bool, Error> {
 fn alias_alone(alloc: Global, options: &MqttOptions) -> Result<bool, Error> {
     let mut wanted = ConnectProperties::new(alloc);
     wanted.topic_alias_max = Some(5);
-    let is_alone = same(&options.connect_properties()?, &Some(wanted));
+    let is_alone = equal(options.connect_properties()?, Some(wanted));
     Ok(is_alone && has_no_pairs(options)?)
 }
 
-fn fresh_is_shown(alloc: Global) -> Result<bool, Error> {
-    let options = fresh(alloc)?;
-    Ok(has_no_pairs(&options)? && shows(alloc, &options, FRESH)?)
+/// What is tried of new settings.
+#[derive(Debug, Clone, Copy)]
+enum Trial {
+    Fresh,
+    EmptyId,
+    AliasAlone,
+    AliasGone,
+    AllSet,
 }
 
-fn empty_id_is_kept(alloc: Global) -> Result<bool, Error> {
-    has_client_id(&MqttOptions::new(alloc, "", "localhost", 1883)?, "")
+/// Whether new settings pass a trial.
+fn passes(alloc: Global, id: &str, trial: Trial) -> Result<bool, Error> {
+    let mut options = MqttOptions::new(alloc, id, "localhost", 1883)?;
+    let good = tried(alloc, &mut options, trial);
+    drop(options);
+    good
 }
 
-fn alias_is_alone(alloc: Global) -> Result<bool, Error> {
-    let mut options = fresh(alloc)?;
-    chain(&mut options);
-    alias_alone(alloc, &options)
-}
-
-fn alias_is_gone(alloc: Global) -> Result<bool, Error> {
-    let mut options = fresh(alloc)?;
-    chain(&mut options);
-    options.set_connect_properties(ConnectProperties::new(alloc));
-    Ok(options.topic_alias_max().is_none())
-}
-
-fn all_is_kept(alloc: Global) -> Result<bool, Error> {
-    let mut options = fresh(alloc)?;
-    set_all(alloc, &mut options)?;
-    is_all_kept(alloc, &options)
+fn tried(alloc: Global, options: &mut MqttOptions, trial: Trial) -> Result<bool, Error> {
+    match trial {
+        Trial::Fresh => Ok(has_no_pairs(options)? && shows(alloc, options, FRESH)?),
+        Trial::EmptyId => has_client_id(options, ""),
+        Trial::AliasAlone => {
+            chain(options);
+            alias_alone(alloc, options)
+        }
+        Trial::AliasGone => {
+            chain(options);
+            options.set_connect_properties(ConnectProperties::new(alloc));
+            Ok(options.topic_alias_max().is_none())
+        }
+        Trial::AllSet => {
+            set_all(alloc, options)?;
+            is_all_kept(alloc, options)
+        }
+    }
 }
 
 fn is_all_kept(alloc: Global, options: &MqttOptions) -> Result<bool, Error> {
@@ -225,21 +239,15 @@ fn is_all_kept(alloc: Global, options: &MqttOptions) -> Result<bool, Error> {
 }
 
 #[test]
-fn fresh_options(rt: HostRuntime) -> Result<(), Fail> {
-    assert!(rt; fresh_is_shown(rt.alloc())?);
-    assert!(rt; empty_id_is_kept(rt.alloc())?);
-    Ok(())
-}
-
-#[test]
-fn one_connect_property(rt: HostRuntime) -> Result<(), Fail> {
-    assert!(rt; alias_is_alone(rt.alloc())?);
-    assert!(rt; alias_is_gone(rt.alloc())?);
-    Ok(())
-}
-
-#[test]
-fn settings_kept(rt: HostRuntime) -> Result<(), Fail> {
-    assert!(rt; all_is_kept(rt.alloc())?);
+fn settings(rt: HostRuntime) -> Result<(), Fail> {
+    for (id, trial) in [
+        ("c", Trial::Fresh),
+        ("", Trial::EmptyId),
+        ("c", Trial::AliasAlone),
+        ("c", Trial::AliasGone),
+        ("c", Trial::AllSet),
+    ] {
+        assert!(rt; passes(rt.alloc(), id, trial)?, "of {trial:?}");
+    }
     Ok(())
 }

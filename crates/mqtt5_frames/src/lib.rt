@@ -1,0 +1,5 @@
+//! Worked frames as data, and the tests that walk them. It has tests alone.
+#![tactic(auto)]
+
+#[cfg(test)]
+mod tests;
