@@ -1,11 +1,10 @@
 -- Each call keeps the ids in use within the limit and publishes under their own ids; so what is owed adds up.
-use Rattle.std.proofs.Common.{◌≡◌, ◌≢◌, ℕ, zero, suc, ◌+◌, ◌<◌, ◌≤◌, Bool, true, false, cond, List, [], ◌∷◌, ◌==◌, length, Option, Some, None, refl, sym, ap, ◌∙◌, subst, ⊎_elim, arith, nat_lt, ne_eqb}
-use Rattle.std.proofs.lemmas.Bool.{ltb-false, cases_eq, eqb-true}
+use Rattle.std.proofs.Common.{◌≡◌, ◌≢◌, ℕ, zero, suc, ◌+◌, ◌<◌, ◌≤◌, Bool, true, false, cond, List, [], ◌∷◌, ◌==◌, length, Option, Some, None, refl, sym, ap, ◌∙◌, subst, arith, nat_lt, ne_eqb}
+use Rattle.std.proofs.lemmas.Bool.{ltb-false, eqb-true}
 use Rattle.std.specs.Prelude.{is_some}
-use Rattle.std.specs.FinMap.{get, len, insert, remove, get-empty, get-remove, len-empty}
+use Rattle.std.specs.FinMap.{get, len, len-empty}
 use Rattle.std.specs.FinSet as set
-use Rattle.std.specs.Ordering.{nat_cmp, eq_by_cmp}
-use Rattle.std.specs.Cmp.{nat_cmp_total}
+use Rattle.std.specs.Ordering.{nat_cmp}
 use Rattle.mqtt5_base.specs.declared.quality.QoS.{QoS}
 use Rattle.mqtt5_base.specs.declared.quality.QoS.TheVariants.{AtMostOnce, AtLeastOnce, ExactlyOnce}
 use Rattle.mqtt5_flow.specs.declared.publish.Publish.{Publish}
@@ -23,7 +22,7 @@ use Rattle.mqtt5_session.specs.declared.event.Request.{Request}
 use Rattle.mqtt5_session.specs.declared.event.Request.TheVariants as requests
 use Rattle.mqtt5_session.specs.declared.event.Outgoing.{Outgoing}
 use Rattle.mqtt5_session.specs.declared.error.StateError.{StateError}
-use Rattle.mqtt5_session.specs.Held.{Held, IsWithin, OwnId}
+use Rattle.mqtt5_session.specs.Held.{Held}
 use Rattle.mqtt5_session.specs.Release.{IsCounted}
 use Rattle.mqtt5_session.specs.Session.{Core, Session, Answer, fresh}
 use Rattle.mqtt5_session.specs.Requests.{out, next_id, unless, over_maximum, Verdict, Refuse, Wait, Store, out_acked, out_publish, out_release, out_known, id_for, last_after, ping_fault, counts_ping}
@@ -31,7 +30,8 @@ use Rattle.mqtt5_session.specs.Packets.{inc, heard, hears, told, freed_for, on_p
 use Rattle.mqtt5_session.specs.Cleaning.{alias_again, by_id, cleaned, resume_of}
 use Rattle.mqtt5_session.specs.Again.{sent_unless, packets_of}
 use Rattle.mqtt5_session.specs.Ledger.{owed, Call, Ask, Hear, Error, Clean, Resume, kept_by, after, added, taken, after_all, added_by, taken_by, IsLedger}
-use Rattle.mqtt5_session.proofs.Resume.{no_ids, get_insert_same, get_insert_other, Fits, IsUsed, resumes}
+use Rattle.mqtt5_session.proofs.Within.{no_ids, Fits, IsUsed, with_used, without, none_used, within_fits}
+use Rattle.mqtt5_session.proofs.Resume.{resumes}
 use Rattle.mqtt5_session.proofs.Owed.{choose, Judges, judges, out_adds, inc_takes, requests_len}
 
 -- ids in use lie in 1..=limit, publishes stand under their own, and what waits isn't of QoS 0
@@ -42,45 +42,8 @@ unless_sound : (s : Session) (e : Option StateError) (a : Answer) → Sound s.co
 unless_sound s None a i h = h
 unless_sound s (Some e) a i h = i
 
--- ---- the map
-
 used : (limit id : ℕ) (h : Held) (x : Slot) → ((k : ℕ) → Fits limit k (get h k)) → get h id ≡ Some x → IsUsed limit id x
 used limit id h x fit e = subst (Fits limit id) e (fit id)
-
-with_used : (limit id : ℕ) (h : Held) (x : Slot) → ((k : ℕ) → Fits limit k (get h k)) → IsUsed limit id x → (k : ℕ) → Fits limit k (get (insert h id x) k)
-with_used limit id h x fit new k = ⊎_elim
-    (λ (e : k ≡ id). subst (λ j. Fits limit j (get (insert h id x) j)) (sym e) (subst (Fits limit id) (sym (get_insert_same h id x)) new))
-    (λ (ne : k ≢ id). subst (Fits limit k) (sym (get_insert_other h id x k ne)) (fit k))
-    (cases_eq k id)
-
-without : (limit id : ℕ) (h : Held) → ((k : ℕ) → Fits limit k (get h k)) → (k : ℕ) → Fits limit k (get (remove h id) k)
-without limit id h fit k = subst (Fits limit k) (sym (get-remove nat_cmp_total h id k)) (by (eq_by_cmp nat_cmp k id))
-  where
-    by : (b : Bool) → Fits limit k (cond b None (get h k))
-    by true = tt {0}
-    by false = fit k
-
-none_used : (limit k : ℕ) → Fits limit k (get no_ids k)
-none_used limit k = subst (Fits limit k) (sym (get-empty nat_cmp k)) (tt {0})
-
-pub within_fits : (limit : ℕ) (h : Held) → ((k : ℕ) → Fits limit k (get h k)) → IsWithin limit h
-within_fits limit h fit = record {
-  low = λ k t. (by k (get h k) t (fit k)).low;
-  high = λ k t. (by k (get h k) t (fit k)).high;
-  own = λ k. own k (get h k) (fit k);
-}
-  where
-    some : Option Slot → Slot
-    some None = Released
-    some (Some x) = x
-
-    by : (k : ℕ) (x : Option Slot) → is_some x ≡ true → Fits limit k x → IsUsed limit k (some x)
-    by k None t f = absurd cc
-    by k (Some x) t f = f
-
-    own : (k : ℕ) (x : Option Slot) → Fits limit k x → OwnId k x
-    own k None f = tt {0}
-    own k (Some x) f = f.own
 
 -- ---- requests
 

@@ -1,8 +1,7 @@
-pub mod Below
-pub mod Tables
+pub mod Within
 pub mod Trees
+pub mod Entries
 pub mod Sets
-pub mod First
 pub mod Resume
 pub mod Owed
 pub mod Keeps

@@ -1,10 +1,11 @@
 -- What each call does to what is owed.
-use Rattle.std.proofs.Common.{◌≡◌, ℕ, zero, suc, ◌+◌, ◌-◌, ◌<◌, ◌≤◌, Bool, true, false, cond, List, ◌==◌, length, Option, Some, None, Result, Err, refl, sym, ap, ◌∙◌, subst, arith, nat_lt}
+use Rattle.std.proofs.Common.{◌≡◌, ℕ, zero, suc, ◌+◌, ◌-◌, ◌<◌, ◌≤◌, Bool, true, false, cond, List, ◌==◌, length, Option, Some, None, Result, Err, refl, sym, ap, ◌∙◌, subst, arith, nat_lt, inl, inr}
 use Rattle.std.proofs.lemmas.List.{length-append}
-use Rattle.std.proofs.lemmas.Bool.{ltb-false}
+use Rattle.std.proofs.lemmas.Bool.{ltb-false, false≢true}
+use Rattle.std.proofs.Math.Nat.{eq-zero-or-pos}
 use Rattle.std.specs.Prelude.{is_some}
 use Rattle.std.specs.Cmp.{nat_cmp_total}
-use Rattle.std.specs.FinMap.{get, len, insert, remove, contains_key, len-insert, len-remove, len-empty}
+use Rattle.std.specs.FinMap.{get, len, insert, remove, contains_key, get-empty, empty_of_len, len-insert, len-remove, len-empty}
 use Rattle.std.specs.FinSet as set
 use Rattle.std.specs.Ordering.{nat_cmp}
 use Rattle.mqtt5_base.specs.declared.quality.QoS.{QoS}
@@ -31,8 +32,8 @@ use Rattle.mqtt5_session.specs.Requests.{out, unless, over_maximum, judged, by_a
 use Rattle.mqtt5_session.specs.Packets.{inc, heard, hears, told, freed_for, on_puback, on_received, on_pubrec, on_pubcomp, on_pubrel, on_publish, on_qos, answers, on_connack, is_taken, topic_of}
 use Rattle.mqtt5_session.specs.Cleaning.{by_id, publish_again, release_again, requests_of}
 use Rattle.mqtt5_session.specs.Ledger.{one_of, owed, owed_at, adds, ends, accepted}
-use Rattle.mqtt5_session.proofs.Tables.{one_in_use}
-use Rattle.mqtt5_session.proofs.Resume.{no_ids, is_sent, is_kept, with_slot, map_to, above, Fits, FreeFor, free_first, free_then, whole_map}
+use Rattle.mqtt5_session.proofs.Within.{no_ids, Fits}
+use Rattle.mqtt5_session.proofs.Resume.{is_sent, is_kept, with_slot, map_to, above, FreeFor, free_first, free_then, whole_map}
 
 -- what an answer owes, where n is added on success
 abbrev Adds : Session → ℕ → Answer → Type 0
@@ -57,6 +58,13 @@ len_used m id x y e = len-insert nat_cmp_total m id y ∙ ap (λ b. cond b (len 
 
 len_free : (m : Held) (id : ℕ) (y : Slot) → get m id ≡ None → len (insert m id y) ≡ len m + 1
 len_free m id y e = len-insert nat_cmp_total m id y ∙ ap (λ b. cond b (len m) (len m + 1)) (ap is_some e)
+
+-- an id in use is counted
+one_in_use : (m : Held) (i : ℕ) → contains_key m i ≡ true → 0 < len m
+one_in_use m i e = elim (eq-zero-or-pos (len m)) [
+  | inl z ↦ absurd (false≢true (ap is_some (sym (get-empty nat_cmp i)) ∙ ap (λ k. contains_key k i) (sym (empty_of_len m z)) ∙ e))
+  | inr p ↦ p
+]
 
 len_removed : (m : Held) (id : ℕ) (x : Slot) → get m id ≡ Some x → len (remove m id) + 1 ≡ len m
 len_removed m id x e =

@@ -1,13 +1,12 @@
 -- To resume sends the packets of what is held, in one piece, and keeps what is held.
-use Rattle.std.proofs.Common.{◌≡◌, ◌≢◌, ℕ, zero, suc, ◌<◌, ◌≤◌, Bool, true, false, cond, List, [], ◌∷◌, ◌++◌, ◌==◌, Option, Some, None, Result, Ok, Err, refl, sym, ap, ◌∙◌, subst, ⊎_elim, arith, rules, le-ltb, ne_eqb, append_assoc, append-nil}
+use Rattle.std.proofs.Common.{◌≡◌, ◌≢◌, ℕ, zero, suc, ◌<◌, ◌≤◌, Bool, true, false, cond, List, [], ◌∷◌, ◌++◌, ◌==◌, Option, Some, None, Result, Ok, Err, refl, sym, ap, ◌∙◌, subst, ⊎_elim, arith, le-ltb, ne_eqb, append_assoc, append-nil}
 use Rattle.std.specs.List.{filter_map}
 use Rattle.std.specs.Option.{option_to_list}
 use Rattle.std.proofs.lemmas.List.Elements.{filter_map-append}
 use Rattle.std.proofs.lemmas.Bool.{cases_eq}
-use Rattle.std.specs.Prelude.{is_some}
-use Rattle.std.specs.Cmp.{nat_cmp_total, unsigned_tied}
-use Rattle.std.specs.Ordering.{nat_cmp, eq_by_cmp}
-use Rattle.std.specs.FinMap.{get, insert, empty, same_map, get-empty, get-insert, nat_cmp-IsAntisymmetric}
+use Rattle.std.specs.Cmp.{nat_cmp_total}
+use Rattle.std.specs.Ordering.{nat_cmp}
+use Rattle.std.specs.FinMap.{get, insert, empty, same_map, get-empty, nat_cmp-IsAntisymmetric}
 use Rattle.mqtt5_base.specs.declared.quality.QoS.{QoS}
 use Rattle.mqtt5_base.specs.declared.quality.QoS.TheVariants.{AtMostOnce, AtLeastOnce, ExactlyOnce}
 use Rattle.mqtt5_flow.specs.declared.publish.Publish.{Publish}
@@ -19,11 +18,12 @@ use Rattle.mqtt5_session.specs.declared.event.Request.{Request}
 use Rattle.mqtt5_session.specs.declared.event.Request.TheVariants as requests
 use Rattle.mqtt5_session.specs.declared.error.StateError.{StateError}
 use Rattle.mqtt5_session.specs.declared.error.StateError.TheVariants as errors
-use Rattle.mqtt5_session.specs.Held.{Held, HasId, OwnId, IsWithin}
+use Rattle.mqtt5_session.specs.Held.{Held, IsWithin}
 use Rattle.mqtt5_session.specs.Session.{Session, Answer}
 use Rattle.mqtt5_session.specs.Requests.{out, alias_of, alias_over, alias_fault, id_for, last_after, by_alias, by_use, over_maximum, Refuse, Store, out_acked, out_identified, out_publish, out_release, out_known, stored}
 use Rattle.mqtt5_session.specs.Cleaning.{alias_again, by_id, publish_again, release_again, cleaned, Sendings, with_reply, send_all, resume_of}
 use Rattle.mqtt5_session.specs.Again.{packet_for, event_for, moment_after, after_sent, sent_unless, packets_of, resumed}
+use Rattle.mqtt5_session.proofs.Within.{no_ids, get_insert_same, get_insert_other, Fits, fits}
 
 -- ---- one list of requests after another
 
@@ -81,18 +81,6 @@ sent_then (x ∷ xs) ys ps qs m k s f at e = refl
 sent_then [] ys ps qs m k s f at e = ap (sent_before ps) e ∙ both_sent [] ys ps qs m k s at
 
 -- ---- the map, id by id
-
-tied_same : (k : ℕ) → eq_by_cmp nat_cmp k k ≡ true
-tied_same k = unsigned_tied k k ∙ grind (arith, rules)
-
-pub get_insert_same : (m : Held) (k : ℕ) (x : Slot) → get (insert m k x) k ≡ Some x
-get_insert_same m k x = get-insert nat_cmp_total m k x k ∙ ap (λ b. cond b (Some x) (get m k)) (tied_same k)
-
-pub get_insert_other : (m : Held) (k : ℕ) (x : Slot) (j : ℕ) → j ≢ k → get (insert m k x) j ≡ get m j
-get_insert_other m k x j ne = get-insert nat_cmp_total m k x j ∙ ap (λ b. cond b (Some x) (get m j)) (unsigned_tied j k ∙ ne_eqb j k ne)
-
-abbrev pub no_ids : Held
-no_ids = empty
 
 abbrev pub is_sent : Slot → Bool
 is_sent (Sent p) = true
@@ -154,23 +142,6 @@ both_parts : (x : Option Slot) → pick is_kept x (pick is_sent x None) ≡ x
 both_parts None = refl
 both_parts (Some Released) = refl
 both_parts (Some (Sent p)) = refl
-
--- an id in use lies in 1..=limit, and a publish has it as its own
-pub record IsUsed (limit id : ℕ) (x : Slot) : Type 0 where
-  pub low : 0 < id
-  pub high : id ≤ limit
-  pub own : HasId id x
-
-abbrev pub Fits : ℕ → ℕ → Option Slot → Type 0
-Fits limit id None = Unit {0}
-Fits limit id (Some x) = IsUsed limit id x
-
-pub fits : (limit : ℕ) (h : Held) → IsWithin limit h → (k : ℕ) → Fits limit k (get h k)
-fits limit h is k = by (get h k) refl
-  where
-    by : (x : Option Slot) → get h k ≡ x → Fits limit k x
-    by None e = tt {0}
-    by (Some x) e = record { low = is.low k (ap is_some e); high = is.high k (ap is_some e); own = subst (OwnId k) e (is.own k) }
 
 module _ (limit : ℕ) (h : Held) (ok : (k : ℕ) → Fits limit k (get h k)) where
   pub whole_map : map_to is_kept limit h (map_to is_sent limit h empty) ≡ h

@@ -6,13 +6,16 @@ use Rattle.std.specs.FinMap as map
 use Rattle.std.specs.FinSet as set
 use Rattle.mqtt5_session.specs.contracts.slot.Slot as slot
 use Rattle.mqtt5_session.specs.Held.{Held}
-use Rattle.mqtt5_session.specs.Table.{IdMap}
 
 -- maps of ids
 abbrev pub coded_held : Coded Held
 coded_held = map.code coded_ℕ slot.the_row.coded
 
--- the same with their limit
+-- the same, and how high an id may be
+pub record IdMap : Type 0 where
+  pub limit : ℕ
+  pub held : Held
+
 abbrev pub coded_ids : Coded IdMap
 coded_ids = code_by (ℕ × Held) (coded× coded_ℕ coded_held) (λ m. (m.limit, m.held)) (λ p. record { limit = p.0; held = p.1 }) (λ _. refl)
 

@@ -1,7 +1,5 @@
 pub mod Errors
-pub mod Rising
 pub mod Held
-pub mod Table
 pub mod Codes
 pub mod Session
 pub mod Requests

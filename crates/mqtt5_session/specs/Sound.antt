@@ -1,4 +1,4 @@
--- This file serves the logic alone: the derived `==` of requests and events finds equal values alone.
+-- This file serves the logic alone: the derived `==` of requests, events and slots finds equal values alone.
 use Rattle.std.proofs.Common.{ap, refl, sym}
 use mathlib.Core.Bool.{true≢false}
 use Rattle.mqtt5_base.specs.Sound.{Sound, number_sound}
@@ -10,6 +10,8 @@ use Rattle.mqtt5_session.specs.declared.event.Event.TheVariants as events
 use Rattle.mqtt5_session.specs.contracts.event.OutgoingPartialEq.TheImpl as told
 use Rattle.mqtt5_session.specs.contracts.event.EventPartialEq.TheImpl as event
 use Rattle.mqtt5_session.specs.declared.event.Request.TheVariants as requests
+use Rattle.mqtt5_session.specs.declared.slot.Slot.TheVariants as slots
+use Rattle.mqtt5_session.specs.contracts.slot.SlotPartialEq.TheImpl as slot
 use Rattle.mqtt5_session.specs.contracts.event.RequestPartialEq.TheImpl as request
 
 pub request_sound : Sound request.eq-value.it
@@ -44,3 +46,8 @@ pub event_sound : Sound event.eq-value.it
 event_sound (events.Incoming x) (events.Incoming y) h = ap (λ z. events.Incoming z) (packet_sound x y h)
 event_sound (events.Outgoing x) (events.Outgoing y) h = ap (λ z. events.Outgoing z) (outgoing_sound x y h)
 event_sound x y h = absurd (true≢false (sym h))
+
+pub slot_sound : Sound slot.eq-value.it
+slot_sound (slots.Sent x) (slots.Sent y) h = ap (λ z. slots.Sent z) (publish_sound x y h)
+slot_sound slots.Released slots.Released h = refl
+slot_sound x y h = absurd (true≢false (sym h))

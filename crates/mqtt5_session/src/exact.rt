@@ -1,6 +1,7 @@
-//! A clone of a request or of an event is the same value, and `==` decides equality.
+//! A clone of a request, of an event or of a slot is the same value, and `==` decides equality.
 
 use crate::event::{Event, Outgoing, Request};
+use crate::slot::Slot;
 use mqtt5_base::Exact;
 
 impl Exact for Request {
@@ -28,4 +29,13 @@ impl Exact for Event {
     ghost same = { Prim.search rules };
 
     ghost sound = { event_sound };
+}
+
+impl Exact for Slot {
+    ghost use Rattle.std.proofs.Common.{rules};
+    ghost use Rattle.mqtt5_session.specs.Sound.{slot_sound};
+
+    ghost same = { Prim.search rules };
+
+    ghost sound = { slot_sound };
 }

@@ -1,10 +1,12 @@
-//! The packet identifiers in use: a table of publishes, a list of flags and a count.
+//! The packet identifiers in use, and what is known of each, in an ordered map.
 
-ghost use Rattle.std.specs.Prelude.{◌≡◌, ◌<◌, ◌≤◌, ◌+◌, ◌^◌, IsTrue, IsSome, IfSome, IsOk, IfOk, OnOk, OnErr, ◌++◌, slice_get, slice_set, slice_index_or, vec_len, length, ℕ, Some, None, false, if◌then◌else◌};
+ghost use Rattle.std.specs.Prelude.{◌≡◌, ◌<◌, ◌≤◌, IsTrue, IsSome, IfOk, IsOk, OnOk, OnErr, ◌++◌, slice_get, length, ℕ, Some};
+ghost use Rattle.std.specs.Ordering.{nat_cmp};
+ghost use Rattle.std.specs.BTreeMap.{IsOrdered};
 ghost use Rattle.std.specs.FinMap as map;
+ghost use Rattle.std.specs.List.{flat_map};
 ghost use Rattle.std.specs.Option.{option_copied, option_to_list};
 ghost use Rattle.mqtt5_session.specs.Held.{HasId, IsWithin, awaiting_ack, is_released};
-ghost use Rattle.mqtt5_session.specs.Table.{slot_of};
 ghost use Rattle.mqtt5_session.specs.Cleaning.{alias_again, by_id, publish_again, release_again, requests_of};
 ghost use Rattle.mqtt5_session.specs.Again.{packet_for, packets_of};
 
@@ -16,50 +18,41 @@ use mqtt5_base::{Exact, copied};
 use mqtt5_codec::Packet;
 use mqtt5_flow::{PubRel, Publish};
 use std::alloc::{AllocError, Global};
+use std::collections::BTreeMap;
 use std::marker::Model;
 
 /// The ids in use, each within the limit. Contracts see a map.
 #[derive(Debug, Drop)]
 pub struct Slots {
-    sent: Vec<Option<Publish>>,
-    released: Vec<bool>,
-    count: u16,
+    limit: u16,
+    held: BTreeMap<u16, Slot>,
     alloc: Global,
 }
 
 impl Model for Slots {
-    ghost use Rattle.std.specs.Prelude.{◌-◌, length};
-    ghost use Rattle.mqtt5_session.specs.Table.{IdMap};
-    ghost use Rattle.mqtt5_session.specs.Table.{held_of, IsTable};
-    ghost use Rattle.mqtt5_session.specs.Codes.{coded_ids};
+    ghost use Rattle.std.specs.FinMap as map;
+    ghost use Rattle.mqtt5_session.specs.Held.{IsWithin};
+    ghost use Rattle.mqtt5_session.specs.Codes.{IdMap, coded_ids};
 
     ghost Value = { IdMap };
 
     ghost coded = { coded_ids };
 
-    ghost view = { λ a. record { limit = length a.sent.items - 1; held = held_of a.sent.items a.released.items } };
+    ghost view = { λ a. record { limit = a.limit; held = map.from_entries a.held.entries } };
 
-    ghost invariant = { λ a. IsTable a.sent.items a.released.items a.count };
+    ghost invariant = { λ a. IsWithin a.limit (map.from_entries a.held.entries) };
 }
 
 impl Slots {
-    /// No id is in use.
-    pub fn new(alloc: Global, limit: u16) -> Result<Slots, AllocError>
-        ensures { IfOk result (λ s. s ≡ record { limit = limit; held = map.empty }) }
+    /// No id is in use. Takes no memory.
+    pub fn new(alloc: Global, limit: u16) -> Slots
+        ensures { result ≡ record { limit = limit; held = map.empty } }
     {
-        let size = limit as usize + 1;
-        let mut sent = Vec::with_capacity(alloc, size)?;
-        let mut released = Vec::with_capacity(alloc, size)?;
-        for _ in 0..size {
-            sent.push(None)?;
-            released.push(false)?;
-        }
-        Ok(Slots {
-            sent,
-            released,
-            count: 0,
+        Slots {
+            limit,
+            held: BTreeMap::new(alloc),
             alloc,
-        })
+        }
     }
 
     /// How many ids are in use.
@@ -67,14 +60,25 @@ impl Slots {
         ensures count { result ≡ map.len self.now.held }
         ensures within { IsWithin self.now.limit self.now.held }
     {
-        self.count
+        let count = self.held.len();
+        prove!(count <= self.limit as usize);
+        count as u16
     }
 
     /// How high an id may be.
     pub fn limit(&self) -> u16
         ensures { result ≡ self.now.limit }
     {
-        (self.sent.len() - 1) as u16
+        self.limit
+    }
+
+    /// What is known of an id.
+    fn get(&self, id: u16) -> Option<&Slot>
+        ensures found { option_copied result ≡ map.get self.now.held id }
+        ensures low { IsSome result → 0 < id }
+        ensures high { IsSome result → id ≤ self.now.limit }
+    {
+        self.held.get(&id)
     }
 
     /// Whether an id is in use.
@@ -83,8 +87,7 @@ impl Slots {
         ensures low { IsTrue result → 0 < id }
         ensures high { IsTrue result → id ≤ self.now.limit }
     {
-        let i = id as usize;
-        i < self.sent.len() && (self.released[i] || self.sent[i].is_some())
+        self.get(id).is_some()
     }
 
     /// The publish that awaits an ack under an id.
@@ -93,7 +96,10 @@ impl Slots {
         ensures low { IsSome result → 0 < id }
         ensures high { IsSome result → id ≤ self.now.limit }
     {
-        self.sent.get(id as usize)?.as_ref()
+        match self.get(id)? {
+            Slot::Sent(publish) => Some(publish),
+            Slot::Released => None,
+        }
     }
 
     /// Whether an id is released.
@@ -102,8 +108,7 @@ impl Slots {
         ensures low { IsTrue result → 0 < id }
         ensures high { IsTrue result → id ≤ self.now.limit }
     {
-        let i = id as usize;
-        i < self.sent.len() && self.released[i] && self.sent[i].is_none()
+        matches!(self.get(id), Some(Slot::Released))
     }
 
     /// What is to be sent again: the publishes, then the releases, each by rising id.
@@ -111,32 +116,10 @@ impl Slots {
         ensures items { IfOk result (λ v. v.items ≡ requests_of self.now.limit self.now.held) }
         ensures count { IfOk result (λ v. length v.items ≡ map.len self.now.held) }
     {
-        let mut requests = Vec::with_capacity(self.alloc, self.count as usize)?;
-        self.push_sent(&mut requests)?;
-        self.push_released(&mut requests)?;
+        let mut requests = Vec::with_capacity(self.alloc, self.held.len())?;
+        push_sent(&mut requests, &self.held)?;
+        push_released(&mut requests, &self.held)?;
         Ok(requests)
-    }
-
-    fn push_sent(&self, requests: &mut Vec<Request>) -> Result<(), AllocError>
-        ensures { OnOk result (requests.new.items ≡ requests.old.items ++ by_id publish_again self.now.limit self.now.held) }
-    {
-        for before in 0..self.limit() {
-            if let Some(publish) = self.sent(before + 1) {
-                requests.push(Request::Publish(copied(publish)?))?;
-            }
-        }
-        Ok(())
-    }
-
-    fn push_released(&self, requests: &mut Vec<Request>) -> Result<(), AllocError>
-        ensures { OnOk result (requests.new.items ≡ requests.old.items ++ by_id release_again self.now.limit self.now.held) }
-    {
-        for before in 0..self.limit() {
-            if self.is_released(before + 1) {
-                requests.push(Request::PubRel(PubRel::new(before + 1, None)))?;
-            }
-        }
-        Ok(())
     }
 
     /// The packets that these are sent as.
@@ -158,20 +141,7 @@ impl Slots {
         ensures first { result ≡ slice_get (by_id (alias_again max) self.now.limit self.now.held) 0 }
         ensures within { IsWithin self.now.limit self.now.held }
     {
-        prove!(self.sent.len() > 0);
-        for before in 0..self.limit() {
-            let alias = self.alias_at(before + 1, max);
-            if alias.is_some() {
-                return alias;
-            }
-        }
-        None
-    }
-
-    fn alias_at(&self, id: u16, max: u16) -> Option<u16>
-        ensures { option_to_list result ≡ alias_again max id (map.get self.now.held id) }
-    {
-        alias_over(self.sent(id)?, max)
+        first_alias(&self.held, max)
     }
 
     /// Sets what is known of an id. Only an id that wasn't in use may take memory.
@@ -183,15 +153,7 @@ impl Slots {
         ensures err { OnErr result (self.new ≡ self.old) }
         ensures used { IsSome (map.get self.old.held id) → IsOk result }
     {
-        self.count = count_with(self.count, self.contains(id));
-        let (publish, is_released) = parts(slot);
-        put(
-            &mut self.sent,
-            &mut self.released,
-            id as usize,
-            publish,
-            is_released,
-        );
+        self.held.insert(id, slot)?;
         Ok(())
     }
 
@@ -199,18 +161,14 @@ impl Slots {
     pub fn clear(&mut self)
         ensures { self.new ≡ record self.old { held = map.empty } }
     {
-        empty(&mut self.sent, &mut self.released);
-        self.count = 0;
+        self.held.clear();
     }
 
     /// Makes an id free.
     pub fn remove(&mut self, id: u16)
         ensures { self.new ≡ record self.old { held = map.remove self.old.held id } }
     {
-        if self.contains(id) {
-            self.count -= 1;
-            put(&mut self.sent, &mut self.released, id as usize, None, false);
-        }
+        self.held.remove(&id);
     }
 }
 
@@ -219,12 +177,42 @@ impl Clone for Slots {
 
     fn clone(&self) -> Result<Slots, AllocError> {
         Ok(Slots {
-            sent: copied_list(&self.sent)?,
-            released: copied_flags(&self.released)?,
-            count: self.count,
+            limit: self.limit,
+            held: copied_map(&self.held)?,
             alloc: self.alloc,
         })
     }
+}
+
+/// A clone of a map, which has the same entries.
+fn copied_map<T: Exact>(map: &BTreeMap<u16, T>) -> Result<BTreeMap<u16, T>, AllocError>
+    ensures { IfOk result (λ copy. copy.entries ≡ map.now.entries) }
+{
+    map.clone()
+}
+
+/// Adds the publishes that await an ack.
+fn push_sent(requests: &mut Vec<Request>, held: &BTreeMap<u16, Slot>) -> Result<(), AllocError>
+    ensures { OnOk result (requests.new.items ≡ requests.old.items ++ flat_map (λ e. publish_again e.0 (Some e.1)) held.now.entries) }
+{
+    for (_, slot) in held {
+        if let Slot::Sent(publish) = slot {
+            requests.push(Request::Publish(copied(publish)?))?;
+        }
+    }
+    Ok(())
+}
+
+/// Adds the releases.
+fn push_released(requests: &mut Vec<Request>, held: &BTreeMap<u16, Slot>) -> Result<(), AllocError>
+    ensures { OnOk result (requests.new.items ≡ requests.old.items ++ flat_map (λ e. release_again e.0 (Some e.1)) held.now.entries) }
+{
+    for (id, slot) in held {
+        if let Slot::Released = slot {
+            requests.push(Request::PubRel(PubRel::new(*id, None)))?;
+        }
+    }
+    Ok(())
 }
 
 /// The packet that a request is sent as.
@@ -238,64 +226,25 @@ fn as_packet(request: Request) -> Option<Packet>
     }
 }
 
-/// A clone of a list, which has the same items.
-fn copied_list<T: Exact>(list: &Vec<T>) -> Result<Vec<T>, AllocError>
-    ensures { IfOk result (λ copy. copy.items ≡ list.now.items) }
+/// The first topic alias above a maximum.
+fn first_alias(held: &BTreeMap<u16, Slot>, max: u16) -> Option<u16>
+    ensures ordered { IsOrdered nat_cmp held.now }
+    ensures first { result ≡ slice_get (flat_map (λ e. alias_again max e.0 (Some e.1)) held.now.entries) 0 }
 {
-    list.clone()
+    for (_, slot) in held {
+        if let Some(alias) = alias_in(slot, max) {
+            return Some(alias);
+        }
+    }
+    None
 }
 
-/// A clone of a list of flags, which has the same flags.
-fn copied_flags(flags: &Vec<bool>) -> Result<Vec<bool>, AllocError>
-    ensures { IfOk result (λ copy. copy.items ≡ flags.now.items) }
-{
-    flags.clone()
-}
-
-/// The count with one id more, unless it is in use.
-fn count_with(count: u16, is_used: bool) -> u16
-    requires { is_used ≡ false → count + 1 < 2 ^ 16 }
-    ensures { result ≡ (if is_used then count else count + 1) }
-{
-    if is_used { count } else { count + 1 }
-}
-
-/// What is known of an id, as a place of the table and a flag.
-fn parts(slot: Slot) -> (Option<Publish>, bool)
-    ensures { slot_of result.0 result.1 ≡ Some slot }
+/// The topic alias of a publish that awaits its ack, where it is above a maximum.
+fn alias_in(slot: &Slot, max: u16) -> Option<u16>
+    ensures { (id : ℕ) → option_to_list result ≡ alias_again max id (Some slot.now) }
 {
     match slot {
-        Slot::Sent(publish) => (Some(publish), false),
-        Slot::Released => (None, true),
-    }
-}
-
-/// Writes a place of the table, and its flag.
-fn put(
-    sent: &mut Vec<Option<Publish>>,
-    released: &mut Vec<bool>,
-    i: usize,
-    publish: Option<Publish>,
-    is_released: bool,
-)
-    requires sent { i < vec_len sent.old }
-    requires released { i < vec_len released.old }
-    ensures sent { sent.new.items ≡ slice_set sent.old.items i publish }
-    ensures released { released.new.items ≡ slice_set released.old.items i is_released }
-{
-    sent[i] = publish;
-    released[i] = is_released;
-}
-
-/// Empties each place of the table, and its flag.
-fn empty(sent: &mut Vec<Option<Publish>>, released: &mut Vec<bool>)
-    requires { vec_len released.old ≡ vec_len sent.old }
-    ensures sent_len { length sent.new.items ≡ length sent.old.items }
-    ensures released_len { length released.new.items ≡ length released.old.items }
-    ensures sent { (q : ℕ) → slice_index_or sent.new.items q None ≡ None }
-    ensures released { (q : ℕ) → slice_index_or released.new.items q false ≡ false }
-{
-    for i in 0..sent.len() {
-        put(sent, released, i, None, false);
+        Slot::Sent(publish) => alias_over(publish, max),
+        Slot::Released => None,
     }
 }

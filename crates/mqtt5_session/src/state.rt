@@ -1,6 +1,6 @@
 //! The session.
 
-ghost use Rattle.std.specs.Prelude.{◌≡◌, ◌+◌, ◌<◌, length, IfOk, IfErr, OnOk, OnErr, drop, slice_get};
+ghost use Rattle.std.specs.Prelude.{◌≡◌, ◌+◌, ◌<◌, length, IfOk, IfErr, OnOk, OnErr, drop, slice_get, Ok};
 ghost use Rattle.std.specs.FinMap as map;
 ghost use Rattle.std.specs.FinSet as set;
 ghost use Rattle.std.specs.Option.{option_copied};
@@ -90,14 +90,13 @@ impl Model for MqttState {
 
 impl MqttState {
     /// A session in which nothing was sent. `max_inflight`, at least 1, is the greatest id, and so the most
-    /// ids in use at a time. S12.
+    /// ids in use at a time. Takes no memory, and is always Ok.
     pub fn new(alloc: Global, max_inflight: u16, manual_acks: bool) -> Result<MqttState, StateError>
         requires { 0 < max_inflight }
-        ensures ok { IfOk result (λ s. s ≡ fresh max_inflight manual_acks) }
-        ensures err { IfErr result (λ e. e ≡ StateError.OutOfMemory) }
+        ensures { result ≡ Ok (fresh max_inflight manual_acks) }
     {
         Ok(MqttState {
-            slots: Slots::new(alloc, max_inflight)?,
+            slots: Slots::new(alloc, max_inflight),
             waiting: None,
             last_pkid: 0,
             current: max_inflight,

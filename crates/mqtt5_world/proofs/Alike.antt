@@ -30,8 +30,9 @@ use Rattle.mqtt5_session.specs.Cleaning.{cleaned, resume_of}
 use Rattle.mqtt5_session.specs.Again.{sent_unless, packets_of}
 use Rattle.mqtt5_session.specs.Ledger.{kept_by}
 use Rattle.mqtt5_session.specs.Ledger as ledger
-use Rattle.mqtt5_session.proofs.Resume.{resumes, Fits}
-use Rattle.mqtt5_session.proofs.Keeps.{Sound, within_fits, out_sound, inc_sound, after_sound, resume_core}
+use Rattle.mqtt5_session.proofs.Within.{Fits, within_fits}
+use Rattle.mqtt5_session.proofs.Resume.{resumes}
+use Rattle.mqtt5_session.proofs.Keeps.{Sound, out_sound, inc_sound, after_sound, resume_core}
 use Rattle.mqtt5_world.specs.declared.calls.Call.{Call}
 use Rattle.mqtt5_world.specs.declared.calls.Call.TheVariants as calls
 use Rattle.mqtt5_world.specs.declared.calls.Twin.{Twin}

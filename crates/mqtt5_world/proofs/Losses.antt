@@ -20,9 +20,9 @@ use Rattle.mqtt5_session.specs.Requests.{release_of}
 use Rattle.mqtt5_session.specs.Packets.{inc}
 use Rattle.mqtt5_session.specs.Cleaning.{alias_again, by_id, publish_again, release_again, cleaned, resume_of}
 use Rattle.mqtt5_session.specs.Again.{packet_for, after_sent, sent_unless, packets_of}
-use Rattle.mqtt5_session.proofs.Resume.{Fits}
+use Rattle.mqtt5_session.proofs.Within.{Fits, within_fits}
 use Rattle.mqtt5_session.proofs.Resume as session
-use Rattle.mqtt5_session.proofs.Keeps.{Sound, within_fits}
+use Rattle.mqtt5_session.proofs.Keeps.{Sound}
 use Rattle.mqtt5_world.specs.World.{World, takes, taken_back, resumed, resumes}
 use Rattle.mqtt5_world.specs.Delivery.{is_token_up, Token, Free, PublishUp, PubAckDown, PublishTwiceUp, PubRecDown, PubRelUp, PubCompDown, IsClass}
 use Rattle.mqtt5_world.proofs.Places.{token_here, token_other, front_here, front_none, publish_token}

@@ -21,7 +21,7 @@ use Rattle.mqtt5_session.specs.Session.{Session, Answer, tells}
 use Rattle.mqtt5_session.specs.Requests.{release_of}
 use Rattle.mqtt5_session.specs.Packets.{inc, hears, freed_for, on_puback, on_received, on_pubrec, on_pubcomp, is_taken}
 use Rattle.mqtt5_session.specs.Packets as session
-use Rattle.mqtt5_session.proofs.Resume.{IsUsed}
+use Rattle.mqtt5_session.proofs.Within.{IsUsed}
 use Rattle.mqtt5_session.proofs.Owed.{choose}
 use Rattle.mqtt5_session.proofs.Keeps.{Sound, inc_sound}
 use Rattle.mqtt5_world.specs.World.{World, heard, takes, returns}

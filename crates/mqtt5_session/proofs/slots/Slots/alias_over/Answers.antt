@@ -1,16 +1,15 @@
-use Rattle.std.proofs.Common.{subst, sym, ◌∙◌, arith}
+use Rattle.std.proofs.Common.{refl, sym, ap, ◌∙◌, subst}
+use Rattle.std.specs.Prelude.{slice_get}
 use Rattle.mqtt5_session.specs.Held.{IsWithin}
-use Rattle.mqtt5_session.specs.Cleaning.{alias_again}
-use Rattle.mqtt5_session.proofs.Tables.{within}
-use Rattle.mqtt5_session.proofs.First.{first_by_id}
+use Rattle.mqtt5_session.specs.Cleaning.{by_id, alias_again}
+use Rattle.mqtt5_session.proofs.Entries.{by_tree}
 use Rattle.mqtt5_session.proofs.slots.Slots.alias_over.Goals as goal
 
-pub returns-then-is_some-clause-first : goal.returns-then-is_some-clause-first
-returns-then-is_some-clause-first c =
-    sym (first_by_id (alias_again c.args.max) c.args.self.now.held c.loop-before.before c.args.self.now.limit c.alias_at-alias.result (omega (arith, c.loop-before-test.true, c.limit-before-end.ensures)) c.loop-before.invariant (sym c.alias_at-alias.ensures) (sym c.is_some.ensures ∙ c.if-is_some.true))
-
-pub returns-then-is_some-clause-within : goal.returns-then-is_some-clause-within
-returns-then-is_some-clause-within c = subst (λ m. IsWithin m.limit m.held) c.self.view_is (within c.self.inside.sent.items c.self.inside.released.items c.self.inside.count c.self.invariant)
+pub returns-clause-first : goal.returns-clause-first
+returns-clause-first c =
+    c.first_alias.ensures.first
+    ∙ ap (λ l. slice_get l 0) (sym (by_tree (alias_again c.args.max) (λ _. refl) c.self.inside.limit c.self.inside.held c.first_alias.ensures.ordered c.self.invariant))
+    ∙ ap (λ m. slice_get (by_id (alias_again c.args.max) m.limit m.held) 0) c.self.view_is
 
 pub returns-clause-within : goal.returns-clause-within
-returns-clause-within c = subst (λ m. IsWithin m.limit m.held) c.self.view_is (within c.self.inside.sent.items c.self.inside.released.items c.self.inside.count c.self.invariant)
+returns-clause-within c = subst (λ m. IsWithin m.limit m.held) c.self.view_is c.self.invariant

@@ -1,30 +1,26 @@
-use Rattle.std.proofs.Common.{◌≡◌, ◌<◌, ◌-◌, length, arith, ap, sym, ◌∙◌, cond, ◌+◌}
-use Rattle.std.proofs.Math.ListN.{length-set}
-use Rattle.std.specs.FinMap.{contains_key, insert}
-use Rattle.mqtt5_session.proofs.Tables.{count_fits, insert_keeps, held_of-insert, same_ids}
+use Rattle.std.proofs.Common.{◌≤◌, sym, ap, ◌∙◌, subst}
+use Rattle.std.proofs.lemmas.Bool.{false≢true}
+use Rattle.std.specs.Prelude.{is_some}
+use Rattle.std.specs.FinMap.{insert, get, from_entries}
+use Rattle.mqtt5_session.specs.Held.{IsWithin}
+use Rattle.mqtt5_session.specs.Codes.{IdMap}
+use Rattle.mqtt5_session.proofs.Trees.{get-from_tree, from_tree-insert}
+use Rattle.mqtt5_session.proofs.Within.{insert_within}
 use Rattle.mqtt5_session.proofs.slots.Slots.insert.Goals as goal
 
-pub count_with-self-inside-requires : goal.count_with-self-inside-requires
-count_with-self-inside-requires c = λ free.
-    let a = c.self.inside in
-    let limits : length a.sent.items - 1 ≡ c.args.self.now.limit = ap (λ m. m.limit) c.self.view_is in
-    let high : c.args.id < length a.sent.items = omega (arith, c.self.invariant.some) in
-    count_fits a.sent.items a.released.items a.count c.self.invariant c.args.id c.requires.low high (ap (λ m. contains_key m.held c.args.id) c.self.view_is ∙ sym c.contains.ensures.found ∙ free)
+-- an id in use takes no memory
+pub returns-in_err-insert-clause-used : goal.returns-in_err-insert-clause-used
+returns-in_err-insert-clause-used c = λ known.
+    absurd (false≢true (ap is_some (sym (get-from_tree c.self.inside.held c.args.id ∙ c.in_err-insert.ensures.absent)) ∙ ap (λ m. is_some (get m.held c.args.id)) c.self.view_is ∙ known))
 
-pub invariant_of-self : goal.invariant_of-self
-invariant_of-self c =
-    let a = c.self.inside in
-    let limits : length a.sent.items - 1 ≡ c.args.self.now.limit = ap (λ m. m.limit) c.self.view_is in
-    let high : c.args.id < length a.sent.items = omega (arith, c.self.invariant.some) in
-    let counted = ap (λ b. cond b a.count (a.count + 1)) (c.contains.ensures.found ∙ sym (ap (λ m. contains_key m.held c.args.id) c.self.view_is)) in
-    rw (c.put.ensures.sent, c.put.ensures.released)
-    (insert_keeps a.sent.items a.released.items a.count c.self.invariant c.args.id c.requires.low high _ _ _ _ c.parts-publish.ensures c.requires.own (c.count_with-self-inside.ensures ∙ counted))
+pub invariant_of-self-2 : goal.invariant_of-self-2
+invariant_of-self-2 c =
+    let m = c.self.inside.held in
+    let high : c.args.id ≤ c.self.inside.limit = subst (λ s. c.args.id ≤ s.limit) (sym c.self.view_is) c.requires.high in
+    subst (IsWithin c.self.inside.limit) (sym (from_tree-insert m c.insert.new.self c.args.id c.args.slot c.in_ok-insert.ensures.updates.0))
+    (insert_within c.self.inside.limit c.args.id (from_entries m.entries) c.args.slot c.self.invariant (record { low = c.requires.low; high = high; own = c.requires.own }))
 
 pub returns-clause-ok : goal.returns-clause-ok
 returns-clause-ok c =
-    let a = c.self.inside in
-    let limits : length a.sent.items - 1 ≡ c.args.self.now.limit = ap (λ m. m.limit) c.self.view_is in
-    let high : c.args.id < length a.sent.items = omega (arith, c.self.invariant.some) in
-    same_ids
-    (ap (λ xs. length xs - 1) c.put.ensures.sent ∙ simp length-set limits)
-    (rw (c.put.ensures.sent, c.put.ensures.released) (held_of-insert a.sent.items a.released.items c.args.id _ _ c.args.slot c.self.invariant.same high c.parts-publish.ensures ∙ ap (λ m. insert m.held c.args.id c.args.slot) c.self.view_is))
+    ap (λ h. record { limit = c.self.inside.limit; held = h }) (from_tree-insert c.self.inside.held c.insert.new.self c.args.id c.args.slot c.in_ok-insert.ensures.updates.0)
+    ∙ ap (λ (m : IdMap). record m { held = insert m.held c.args.id c.args.slot }) c.self.view_is
