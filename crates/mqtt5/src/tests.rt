@@ -5,6 +5,7 @@ mod cleaning;
 mod connection;
 mod delivery;
 mod ids;
+mod pairs;
 mod releases;
 mod resuming;
 mod sets;

@@ -13,7 +13,8 @@ const ACKED: &str = "out 320a0003612f620001006869\nsent Publish 1\ngot PubAck 1\
 /// The vectors, where each is what it says.
 const VECTORS: &str = "V1 ok\nV2 ok\nV3 ok\nV4 ok\nV5 ok\nV6 ok\nV7 ok\nV8 ok\nV9 ok\nV10 ok\n\
     V11 ok\nV12 ok\nV13 ok\nV14 ok\nV15 ok\nV16 ok\nV17 ok\nV18 ok\nV19 ok\nV20 ok\n\
-    V21 ok\nV22 ok\nV23 ok\nV24 ok\n";
+    V21 ok\nV22 ok\nV23 ok\nV24 ok\nV25 ok\nV26 ok\nV27 ok\nV28 ok\nV29 ok\nV30 ok\n\
+    V31 ok\nV32 ok\nV33 ok\nV34 ok\nV35 ok\nV36 ok\n";
 
 const USAGE: &str = "usage: mqtt5 drive LIMIT | mqtt5 world LIMIT | mqtt5 bench\n";
 
@@ -161,21 +162,36 @@ const SCRIPTS: [(&str, &str, u8); 36] = [
     ),
 ];
 
-/// A script, what `drive 1` prints of it, and the status.
-const SCRIPTS_OF_ONE: [(&str, &str, u8); 3] = [
+/// The words, a script, what they print of it, and the status.
+const SCRIPTS_OF_FEW: [(&str, &str, &str, u8); 5] = [
     (
+        "drive 1",
         "pub 0 2 61 78\npub 0 2 62 79\nin 1 50020001\nin 2 70020001\n",
         "out 34070001610001007862020001340700016200010079\nsent Publish 1\nsent AwaitAck 1\ngot PubRec 1\nsent PubRel 1\ngot PubComp 1\nsent Publish 1\ninflight 1\n",
         0,
     ),
     (
+        "drive 1",
         "pub 0 1 61 -\npub 0 1 61 -\npub 0 1 61 -\n",
         "out 3206000161000100\nsent Publish 1\nsent AwaitAck 1\ninflight 1\nfault S1\n",
         1,
     ),
     (
+        "drive 1",
         "pub 0 1 61 -\npub 0 1 61 -\nping 0\nping 0\n",
         "out 3206000161000100c000\nsent Publish 1\nsent AwaitAck 1\nsent PingReq\ninflight 1\nfault S5\n",
+        1,
+    ),
+    (
+        "drive 2",
+        "in 0 62020001\n",
+        "out -\ngot PubRel 1\ninflight 0\nfault S2 1\n",
+        1,
+    ),
+    (
+        "drive 2",
+        "pub 0 1 61 78\nin 1 4002000150020001\n",
+        "out 320700016100010078\nsent Publish 1\ngot PubAck 1\ngot PubRec 1\ninflight 0\nfault S2 1\n",
         1,
     ),
 ];
@@ -368,10 +384,10 @@ fn scripts(rt: HostRuntime) -> Result<(), Fail> {
 }
 
 #[test]
-fn scripts_of_one_id(rt: HostRuntime) -> Result<(), Fail> {
-    for (script, lines, want) in SCRIPTS_OF_ONE {
+fn scripts_of_few_ids(rt: HostRuntime) -> Result<(), Fail> {
+    for (words, script, lines, want) in SCRIPTS_OF_FEW {
         let mut input = script.as_bytes();
-        let (text, status) = printed(rt.alloc(), "drive 1", &mut input)?;
+        let (text, status) = printed(rt.alloc(), words, &mut input)?;
         assert_eq!(rt; text.as_str(), lines, "of {script:?}");
         assert_eq!(rt; status, want, "of {script:?}");
     }
@@ -460,18 +476,32 @@ fn failing_writes(rt: HostRuntime) -> Result<(), Fail> {
 }
 
 /// A vector's place, counted from 0, its frame with one byte bent, and the line that is printed then.
-const BENT: [(usize, &[u8], &str); 4] = [
+const BENT: [(usize, &[u8], &[u8]); 8] = [
     (
         0,
         &[
             0x10, 0x0E, 0x00, 0x04, 0x4D, 0x51, 0x54, 0x54, 0x05, 0x02, 0x00, 0x3C, 0x00, 0x00,
             0x01, 0x64,
         ],
-        "V1 bad",
+        b"V1 bad",
     ),
-    (4, &[0x40, 0x02, 0x00, 0x02], "V5 bad"),
-    (13, &[0xC0, 0x01, 0x00], "V14 bad"),
-    (23, &[0xE0, 0x01, 0x00], "V24 bad"),
+    (4, &[0x40, 0x02, 0x00, 0x02], b"V5 bad"),
+    (13, &[0xC0, 0x01, 0x00], b"V14 bad"),
+    (23, &[0xE0, 0x01, 0x00], b"V24 bad"),
+    (
+        32,
+        &[
+            0x30, 0x09, 0x00, 0x01, 0x61, 0x05, 0x02, 0x00, 0x00, 0x00, 0x01,
+        ],
+        b"V33 bad",
+    ),
+    (33, &[0x30, 0x04, 0x00, 0x01, 0xFE, 0x00], b"V34 bad"),
+    (
+        34,
+        &[0x30, 0x08, 0x00, 0x01, 0x61, 0x04, 0x01, 0x01, 0x01, 0x00],
+        b"V35 bad",
+    ),
+    (35, &[0x30, 0x05, 0x00, 0x01, 0x62, 0x80, 0x00], b"V36 bad"),
 ];
 
 /// What is printed of the vectors with this frame in the place of another.
@@ -496,13 +526,13 @@ fn with_frame(
 fn bent_vectors(rt: HostRuntime) -> Result<(), Fail> {
     for (place, frame, line) in BENT {
         let (text, all) = with_frame(rt.alloc(), place, frame)?;
-        assert!(rt; all == Some(false), "of {line}");
+        assert!(rt; all == Some(false), "at {place}");
         assert_eq!(rt;
             text.lines().filter(|l| l.ends_with(" bad")).count(),
             1,
-            "of {line}"
+            "at {place}"
         );
-        assert!(rt; text.lines().any(|l| l == line), "of {line}");
+        assert!(rt; text.lines().any(|l| l.as_bytes() == line), "at {place}");
     }
     Ok(())
 }

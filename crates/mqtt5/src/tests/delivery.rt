@@ -10,10 +10,21 @@ use bytes::Bytes;
 use std::alloc::Global;
 use std::test::Fail;
 
+/// The packet identifier that is asked for: 2 and 3 of `b` and `c`, and the next one of other names.
+fn given_id(name: u8) -> u16 {
+    match name {
+        b'b' => 2,
+        b'c' => 3,
+        _other => 0,
+    }
+}
+
 /// A request to publish one byte, its name.
 fn named(alloc: Global, name: u8, qos: QoS) -> Result<WorldEvent, StateError> {
     let payload = Bytes::copy_from_slice(alloc, &[name])?;
-    Ok(WorldEvent::Publish(Publish::new(alloc, "a", qos, payload, None)?))
+    let mut publish = Publish::new(alloc, "a", qos, payload, None)?;
+    publish.pkid = given_id(name);
+    Ok(WorldEvent::Publish(publish))
 }
 
 /// An event by a letter: `^` and `v` are Up and Down, `!` is a loss, `2` a loss after which the receive
@@ -64,6 +75,14 @@ fn refused_name(report: &Report) -> Option<u8> {
     }
 }
 
+/// The id of the first publish that was refused as above the limit.
+fn refused_id(report: &Report) -> Option<u16> {
+    match report.refused.first() {
+        Some((_, StateError::Unsolicited(id))) => Some(*id),
+        _other => None,
+    }
+}
+
 /// The reason of the PubComp that was heard last.
 fn last_reason(report: &Report) -> Option<PubCompReason> {
     match report.state.events().back() {
@@ -107,5 +126,17 @@ fn ids_over_a_smaller_maximum(rt: HostRuntime) -> Result<(), Fail> {
     assert_eq!(rt; report.state.inflight(), 5);
     assert_eq!(rt; report.state.last_pkid(), 0);
     assert_eq!(rt; report.state.max_outgoing_inflight(), 2);
+    Ok(())
+}
+
+#[test]
+fn given_ids_over_a_loss(rt: HostRuntime) -> Result<(), Fail> {
+    let report = plays(rt.alloc(), 2, b"cb^!^v^v", QoS::ExactlyOnce)?;
+    assert!(rt; are_named(report.handed.as_slice(), b"b"));
+    assert!(rt; are_named(report.accepted.as_slice(), b"b"));
+    assert_eq!(rt; refused_id(&report), Some(3));
+    assert_eq!(rt; report.refused.len(), 1);
+    assert_eq!(rt; report.state.inflight(), 0);
+    assert_eq!(rt; report.state.last_pkid(), 0);
     Ok(())
 }
