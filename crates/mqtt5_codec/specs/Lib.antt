@@ -5,4 +5,3 @@ pub mod Taken
 pub mod Sound
 pub mod Norms
 pub mod Laws
-pub mod Options

@@ -34,7 +34,10 @@ impl MqttState {
         ensures ok { OnOk result (self.new ≡ hears self.old packet) }
         ensures err { OnErr result (self.new ≡ self.old) }
     {
-        self.events.reserve(1)?;
+        if let Err(refused) = self.events.reserve(1) {
+            drop(packet);
+            return Err(refused);
+        }
         self.events.push_back_reserved(Event::Incoming(packet));
         Ok(())
     }
@@ -91,7 +94,7 @@ impl MqttState {
         if !is_taken(ack.reason) {
             return self.free(as_pubrec(ack), id, at);
         }
-        self.release_sent(as_pubrec(ack), id, at)
+        self.release_sent(ack, id, at)
     }
 
     pub(super) fn hear_pubcomp(
@@ -115,8 +118,17 @@ impl MqttState {
         requires high { id ≤ self.old.core.limit }
         ensures { Hears result self.old self.new (freed_for self.old.core.waiting (hears self.old packet) id at) }
     {
-        self.events.reserve(2)?;
-        let sent = release(&mut self.slots, &mut self.waiting, id)?;
+        if let Err(refused) = self.events.reserve(2) {
+            drop(packet);
+            return Err(StateError::from(refused));
+        }
+        let sent = match release(&mut self.slots, &mut self.waiting, id) {
+            Ok(sent) => sent,
+            Err(refused) => {
+                drop(packet);
+                return Err(StateError::from(refused));
+            }
+        };
         self.events.push_back_reserved(Event::Incoming(packet));
         self.last_incoming = at;
         if sent.is_some() {
@@ -128,19 +140,15 @@ impl MqttState {
     }
 
     /// Releases an id whose publish was taken.
-    fn release_sent(
-        &mut self,
-        packet: Packet,
-        id: u16,
-        at: u64,
-    ) -> Result<Option<Packet>, StateError>
+    fn release_sent(&mut self, ack: PubRec, id: u16, at: u64) -> Result<Option<Packet>, StateError>
         requires low { 0 < id }
         requires high { id ≤ self.old.core.limit }
-        ensures { Hears result self.old self.new (on_received true (hears self.old packet) id at) }
+        ensures { Hears result self.old self.new (on_received true (hears self.old (Packet.PubRec ack)) id at) }
     {
         self.events.reserve(2)?;
         self.slots.insert(id, Slot::Released)?;
-        self.events.push_back_reserved(Event::Incoming(packet));
+        self.events
+            .push_back_reserved(Event::Incoming(as_pubrec(ack)));
         self.events
             .push_back_reserved(Event::Outgoing(Outgoing::PubRel(id)));
         self.last_incoming = at;
@@ -160,22 +168,23 @@ impl MqttState {
             self.note(as_pubrel(release))?;
             return Err(StateError::Unsolicited(id));
         }
-        self.complete(as_pubrel(release), reason, id, at)
+        self.complete(release, reason, id, at)
     }
 
     /// Takes out the id of a publish that was released.
     fn complete(
         &mut self,
-        packet: Packet,
+        release: PubRel,
         reason: PubRelReason,
         id: u16,
         at: u64,
     ) -> Result<Option<Packet>, StateError>
-        ensures { Hears result self.old self.new (on_released reason (record (hears self.old packet) { incoming = set.remove self.old.incoming id }) id at) }
+        ensures { Hears result self.old self.new (on_released reason (record (hears self.old (Packet.PubRel release)) { incoming = set.remove self.old.incoming id }) id at) }
     {
         self.events.reserve(2)?;
         self.incoming.remove(id);
-        self.events.push_back_reserved(Event::Incoming(packet));
+        self.events
+            .push_back_reserved(Event::Incoming(as_pubrel(release)));
         self.last_incoming = at;
         if reason != PubRelReason::Success {
             return Ok(None);
@@ -197,17 +206,18 @@ impl MqttState {
         let id = publish.pkid;
         let qos = publish.qos;
         if !name(&self.aliases, &mut publish)? {
-            return self.refuse_alias(as_publish(publish), at);
+            return self.refuse_alias(publish, at);
         }
-        self.take_publish(as_publish(publish), alias, topic, qos, id, at)
+        self.take_publish(publish, alias, topic, qos, id, at)
     }
 
     /// Answers a publish under an alias that isn't known.
-    fn refuse_alias(&mut self, packet: Packet, at: u64) -> Result<Option<Packet>, StateError>
-        ensures { Hears result self.old self.new (Ok (Some (disconnect_of DisconnectReasonCode.ProtocolError)), record (tells (hears self.old packet) Outgoing.Disconnect) { last_incoming = at }) }
+    fn refuse_alias(&mut self, publish: Publish, at: u64) -> Result<Option<Packet>, StateError>
+        ensures { Hears result self.old self.new (Ok (Some (disconnect_of DisconnectReasonCode.ProtocolError)), record (tells (hears self.old (Packet.Publish publish)) Outgoing.Disconnect) { last_incoming = at }) }
     {
         self.events.reserve(2)?;
-        self.events.push_back_reserved(Event::Incoming(packet));
+        self.events
+            .push_back_reserved(Event::Incoming(as_publish(publish)));
         self.events
             .push_back_reserved(Event::Outgoing(Outgoing::Disconnect));
         self.last_incoming = at;
@@ -217,18 +227,19 @@ impl MqttState {
     /// Keeps the alias and the id of a publish, and answers it.
     fn take_publish(
         &mut self,
-        packet: Packet,
+        publish: Publish,
         alias: Option<u16>,
         topic: Bytes,
         qos: QoS,
         id: u16,
         at: u64,
     ) -> Result<Option<Packet>, StateError>
-        ensures { Hears result self.old self.new (on_qos qos (record (hears self.old packet) { core = record self.old.core { aliases = topics_with alias topic self.old.core.aliases }; incoming = ids_with qos self.old.incoming id }) id at) }
+        ensures { Hears result self.old self.new (on_qos qos (record (hears self.old (Packet.Publish publish)) { core = record self.old.core { aliases = topics_with alias topic self.old.core.aliases }; incoming = ids_with qos self.old.incoming id }) id at) }
     {
         self.events.reserve(2)?;
         keep(&mut self.aliases, &mut self.incoming, alias, topic, qos, id)?;
-        self.events.push_back_reserved(Event::Incoming(packet));
+        self.events
+            .push_back_reserved(Event::Incoming(as_publish(publish)));
         self.last_incoming = at;
         if qos == QoS::AtMostOnce || self.manual_acks {
             return Ok(None);

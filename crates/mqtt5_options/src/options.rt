@@ -7,8 +7,8 @@ ghost use Rattle.mqtt5_base.specs.Texts.{text_of};
 ghost use Rattle.mqtt5_base.specs.Answers.{Answers};
 ghost use Rattle.mqtt5_connect.specs.Connects.{login_of};
 ghost use Rattle.mqtt5_connect.specs.contracts.connect.ConnectProperties.{the_row as properties_row};
-ghost use Rattle.mqtt5_codec.specs.Options.{defaults, seconds, properties_of, with_properties};
-ghost use Rattle.mqtt5_codec.specs.contracts.options.MqttOptions.{the_row};
+ghost use Rattle.mqtt5_options.specs.Options.{defaults, seconds, properties_of, with_properties};
+ghost use Rattle.mqtt5_options.specs.contracts.options.MqttOptions.{the_row};
 
 use mqtt5_base::{Error, Text, copied};
 use mqtt5_connect::{ConnectProperties, LastWill, Login};
@@ -41,7 +41,7 @@ pub struct MqttOptions {
 }
 
 impl Model for MqttOptions {
-    ghost use Rattle.mqtt5_codec.specs.Options.{Settings};
+    ghost use Rattle.mqtt5_options.specs.Options.{Settings};
 
     ghost Value = { Settings };
 

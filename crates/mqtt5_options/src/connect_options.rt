@@ -3,7 +3,7 @@
 
 ghost use Rattle.std.specs.Prelude.{◌≡◌};
 ghost use Rattle.mqtt5_base.specs.Answers.{Answers};
-ghost use Rattle.mqtt5_codec.specs.Options.{properties_of, with_properties};
+ghost use Rattle.mqtt5_options.specs.Options.{properties_of, with_properties};
 
 use crate::options::MqttOptions;
 use bytes::Bytes;
