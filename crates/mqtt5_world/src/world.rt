@@ -194,7 +194,10 @@ fn send(way: &mut VecDeque<Packet>, reply: Option<Packet>) -> Result<(), AllocEr
 {
     match reply {
         Some(packet) => {
-            way.reserve(1)?;
+            if let Err(refused) = way.reserve(1) {
+                drop(packet);
+                return Err(refused);
+            }
             way.push_back_reserved(packet);
             Ok(())
         }
