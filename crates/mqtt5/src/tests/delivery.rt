@@ -2,10 +2,9 @@
 
 ghost use Rattle.std.specs.Prelude.{◌<◌};
 
-use super::id_under;
 use crate::mqttbytes::QoS;
 use crate::mqttbytes::v5::{Packet, PubCompReason, Publish};
-use crate::{Event, Report, StateError, WorldEvent, delivery_law, play, tokens_law};
+use crate::{Event, MqttState, Report, StateError, WorldEvent, delivery_law, play, tokens_law};
 use bytes::Bytes;
 use std::alloc::Global;
 use std::test::Fail;
@@ -88,6 +87,14 @@ fn last_reason(report: &Report) -> Option<PubCompReason> {
     match report.state.events().back() {
         Some(Event::Incoming(Packet::PubComp(ack))) => Some(ack.reason),
         _other => None,
+    }
+}
+
+/// The id of the publish that awaits an ack under an id; 0 where there is none.
+fn id_under(state: &MqttState, id: u16) -> u16 {
+    match state.outgoing_pub(id) {
+        Some(publish) => publish.pkid,
+        None => 0,
     }
 }
 

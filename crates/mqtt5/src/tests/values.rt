@@ -1,14 +1,14 @@
 //! Sessions and events as values.
 
-use super::{hears_ack, publishes};
-use crate::mqttbytes::QoS;
-use crate::{Event, MqttState, Outgoing};
+use super::walk::{add_row, after_calls, standing};
+use crate::{Event, MqttState, Outgoing, StateError, ledger_law};
 use mqtt5_base::{copied, same};
-use std::alloc::AllocError;
+use std::alloc::{AllocError, Global};
 use std::test::Fail;
 
 #[test]
 fn nothing_else_at_first(rt: HostRuntime) -> Result<(), Fail> {
+    ledger_law();
     let state = MqttState::new(rt.alloc(), 2, true)?;
     assert!(rt; state.manual_acks() && !state.await_pingresp());
     assert_eq!(rt; state.collision_ping_count(), 0);
@@ -18,20 +18,46 @@ fn nothing_else_at_first(rt: HostRuntime) -> Result<(), Fail> {
     Ok(())
 }
 
+/// The row of an ack to the clone, and what stands in the session.
+fn parted(alloc: Global, state: &MqttState, copy: &mut MqttState) -> Result<String, StateError> {
+    let mut text = String::new(alloc);
+    add_row(alloc, copy, "<A", &mut text)?;
+    text.push_str(standing(alloc, state)?.as_str())?;
+    Ok(text)
+}
+
+fn parted_from_clone(alloc: Global, state: &MqttState) -> Result<String, StateError> {
+    let mut copy = state.clone()?;
+    let text = parted(alloc, state, &mut copy);
+    drop(copy);
+    text
+}
+
+fn sent_and_cloned(alloc: Global) -> Result<String, StateError> {
+    let state = after_calls(alloc, "*B")?;
+    let text = parted_from_clone(alloc, &state);
+    drop(state);
+    text
+}
+
 #[test]
 fn a_clone_goes_its_own_way(rt: HostRuntime) -> Result<(), Fail> {
-    let mut state = MqttState::new(rt.alloc(), 10, false)?;
-    let asked = publishes(&mut state, rt.alloc(), QoS::AtLeastOnce, 0);
-    assert_eq!(rt; asked, Ok(Some(Outgoing::Publish(1))));
-    let mut copy = state.clone()?;
-    assert_eq!(rt; hears_ack(&mut copy, 1), Ok(None));
-    assert_eq!(rt; state.inflight(), 1);
-    assert_eq!(rt; copy.inflight(), 0);
-    assert_eq!(rt; state.last_pkid(), copy.last_pkid());
-    assert_eq!(rt; state.events().len(), 1);
-    assert_eq!(rt; copy.events().len(), 2);
-    let shown = format!(in rt.alloc(); "{copy:?}")?;
-    assert!(rt; shown.as_str().starts_with("MqttState { "));
+    let came = sent_and_cloned(rt.alloc())?;
+    assert_eq!(rt; came.as_str(), "<A - A ../0@1\nB./1@1");
+    Ok(())
+}
+
+fn shown(alloc: Global) -> Result<String, StateError> {
+    let state = after_calls(alloc, "")?;
+    let text = format!(in alloc; "{state:?}");
+    drop(state);
+    Ok(text?)
+}
+
+#[test]
+fn a_session_is_shown(rt: HostRuntime) -> Result<(), Fail> {
+    let text = shown(rt.alloc())?;
+    assert!(rt; text.as_str().starts_with("MqttState { "));
     Ok(())
 }
 
