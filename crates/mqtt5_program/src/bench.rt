@@ -127,12 +127,19 @@ fn fault(place: usize) -> Option<Error> {
 fn is_refused(alloc: Global, frame: &[u8], fault: &Error) -> Result<bool, Error> {
     let mut stream = BytesMut::new(alloc);
     stream.extend_from_slice(frame)?;
-    let refused = match Packet::read(alloc, &mut stream, None) {
-        Ok(_) => false,
-        Err(Error::OutOfMemory) => return Err(Error::OutOfMemory),
-        Err(error) => error == *fault,
-    };
-    Ok(refused && stream.is_empty())
+    let read = Packet::read(alloc, &mut stream, None);
+    let refused = is_fault(&read, fault);
+    drop(read);
+    Ok(refused? && stream.is_empty())
+}
+
+/// Whether an answer is this fault. E21.
+fn is_fault(read: &Result<Packet, Error>, fault: &Error) -> Result<bool, Error> {
+    match read {
+        Ok(_) => Ok(false),
+        Err(Error::OutOfMemory) => Err(Error::OutOfMemory),
+        Err(error) => Ok(error == fault),
+    }
 }
 
 /// Whether the packet of this place is read from the frame, and written as it or as the stricter one.

@@ -19,7 +19,7 @@ const VECTORS: &str = "V1 ok\nV2 ok\nV3 ok\nV4 ok\nV5 ok\nV6 ok\nV7 ok\nV8 ok\nV
 const USAGE: &str = "usage: mqtt5 drive LIMIT | mqtt5 world LIMIT | mqtt5 bench\n";
 
 /// A script, what `drive 10` prints of it, and the status.
-const SCRIPTS: [(&str, &str, u8); 36] = [
+const SCRIPTS: &[(&str, &str, u8)] = &[
     ("pub 0 1 612f62 6869\nin 1 40\nin 1 0200\nin 1 01", ACKED, 0),
     ("pub 0 1 612f62 6869\nin 1 40020001\n", ACKED, 0),
     (
@@ -163,7 +163,7 @@ const SCRIPTS: [(&str, &str, u8); 36] = [
 ];
 
 /// The words, a script, what they print of it, and the status.
-const SCRIPTS_OF_FEW: [(&str, &str, &str, u8); 5] = [
+const SCRIPTS_OF_FEW: &[(&str, &str, &str, u8)] = &[
     (
         "drive 1",
         "pub 0 2 61 78\npub 0 2 62 79\nin 1 50020001\nin 2 70020001\n",
@@ -227,7 +227,7 @@ const WORLDS: [(&str, &str, &str); 6] = [
 ];
 
 /// Lines that say nothing in a world.
-const BAD_EVENTS: [&str; 13] = [
+const BAD_EVENTS: &[&str] = &[
     "up 1",
     "up ",
     "down 0",
@@ -244,7 +244,7 @@ const BAD_EVENTS: [&str; 13] = [
 ];
 
 /// Lines that say nothing.
-const BAD_LINES: [&str; 50] = [
+const BAD_LINES: &[&str] = &[
     "pub 0 3 61 -",
     "in 18446744073709551616 -",
     "in +1 -",
@@ -298,7 +298,7 @@ const BAD_LINES: [&str; 50] = [
 ];
 
 /// Words, and what the program prints on them where each read fails.
-const WORDS: [(&str, &str, u8); 18] = [
+const WORDS: &[(&str, &str, u8)] = &[
     ("drive 0", USAGE, 2),
     ("drive 65536", USAGE, 2),
     ("drive +1", USAGE, 2),
@@ -377,8 +377,8 @@ fn scripts(rt: HostRuntime) -> Result<(), Fail> {
     for (script, lines, want) in SCRIPTS {
         let mut input = script.as_bytes();
         let (text, status) = printed(rt.alloc(), "drive 10", &mut input)?;
-        assert_eq!(rt; text.as_str(), lines, "of {script:?}");
-        assert_eq!(rt; status, want, "of {script:?}");
+        assert_eq!(rt; text.as_str(), *lines, "of {script:?}");
+        assert_eq!(rt; status, *want, "of {script:?}");
     }
     Ok(())
 }
@@ -388,8 +388,8 @@ fn scripts_of_few_ids(rt: HostRuntime) -> Result<(), Fail> {
     for (words, script, lines, want) in SCRIPTS_OF_FEW {
         let mut input = script.as_bytes();
         let (text, status) = printed(rt.alloc(), words, &mut input)?;
-        assert_eq!(rt; text.as_str(), lines, "of {script:?}");
-        assert_eq!(rt; status, want, "of {script:?}");
+        assert_eq!(rt; text.as_str(), *lines, "of {script:?}");
+        assert_eq!(rt; status, *want, "of {script:?}");
     }
     Ok(())
 }
@@ -448,8 +448,8 @@ fn words(rt: HostRuntime) -> Result<(), Fail> {
     for (words, lines, want) in WORDS {
         let mut input = FailingReader { bytes: b"in 1 -\n" };
         let (text, status) = printed(rt.alloc(), words, &mut input)?;
-        assert_eq!(rt; text.as_str(), lines, "of {words:?}");
-        assert_eq!(rt; status, want, "of {words:?}");
+        assert_eq!(rt; text.as_str(), *lines, "of {words:?}");
+        assert_eq!(rt; status, *want, "of {words:?}");
     }
     Ok(())
 }

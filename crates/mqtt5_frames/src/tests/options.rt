@@ -1,50 +1,108 @@
 //! Worked settings.
 
 ghost use Rattle.std.specs.Prelude.{◌≡◌, Some, false};
-ghost use Rattle.mqtt5_codec.specs.Options.{properties_of, with_properties};
+ghost use Rattle.mqtt5_options.specs.Options.{properties_of, with_properties};
 
+use super::one_pair;
 use bytes::Bytes;
-use mqtt5_base::{Error, Exact, QoS, Sequence, Text, same};
-use mqtt5_codec::MqttOptions;
+use mqtt5_base::{Error, QoS, Text};
 use mqtt5_connect::{ConnectProperties, LastWill, Login};
-use std::alloc::{AllocError, Global};
+use mqtt5_options::MqttOptions;
+use std::alloc::Global;
+use std::fmt::{Debug, Write};
 use std::test::Fail;
 use std::time::Duration;
 
-/// Debug of fresh options.
-const FRESH: &str = "MqttOptions { broker_addr: \"localhost\", port: 1883, \
-    keep_alive: 60s, clean_start: true, client_id: \"c\", credentials: None, \
-    request_channel_capacity: 10, max_request_batch: 0, pending_throttle: 0ns, \
-    last_will: None, conn_timeout: 5, manual_acks: false, connect properties: None }";
+/// What is shown of fresh settings; of the connect properties after `chain`; of the topic alias maximum after that,
+/// with empty connect properties; of settings in which all was set; of fresh settings with an empty client
+/// identifier; and of a login.
+const SHOWN: &str =
+    r#"MqttOptions { broker_addr: "localhost", port: 1883, keep_alive: 60s, clean_start: true, client_id: "c", credentials: None, request_channel_capacity: 10, max_request_batch: 0, pending_throttle: 0ns, last_will: None, conn_timeout: 5, manual_acks: false, connect properties: None }
+(60s, 0ns, true, false, 10, 5, None)
+(None, None, None, None, None, None)
+Ok(("localhost", 1883))
+Ok("c")
+Ok(None)
+Ok(None)
+Ok(None)
+Ok([])
+Ok(None)
+Ok(None)
+Ok(Some(ConnectProperties { session_expiry_interval: None, receive_maximum: None, max_packet_size: None, topic_alias_max: Some(5), request_response_info: None, request_problem_info: None, user_properties: [], authentication_method: None, authentication_data: None }))
+None
+MqttOptions { broker_addr: "localhost", port: 1883, keep_alive: 5s, clean_start: false, client_id: "", credentials: Some(Login { username: "u", password: "p" }), request_channel_capacity: 20, max_request_batch: 0, pending_throttle: 1.5ms, last_will: Some(LastWill { topic: b"w", message: b"m", qos: AtLeastOnce, retain: true, properties: None }), conn_timeout: 7, manual_acks: true, connect properties: Some(ConnectProperties { session_expiry_interval: Some(1234), receive_maximum: Some(432), max_packet_size: Some(100), topic_alias_max: Some(456), request_response_info: Some(1), request_problem_info: Some(0), user_properties: [("k", "v")], authentication_method: Some("test"), authentication_data: Some(b"d") }) }
+(5s, 1.5ms, false, true, 20, 7, Some(30))
+(Some(1234), Some(432), Some(100), Some(456), Some(1), Some(0))
+Ok(("localhost", 1883))
+Ok("")
+Ok(Some(LastWill { topic: b"w", message: b"m", qos: AtLeastOnce, retain: true, properties: None }))
+Ok(Some(Login { username: "u", password: "p" }))
+Ok(Some(ConnectProperties { session_expiry_interval: Some(1234), receive_maximum: Some(432), max_packet_size: Some(100), topic_alias_max: Some(456), request_response_info: Some(1), request_problem_info: Some(0), user_properties: [("k", "v")], authentication_method: Some("test"), authentication_data: Some(b"d") }))
+Ok([("k", "v")])
+Ok(Some("test"))
+Ok(Some(b"d"))
+Ok(MqttOptions { broker_addr: "localhost", port: 1883, keep_alive: 60s, clean_start: true, client_id: "", credentials: None, request_channel_capacity: 10, max_request_batch: 0, pending_throttle: 0ns, last_will: None, conn_timeout: 5, manual_acks: false, connect properties: None })
+Ok(Login { username: "u", password: "p" })
+"#;
 
-/// Debug of options in which all was set.
-const ALL_SET: &str = "MqttOptions { broker_addr: \"localhost\", port: 1883, \
-    keep_alive: 5s, clean_start: false, client_id: \"\", \
-    credentials: Some(Login { username: \"u\", password: \"p\" }), \
-    request_channel_capacity: 20, max_request_batch: 0, pending_throttle: 1.5ms, \
-    last_will: Some(LastWill { topic: b\"w\", message: b\"m\", qos: AtLeastOnce, \
-    retain: true, properties: None }), conn_timeout: 7, manual_acks: true, \
-    connect properties: Some(ConnectProperties { session_expiry_interval: Some(1234), \
-    receive_maximum: Some(432), max_packet_size: Some(100), topic_alias_max: Some(456), \
-    request_response_info: Some(1), request_problem_info: Some(0), \
-    user_properties: [(\"k\", \"v\")], authentication_method: Some(\"test\"), \
-    authentication_data: Some(b\"d\") }) }";
-
-fn text(alloc: Global, text: &str) -> Result<Text, Error> {
-    Ok(Text::from(String::from_str(alloc, text)?))
+/// Debug of a value, which is then let go, in a line of its own.
+fn show<T: Debug + Drop>(text: &mut String, value: T) -> Result<(), Error> {
+    writeln!(text, "{value:?}").map_err(|_| Error::OutOfMemory)
 }
 
-fn will(alloc: Global) -> Result<LastWill, Error> {
-    let message = Vec::from_slice(alloc, b"m")?;
-    LastWill::new(alloc, "w", message, QoS::AtLeastOnce, true, None)
+/// A clone of the settings, and each of them.
+fn show_all(text: &mut String, options: &MqttOptions) -> Result<(), Error> {
+    show(text, options.clone()?)?;
+    show(text, numbers(options))?;
+    show(text, connect_numbers(options))?;
+    show(text, options.broker_address())?;
+    show(text, options.client_id())?;
+    show(text, options.last_will())?;
+    show(text, options.credentials())?;
+    show(text, options.connect_properties())?;
+    show(text, options.user_properties())?;
+    show(text, options.authentication_method())?;
+    show(text, options.authentication_data())
 }
 
-/// The user property "k", "v".
-fn pair(alloc: Global) -> Result<Sequence<(Text, Text)>, Error> {
-    let mut pairs = Sequence::new(alloc);
-    let key = text(alloc, "k")?;
-    pairs.push((key, text(alloc, "v")?))?;
-    Ok(pairs)
+fn numbers(options: &MqttOptions) -> (Duration, Duration, bool, bool, usize, u64, Option<u16>) {
+    (
+        options.keep_alive(),
+        options.pending_throttle(),
+        options.clean_start(),
+        options.manual_acks(),
+        options.request_channel_capacity(),
+        options.connection_timeout(),
+        options.get_outgoing_inflight_upper_limit(),
+    )
+}
+
+/// The numbers of the connect properties.
+fn connect_numbers(
+    options: &MqttOptions,
+) -> (
+    Option<u32>,
+    Option<u16>,
+    Option<u32>,
+    Option<u16>,
+    Option<u8>,
+    Option<u8>,
+) {
+    (
+        options.session_expiry_interval(),
+        options.receive_maximum(),
+        options.max_packet_size(),
+        options.topic_alias_max(),
+        options.request_response_info(),
+        options.request_problem_info(),
+    )
+}
+
+/// A chain of setters changes what they set, and nothing else.
+fn chain(options: &mut MqttOptions)
+    ensures { options.new ≡ with_properties (record (options.old) { clean_start = false }) (record (properties_of options.old) { topic_alias_max = Some 5 }) }
+{
+    options.set_clean_start(false).set_topic_alias_max(Some(5));
 }
 
 fn set_numbers(options: &mut MqttOptions) {
@@ -55,17 +113,7 @@ fn set_numbers(options: &mut MqttOptions) {
         .set_manual_acks(true)
         .set_request_channel_capacity(20)
         .set_connection_timeout(7)
-        .set_outgoing_inflight_upper_limit(30);
-}
-
-fn set_texts(alloc: Global, options: &mut MqttOptions) -> Result<(), Error> {
-    options.set_client_id(text(alloc, "")?);
-    options.set_last_will(will(alloc)?);
-    options.set_credentials("u", "p")
-}
-
-fn set_connect_numbers(options: &mut MqttOptions) {
-    options
+        .set_outgoing_inflight_upper_limit(30)
         .set_session_expiry_interval(Some(1234))
         .set_receive_maximum(Some(432))
         .set_max_packet_size(Some(100))
@@ -74,180 +122,51 @@ fn set_connect_numbers(options: &mut MqttOptions) {
         .set_request_problem_info(Some(0));
 }
 
-fn set_connect_texts(alloc: Global, options: &mut MqttOptions) -> Result<(), Error> {
-    options.set_user_properties(pair(alloc)?);
+fn text(alloc: Global, text: &str) -> Result<Text, Error> {
+    Ok(Text::from(String::from_str(alloc, text)?))
+}
+
+fn will(alloc: Global) -> Result<LastWill, Error> {
+    let message = Vec::from_slice(alloc, b"m")?;
+    LastWill::new(alloc, "w", message, QoS::AtLeastOnce, true, None)
+}
+
+fn set_texts(alloc: Global, options: &mut MqttOptions) -> Result<(), Error> {
+    options.set_client_id(text(alloc, "")?);
+    options.set_last_will(will(alloc)?);
+    options.set_credentials("u", "p")?;
+    options.set_user_properties(one_pair(alloc, "v")?);
     options.set_authentication_method(Some(text(alloc, "test")?));
     options.set_authentication_data(Some(Bytes::copy_from_slice(alloc, b"d")?));
     Ok(())
 }
 
-fn set_all(alloc: Global, options: &mut MqttOptions) -> Result<(), Error> {
+/// What is shown of settings, step by step.
+fn show_steps(alloc: Global, text: &mut String, options: &mut MqttOptions) -> Result<(), Error> {
+    show_all(text, options)?;
+    chain(options);
+    show(text, options.connect_properties())?;
+    options.set_connect_properties(ConnectProperties::new(alloc));
+    show(text, options.topic_alias_max())?;
     set_numbers(options);
-    set_connect_numbers(options);
     set_texts(alloc, options)?;
-    set_connect_texts(alloc, options)
+    show_all(text, options)
 }
 
-/// A chain of setters changes what they set, and nothing else.
-fn chain(options: &mut MqttOptions)
-    ensures { options.new ≡ with_properties (record (options.old) { clean_start = false }) (record (properties_of options.old) { topic_alias_max = Some 5 }) }
-{
-    options.set_clean_start(false).set_topic_alias_max(Some(5));
-}
-
-fn shown(alloc: Global, options: &MqttOptions) -> Result<String, AllocError> {
-    format!(in alloc; "{options:?}")
-}
-
-/// Whether Debug of the options and of their clone is that text.
-fn shows(alloc: Global, options: &MqttOptions, wanted: &str) -> Result<bool, AllocError> {
-    let clone = options.clone()?;
-    let clone_as = shown(alloc, &clone);
-    drop(clone);
-    Ok(clone_as?.as_str() == wanted && shown(alloc, options)?.as_str() == wanted)
-}
-
-fn has_numbers(options: &MqttOptions) -> bool {
-    options.keep_alive() == Duration::from_secs(5)
-        && options.pending_throttle() == Duration::from_micros(1500)
-        && !options.clean_start()
-        && options.manual_acks()
-        && options.request_channel_capacity() == 20
-        && options.connection_timeout() == 7
-        && options.get_outgoing_inflight_upper_limit() == Some(30)
-}
-
-fn has_connect_numbers(options: &MqttOptions) -> bool {
-    options.session_expiry_interval() == Some(1234)
-        && options.receive_maximum() == Some(432)
-        && options.max_packet_size() == Some(100)
-        && options.topic_alias_max() == Some(456)
-        && options.request_response_info() == Some(1)
-        && options.request_problem_info() == Some(0)
-}
-
-fn has_broker(options: &MqttOptions) -> Result<bool, Error> {
-    let (host, port) = options.broker_address()?;
-    Ok(host.as_str() == "localhost" && port == 1883)
-}
-
-fn has_client_id(options: &MqttOptions, id: &str) -> Result<bool, Error> {
-    Ok(options.client_id()?.as_str() == id)
-}
-
-/// Whether two values, which are then let go, are the same.
-fn equal<T: Exact + Drop>(value: T, wanted: T) -> bool {
-    same(&value, &wanted)
-}
-
-fn has_will(alloc: Global, options: &MqttOptions) -> Result<bool, Error> {
-    let wanted = Some(will(alloc)?);
-    Ok(equal(options.last_will()?, wanted))
-}
-
-fn has_credentials(alloc: Global, options: &MqttOptions) -> Result<bool, Error> {
-    let wanted = Some(Login::new(alloc, "u", "p")?);
-    Ok(equal(options.credentials()?, wanted))
-}
-
-fn has_pair(alloc: Global, options: &MqttOptions) -> Result<bool, Error> {
-    let wanted = pair(alloc)?;
-    Ok(equal(options.user_properties()?, wanted))
-}
-
-fn has_method(alloc: Global, options: &MqttOptions) -> Result<bool, Error> {
-    let wanted = Some(text(alloc, "test")?);
-    Ok(equal(options.authentication_method()?, wanted))
-}
-
-fn has_auth_data(alloc: Global, options: &MqttOptions) -> Result<bool, Error> {
-    let wanted = Some(Bytes::copy_from_slice(alloc, b"d")?);
-    Ok(equal(options.authentication_data()?, wanted))
-}
-
-fn has_texts(alloc: Global, options: &MqttOptions) -> Result<bool, Error> {
-    Ok(
-        has_broker(options)?
-            && has_client_id(options, "")?
-            && has_will(alloc, options)?
-            && has_credentials(alloc, options)?,
-    )
-}
-
-fn has_connect_texts(alloc: Global, options: &MqttOptions) -> Result<bool, Error> {
-    Ok(has_pair(alloc, options)? && has_method(alloc, options)? && has_auth_data(alloc, options)?)
-}
-
-fn has_no_pairs(options: &MqttOptions) -> Result<bool, Error> {
-    Ok(options.user_properties()?.is_empty())
-}
-
-/// Whether the topic alias maximum is the one connect property.
-fn alias_alone(alloc: Global, options: &MqttOptions) -> Result<bool, Error> {
-    let mut wanted = ConnectProperties::new(alloc);
-    wanted.topic_alias_max = Some(5);
-    let is_alone = equal(options.connect_properties()?, Some(wanted));
-    Ok(is_alone && has_no_pairs(options)?)
-}
-
-/// What is tried of new settings.
-#[derive(Debug, Clone, Copy)]
-enum Trial {
-    Fresh,
-    EmptyId,
-    AliasAlone,
-    AliasGone,
-    AllSet,
-}
-
-/// Whether new settings pass a trial.
-fn passes(alloc: Global, id: &str, trial: Trial) -> Result<bool, Error> {
-    let mut options = MqttOptions::new(alloc, id, "localhost", 1883)?;
-    let good = tried(alloc, &mut options, trial);
+fn shown(alloc: Global) -> Result<String, Error> {
+    let mut text = String::new(alloc);
+    let mut options = MqttOptions::new(alloc, "c", "localhost", 1883)?;
+    let steps = show_steps(alloc, &mut text, &mut options);
     drop(options);
-    good
-}
-
-fn tried(alloc: Global, options: &mut MqttOptions, trial: Trial) -> Result<bool, Error> {
-    match trial {
-        Trial::Fresh => Ok(has_no_pairs(options)? && shows(alloc, options, FRESH)?),
-        Trial::EmptyId => has_client_id(options, ""),
-        Trial::AliasAlone => {
-            chain(options);
-            alias_alone(alloc, options)
-        }
-        Trial::AliasGone => {
-            chain(options);
-            options.set_connect_properties(ConnectProperties::new(alloc));
-            Ok(options.topic_alias_max().is_none())
-        }
-        Trial::AllSet => {
-            set_all(alloc, options)?;
-            is_all_kept(alloc, options)
-        }
-    }
-}
-
-fn is_all_kept(alloc: Global, options: &MqttOptions) -> Result<bool, Error> {
-    Ok(
-        has_numbers(options)
-            && has_connect_numbers(options)
-            && has_texts(alloc, options)?
-            && has_connect_texts(alloc, options)?
-            && shows(alloc, options, ALL_SET)?,
-    )
+    steps?;
+    show(&mut text, MqttOptions::new(alloc, "", "localhost", 1883))?;
+    show(&mut text, Login::new(alloc, "u", "p"))?;
+    Ok(text)
 }
 
 #[test]
 fn settings(rt: HostRuntime) -> Result<(), Fail> {
-    for (id, trial) in [
-        ("c", Trial::Fresh),
-        ("", Trial::EmptyId),
-        ("c", Trial::AliasAlone),
-        ("c", Trial::AliasGone),
-        ("c", Trial::AllSet),
-    ] {
-        assert!(rt; passes(rt.alloc(), id, trial)?, "of {trial:?}");
-    }
+    let shown = shown(rt.alloc())?;
+    assert!(rt; shown.as_str() == SHOWN);
     Ok(())
 }

@@ -6,6 +6,8 @@ use mqtt5_flow::AckProperties;
 use std::alloc::Global;
 use std::test::Fail;
 
+const BLOCK: &[u8] = &[0x09, 0x1F, 0x00, 0x01, 0x61, 0x26, 0x00, 0x00, 0x00, 0x00];
+
 /// A block that is read as a set and written again.
 fn set_again(alloc: Global, block: &[u8]) -> Result<BytesMut, Error> {
     let mut stream = Bytes::copy_from_slice(alloc, block)?;
@@ -20,13 +22,15 @@ fn set_again(alloc: Global, block: &[u8]) -> Result<BytesMut, Error> {
 fn read_len(alloc: Global, block: &[u8]) -> Result<usize, Error> {
     let mut stream = Bytes::copy_from_slice(alloc, block)?;
     let set: Option<AckProperties> = read_block(alloc, &mut stream)?;
-    Ok(block_len(&set))
+    let len = block_len(&set);
+    drop(set);
+    Ok(len)
 }
 
 #[test]
 fn sets_as_blocks(rt: HostRuntime) -> Result<(), Fail> {
-    let block: &[u8] = &[0x09, 0x1F, 0x00, 0x01, 0x61, 0x26, 0x00, 0x00, 0x00, 0x00];
-    assert_eq!(rt; set_again(rt.alloc(), block)?.as_slice(), block);
-    assert_eq!(rt; read_len(rt.alloc(), block)?, 10);
+    let again = set_again(rt.alloc(), BLOCK)?;
+    let len = read_len(rt.alloc(), BLOCK)?;
+    assert!(rt; again.as_slice() == BLOCK && len == 10);
     Ok(())
 }

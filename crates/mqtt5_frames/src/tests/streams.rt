@@ -2,45 +2,40 @@
 
 ghost use Rattle.std.specs.Prelude.{◌≡◌, [], ◌∷◌, None, Ok};
 
-use super::frames::WRITTEN;
-use super::{Notes, fault, note};
+use super::frames::written;
+use super::{Notes, note, note_packet};
 use bytes::BytesMut;
 use mqtt5_base::{Error, check};
 use mqtt5_codec::{Codec, Packet};
 use std::alloc::Global;
 use std::test::Fail;
 
-/// How many of the frames are vectors.
-const VECTORS: usize = 13;
+/// The first two bytes of a frame of 12.
+const FRONT: &[u8] = &[0x32, 0x0A];
+
+/// The first bytes of the longest frame.
+const LONGEST: &[u8] = &[0x30, 0xFF, 0xFF, 0xFF, 0x7F];
 
 const UNLIMITED: Codec = Codec {
     max_incoming_size: None,
     max_outgoing_size: None,
 };
 
-/// V1 to V13, one after the other.
-fn vectors(alloc: Global) -> Result<BytesMut, Error> {
-    let mut stream = BytesMut::new(alloc);
-    for (frame, _form) in WRITTEN.iter().take(VECTORS) {
-        stream.extend_from_slice(frame)?;
+/// All frames that are written as they are read, one after the other.
+fn all_frames(alloc: Global) -> Result<Notes, Error> {
+    let mut all = Notes::new(alloc);
+    for (frame, form) in written() {
+        all.written.extend_from_slice(frame)?;
+        all.shown.push_str(form)?;
     }
-    Ok(stream)
-}
-
-/// The debug forms of their packets, one after the other.
-fn forms(alloc: Global) -> Result<String, Error> {
-    let mut forms = String::new(alloc);
-    for (_frame, form) in WRITTEN.iter().take(VECTORS) {
-        forms.push_str(form)?;
-    }
-    Ok(forms)
+    Ok(all)
 }
 
 /// How many of them are whole in so many bytes.
 fn whole_in(bytes: usize) -> usize {
     let mut end: usize = 0;
     let mut whole: usize = 0;
-    for (frame, _form) in WRITTEN.iter().take(VECTORS) {
+    for (frame, _form) in written() {
         end = end.saturating_add(frame.len());
         if end <= bytes {
             whole = whole.saturating_add(1);
@@ -49,87 +44,77 @@ fn whole_in(bytes: usize) -> usize {
     whole
 }
 
-/// Takes the frame at the front of a stream out, and notes its packet; None where more bytes are needed.
-fn decode_one(
-    alloc: Global,
-    stream: &mut BytesMut,
-    notes: &mut Notes,
-) -> Result<Option<bool>, Error> {
+/// Takes the frame at the front of a stream out, and notes its packet. Whether it was whole.
+fn decode_one(alloc: Global, stream: &mut BytesMut, notes: &mut Notes) -> Result<bool, Error> {
     match UNLIMITED.decode(alloc, stream)? {
         Some(packet) => {
-            let good = note(notes, &packet);
+            let noted = note_packet(notes, &packet, None);
             drop(packet);
-            Ok(Some(good?))
+            noted?;
+            Ok(true)
         }
-        None => Ok(None),
+        None => Ok(false),
     }
 }
 
-/// Takes the whole frames at the front of a stream out, and notes their packets; how many they are, of at most so
-/// many.
-fn drain(
+/// How many frames are whole with the next piece of a stream; notes their packets.
+fn feed(
     alloc: Global,
     stream: &mut BytesMut,
-    most: usize,
+    piece: &[u8],
     notes: &mut Notes,
 ) -> Result<usize, Error> {
-    for count in 0..most {
-        if decode_one(alloc, stream, notes)? != Some(true) {
+    stream.extend_from_slice(piece)?;
+    for count in 0..written().len() {
+        if !decode_one(alloc, stream, notes)? {
             return Ok(count);
         }
     }
-    Ok(most)
+    Ok(written().len())
 }
 
-/// How many packets the first of two pieces of a stream has whole, and how many there are in all.
-fn in_two(
-    alloc: Global,
-    stream: &[u8],
-    at: usize,
-    notes: &mut Notes,
-) -> Result<(usize, usize), Error> {
-    let mut input = BytesMut::new(alloc);
-    input.extend_from_slice(stream.get(..at).unwrap_or(&[]))?;
-    let first = drain(alloc, &mut input, VECTORS, notes)?;
-    input.extend_from_slice(stream.get(at..).unwrap_or(&[]))?;
-    let second = drain(alloc, &mut input, VECTORS, notes)?;
-    Ok((first, first.saturating_add(second)))
-}
-
-#[test]
-fn vectors_in_two_pieces(rt: HostRuntime) -> Result<(), Fail> {
-    let stream = vectors(rt.alloc())?;
-    let forms = forms(rt.alloc())?;
-    assert_eq!(rt; stream.len(), 116);
-    for at in 1..116 {
-        let mut notes = Notes::new(rt.alloc());
-        let counts = in_two(rt.alloc(), stream.as_slice(), at, &mut notes)?;
-        assert_eq!(rt; counts, (whole_in(at), VECTORS), "cut at {at}");
-        assert!(rt; notes.are(stream.as_slice(), forms.as_str()), "cut at {at}");
-    }
-    Ok(())
-}
-
-/// How often more bytes are needed where a frame comes byte by byte; None where bytes are left.
-fn waits(alloc: Global, frame: &[u8]) -> Result<Option<usize>, Error> {
-    let mut stream = BytesMut::new(alloc);
+/// Whether all packets are read of a stream that comes in two pieces, each with the piece that makes it whole.
+fn in_two(alloc: Global, all: &Notes, at: usize) -> Result<bool, Error> {
     let mut notes = Notes::new(alloc);
-    let mut waits: usize = 0;
-    for byte in frame {
-        stream.extend_from_slice(&[*byte])?;
-        if decode_one(alloc, &mut stream, &mut notes)?.is_none() {
-            waits = waits.saturating_add(1);
+    let mut stream = BytesMut::new(alloc);
+    let bytes = all.written.as_slice();
+    let first = feed(
+        alloc,
+        &mut stream,
+        bytes.get(..at).unwrap_or(&[]),
+        &mut notes,
+    )?;
+    let second = feed(
+        alloc,
+        &mut stream,
+        bytes.get(at..).unwrap_or(&[]),
+        &mut notes,
+    )?;
+    let counts = first == whole_in(at) && first.saturating_add(second) == written().len();
+    Ok(counts && notes.are(all.shown.as_str(), bytes))
+}
+
+/// Whether all packets are read of a stream that comes byte by byte, each with its last byte.
+fn byte_by_byte(alloc: Global, all: &Notes) -> Result<bool, Error> {
+    let mut notes = Notes::new(alloc);
+    let mut stream = BytesMut::new(alloc);
+    let mut count: usize = 0;
+    for (i, byte) in all.written.as_slice().iter().enumerate() {
+        count = count.saturating_add(feed(alloc, &mut stream, &[*byte], &mut notes)?);
+        if count != whole_in(i.saturating_add(1)) {
+            return Ok(false);
         }
     }
-    Ok(stream.is_empty().then_some(waits))
+    Ok(notes.are(all.shown.as_str(), all.written.as_slice()))
 }
 
 #[test]
-fn frames_byte_by_byte(rt: HostRuntime) -> Result<(), Fail> {
-    for (frame, _form) in WRITTEN {
-        let all_but_one = frame.len().checked_sub(1);
-        assert_eq!(rt; waits(rt.alloc(), frame)?, all_but_one, "of {frame:?}");
+fn frames_in_pieces(rt: HostRuntime) -> Result<(), Fail> {
+    let all = all_frames(rt.alloc())?;
+    for at in 1..all.written.len() {
+        assert!(rt; in_two(rt.alloc(), &all, at)?, "cut at {at}");
     }
+    assert!(rt; byte_by_byte(rt.alloc(), &all)?);
     Ok(())
 }
 
@@ -153,28 +138,38 @@ fn awaits_longest(alloc: Global) -> Result<bool, Error> {
     let answer = decode_longest(alloc, &mut stream);
     let awaits = matches!(&answer, Ok(None));
     drop(answer);
-    Ok(awaits && stream.as_slice() == [0x30, 0xFF, 0xFF, 0xFF, 0x7F].as_slice())
+    Ok(awaits && stream.as_slice() == LONGEST)
 }
 
 #[test]
 fn the_longest_frame(rt: HostRuntime) -> Result<(), Fail> {
     let missing = Error::InsufficientBytes(268_435_455);
-    let longest = [0x30, 0xFF, 0xFF, 0xFF, 0x7F];
-    assert_eq!(rt; check(&longest, None), Err(missing));
+    assert!(rt; check(LONGEST, None) == Err(missing));
     assert!(rt; awaits_longest(rt.alloc())?);
     Ok(())
 }
 
+/// Whether this is answered of the front of a frame under a limit on remaining lengths.
+fn is_front_refused(alloc: Global, max: u32, form: &str) -> Result<bool, Error> {
+    let mut notes = Notes::new(alloc);
+    let mut stream = BytesMut::new(alloc);
+    stream.extend_from_slice(FRONT)?;
+    note(
+        &mut notes,
+        Packet::read(alloc, &mut stream, Some(max)),
+        None,
+    )?;
+    Ok(notes.are(form, &[]))
+}
+
 #[test]
 fn an_incoming_limit(rt: HostRuntime) -> Result<(), Fail> {
-    let mut stream = BytesMut::new(rt.alloc());
-    stream.extend_from_slice(&[0x32, 0x0A])?;
-    let too_long = Error::PayloadSizeLimitExceeded {
-        pkt_size: 10,
-        max: 9,
-    };
-    assert_eq!(rt; fault(rt.alloc(), &mut stream, Some(9)), Some(too_long));
-    let missing = Error::InsufficientBytes(10);
-    assert_eq!(rt; fault(rt.alloc(), &mut stream, Some(10)), Some(missing));
+    let limits: &[(u32, &str)] = &[
+        (9, "PayloadSizeLimitExceeded { pkt_size: 10, max: 9 }"),
+        (10, "InsufficientBytes(10)"),
+    ];
+    for (max, form) in limits {
+        assert!(rt; is_front_refused(rt.alloc(), *max, form)?, "under {max}");
+    }
     Ok(())
 }

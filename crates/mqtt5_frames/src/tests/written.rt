@@ -1,11 +1,29 @@
 //! What is written by a packet's own type, and what is refused.
 
-use super::made::{long_properties, publish_hi};
+use super::made::publish_hi;
+use super::one_pair;
 use bytes::{Bytes, BytesMut};
 use mqtt5_base::{Error, QoS};
-use mqtt5_flow::{PubRec, Publish};
+use mqtt5_flow::{AckProperties, PubRec, Publish};
 use std::alloc::Global;
 use std::test::Fail;
+
+/// Publishes by their QoS, their packet identifier and the length of their topic, and what comes of writing them.
+const PUBLISHES: &[(QoS, u16, usize, Result<usize, Error>)] = &[
+    (QoS::AtMostOnce, 0, 65_536, Err(Error::PayloadTooLong)),
+    (QoS::AtLeastOnce, 0, 3, Err(Error::PacketIdZero)),
+    (QoS::AtLeastOnce, 0, 65_536, Err(Error::PayloadTooLong)),
+    (QoS::AtLeastOnce, 1, 3, Ok(12)),
+];
+
+/// 130 bytes `61`.
+const LETTERS: &str =
+    "aaaaaaaaaaaaaaaaaaaaaaaaaaaaaaaaaaaaaaaaaaaaaaaaaaaaaaaaaaaaaaaaaaaaaaaaaaaaaaaaaaaaaaaaaaaaaaaaaaaaaaaaaaaaaaaaaaaaaaaaaaaaaaaaaa";
+
+/// What a PubRec with a pair of "k" and those bytes begins with.
+const PUBREC: &[u8] = &[
+    0x50, 0x8D, 0x01, 0x00, 0x01, 0x00, 0x88, 0x01, 0x26, 0x00, 0x01, 0x6B, 0x00, 0x82,
+];
 
 /// The length of a publish that is written behind `AA`, or why it isn't; E16 where that left more than
 /// `AA`.
@@ -19,50 +37,46 @@ fn behind_another(alloc: Global, publish: &Publish) -> Result<usize, Error> {
     written
 }
 
-/// A topic of 65,536 bytes.
-fn long_topic(alloc: Global) -> Result<Bytes, Error> {
-    Ok(Bytes::from_vec(vec![in alloc; 0x61; 65_536]?)?)
+fn publish_to(alloc: Global, topic_len: usize) -> Result<Publish, Error> {
+    let topic = Bytes::from_vec(vec![in alloc; 0x61; topic_len]?)?;
+    let mut publish = publish_hi(alloc)?;
+    publish.topic = topic;
+    Ok(publish)
 }
 
-fn written_with(alloc: Global, qos: QoS, pkid: u16, long: bool) -> Result<usize, Error> {
-    let mut publish = publish_hi(alloc)?;
+fn written_with(alloc: Global, qos: QoS, pkid: u16, topic_len: usize) -> Result<usize, Error> {
+    let mut publish = publish_to(alloc, topic_len)?;
     publish.qos = qos;
     publish.pkid = pkid;
-    if long {
-        publish.topic = long_topic(alloc)?;
-    }
-    behind_another(alloc, &publish)
+    let written = behind_another(alloc, &publish);
+    drop(publish);
+    written
 }
 
 #[test]
-fn refused_writes(rt: HostRuntime) -> Result<(), Fail> {
-    let alloc = rt.alloc();
-    let table = [
-        (QoS::AtMostOnce, 0, true, Err(Error::PayloadTooLong)),
-        (QoS::AtLeastOnce, 0, false, Err(Error::PacketIdZero)),
-        (QoS::AtLeastOnce, 0, true, Err(Error::PayloadTooLong)),
-        (QoS::AtLeastOnce, 1, false, Ok(12)),
-    ];
-    for (qos, pkid, long, want) in table {
-        assert_eq!(rt; written_with(alloc, qos, pkid, long), want);
+fn refused_writes(rt: HostRuntime) {
+    for (qos, pkid, topic_len, want) in PUBLISHES {
+        assert!(rt;
+            written_with(rt.alloc(), *qos, *pkid, *topic_len) == *want,
+            "of {want:?}"
+        );
     }
-    Ok(())
 }
 
-/// What a PubRec with a pair of "k" and 130 bytes is written as.
+/// What a PubRec with a long pair is written as.
 fn pubrec_bytes(alloc: Global) -> Result<BytesMut, Error> {
     let mut buffer = BytesMut::new(alloc);
-    PubRec::new(1, long_properties(alloc)?).write(&mut buffer)?;
+    let properties = AckProperties {
+        reason_string: None,
+        user_properties: one_pair(alloc, LETTERS)?,
+    };
+    PubRec::new(1, Some(properties)).write(&mut buffer)?;
     Ok(buffer)
 }
 
 #[test]
 fn pubrec_with_a_long_pair(rt: HostRuntime) -> Result<(), Fail> {
     let bytes = pubrec_bytes(rt.alloc())?;
-    let begin: &[u8] = &[
-        0x50, 0x8D, 0x01, 0x00, 0x01, 0x00, 0x88, 0x01, 0x26, 0x00, 0x01, 0x6B, 0x00, 0x82,
-    ];
-    assert_eq!(rt; bytes.len(), 144);
-    assert!(rt; bytes.as_slice().starts_with(begin));
+    assert!(rt; bytes.len() == 144 && bytes.as_slice().starts_with(PUBREC));
     Ok(())
 }
