@@ -1,9 +1,9 @@
 //! What each request makes of the session.
 
-ghost use Rattle.std.specs.Prelude.{◌≡◌, ◌≢◌, ◌<◌, ◌≤◌, OnOk, OnErr, None, Ok};
+ghost use Rattle.std.specs.Prelude.{◌≡◌, ◌≢◌, ◌<◌, ◌≤◌, IfOk, IfErr, IsOk, OnOk, OnErr, None, Some, Ok, cond};
 ghost use Rattle.mqtt5_base.specs.declared.quality.QoS.TheVariants.{AtMostOnce};
 ghost use Rattle.mqtt5_session.specs.Session.{Session, Sends};
-ghost use Rattle.mqtt5_session.specs.Requests.{id_for, last_after, tells_at, out_once, out_identified, out_publish, stored, awaits, out_release, out_subscribe, out_unsubscribe, pings_with, counts_ping, out_ping, disconnect_of};
+ghost use Rattle.mqtt5_session.specs.Requests.{id_for, last_after, tells_at, judged, Verdict, out_once, out_identified, out_publish, stored, awaits, out_release, out_subscribe, out_unsubscribe, pings_with, counts_ping, out_ping, disconnect_of};
 
 use super::MqttState;
 use crate::aliases::alias_over;
@@ -89,22 +89,57 @@ impl MqttState {
         requires counted { publish.qos ≢ AtMostOnce }
         ensures { Sends result self.old self.new (out_identified self.old publish last at) }
     {
+        match self.is_free_for(&publish) {
+            Ok(true) => self.send_stored(publish, last, at),
+            Ok(false) => self.keep(publish, last, at),
+            Err(refused) => {
+                drop(publish);
+                Err(refused)
+            }
+        }
+    }
+
+    /// Whether the id of a publish is free; where it isn't, nothing waits. Takes no memory.
+    fn is_free_for(&self, publish: &Publish) -> Result<bool, StateError>
+        ensures judged { IfOk result (λ free. judged self.now.core publish.now ≡ cond free Verdict.Store Verdict.Wait) }
+        ensures high { IsOk result → publish.now.pkid ≤ self.now.core.limit }
+        ensures err { IfErr result (λ e. judged self.now.core publish.now ≡ Verdict.Refuse e) }
+    {
         let id = publish.pkid;
         if id > self.slots.limit() {
             return Err(StateError::Unsolicited(id));
         }
         let max = self.alias_max;
-        if let Some(alias) = alias_over(&publish, max) {
+        if let Some(alias) = alias_over(publish, max) {
             return Err(StateError::InvalidAlias { alias, max });
         }
         if !self.slots.contains(id) {
-            self.store(&publish, last, at)?;
-            return Ok(Some(as_publish(publish)));
+            return Ok(true);
         }
         if self.waiting.is_some() {
             return Err(StateError::InvalidState);
         }
-        self.keep(publish, last, at)
+        Ok(false)
+    }
+
+    /// Stores a publish under its id, which is free, and sends it.
+    fn send_stored(
+        &mut self,
+        publish: Publish,
+        last: u16,
+        at: u64,
+    ) -> Result<Option<Packet>, StateError>
+        requires low { 0 < publish.pkid }
+        requires high { publish.pkid ≤ self.old.core.limit }
+        requires counted { publish.qos ≢ AtMostOnce }
+        requires last { last < self.old.core.limit }
+        ensures { Sends result self.old self.new (Ok (Some (Packet.Publish publish)), stored self.old publish last at) }
+    {
+        if let Err(refused) = self.store(&publish, last, at) {
+            drop(publish);
+            return Err(StateError::from(refused));
+        }
+        Ok(Some(as_publish(publish)))
     }
 
     /// Stores a copy of a publish under its id, which is free.
