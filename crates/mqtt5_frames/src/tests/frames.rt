@@ -119,7 +119,7 @@ const WRITTEN: &[(&[u8], &str)] = &[
 ];
 
 /// `WRITTEN`, which is proved anew in each function that names it.
-pub fn written() -> &'static [(&'static [u8], &'static str)] {
+pub(super) fn written() -> &'static [(&'static [u8], &'static str)] {
     WRITTEN
 }
 
