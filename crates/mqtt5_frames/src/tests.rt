@@ -1,18 +1,17 @@
-//! Frames as data, walked by few functions: a frame more is a line of `frames`.
+//! Frames as rows of text, walked by few functions: a frame more is a line of `frames`. The parts of a row stand
+//! between blanks; bytes are two digits each, and `-` is none.
 
 mod frames;
 mod made;
-mod options;
 mod read;
 mod sets;
 mod streams;
 mod written;
 
 use bytes::BytesMut;
-use mqtt5_base::{Error, Sequence, Text, copied, same};
+use mqtt5_base::Error;
 use mqtt5_codec::{Codec, Packet};
 use std::alloc::Global;
-use std::fmt::Write;
 
 /// The debug forms of packets and faults, and what the packets are written as, each one after the other.
 #[derive(Drop)]
@@ -36,54 +35,60 @@ impl Notes {
             && self.written.as_slice() == written
             && self.encoded.as_slice() == written
     }
+
+    /// Writes a packet under a limit on frames, and notes it. E16 where its size isn't what was written, or it
+    /// doesn't equal its copy.
+    fn add_packet(&mut self, packet: &Packet, max: Option<u32>) -> Result<(), Error> {
+        let codec = Codec {
+            max_incoming_size: None,
+            max_outgoing_size: max,
+        };
+        let len = packet.write(&mut self.written, max)?;
+        codec.encode(packet, &mut self.encoded)?;
+        if packet.size() != len || !equals_its_copy(packet)? {
+            return Err(Error::MalformedPacket);
+        }
+        write!(self.shown, "{packet:?}")?;
+        Ok(())
+    }
+
+    /// Notes a packet or a fault, also of writing it under a limit.
+    fn add(&mut self, answer: Result<Packet, Error>, max: Option<u32>) -> Result<(), Error> {
+        let added = match answer {
+            Ok(packet) => {
+                let added = self.add_packet(&packet, max);
+                drop(packet);
+                added
+            }
+            Err(fault) => Err(fault),
+        };
+        if let Err(fault) = added {
+            write!(self.shown, "{fault:?}")?;
+        }
+        Ok(())
+    }
 }
 
 /// Whether a packet equals its copy.
 fn equals_its_copy(packet: &Packet) -> Result<bool, Error> {
-    let copy = copied(packet)?;
-    let equal = same(&copy, packet);
+    let copy = packet.clone()?;
+    let equal = copy == *packet;
     drop(copy);
     Ok(equal)
 }
 
-/// Writes a packet under a limit on frames, and notes it. E16 where its size isn't what was written, or it doesn't
-/// equal its copy.
-fn note_packet(notes: &mut Notes, packet: &Packet, max: Option<u32>) -> Result<(), Error> {
-    packet.reads_back();
-    let len = packet.write(&mut notes.written, max)?;
-    let codec = Codec {
-        max_incoming_size: None,
-        max_outgoing_size: max,
-    };
-    codec.encode(packet, &mut notes.encoded)?;
-    if packet.size() != len || !equals_its_copy(packet)? {
-        return Err(Error::MalformedPacket);
+/// What stands before the first blank of a row, and what behind it.
+fn cut(row: &str) -> (&str, &str) {
+    row.split_once(' ').unwrap_or((row, ""))
+}
+
+/// Bytes of their digits; E16 where they aren't digits.
+fn bytes_of(alloc: Global, digits: &str) -> Result<Vec<u8>, Error> {
+    if digits == "-" {
+        return Ok(Vec::new(alloc));
     }
-    write!(notes.shown, "{packet:?}").map_err(|_| Error::OutOfMemory)
-}
-
-/// Notes a packet or a fault, also of writing it under a limit.
-fn note(notes: &mut Notes, answer: Result<Packet, Error>, max: Option<u32>) -> Result<(), Error> {
-    let noted = match &answer {
-        Ok(packet) => note_packet(notes, packet, max),
-        Err(error) => note_fault(notes, error),
-    };
-    drop(answer);
-    match noted {
-        Err(error) => note_fault(notes, &error),
-        Ok(()) => Ok(()),
+    match hex::decode(alloc, digits) {
+        Ok(bytes) => Ok(bytes),
+        Err(_) => Err(Error::MalformedPacket),
     }
-}
-
-fn note_fault(notes: &mut Notes, fault: &Error) -> Result<(), Error> {
-    write!(notes.shown, "{fault:?}").map_err(|_| Error::OutOfMemory)
-}
-
-/// The user property "k" of a value.
-fn one_pair(alloc: Global, value: &str) -> Result<Sequence<(Text, Text)>, Error> {
-    let key = Text::from(String::from_str(alloc, "k")?);
-    let value = Text::from(String::from_str(alloc, value)?);
-    let mut pairs = Sequence::new(alloc);
-    pairs.push((key, value))?;
-    Ok(pairs)
 }

@@ -3,5 +3,7 @@
 
 mod connect_options;
 mod options;
+#[cfg(test)]
+mod tests;
 
 pub use options::MqttOptions;

@@ -1,6 +1,6 @@
 //! Packets that are made, and not read.
 
-use super::{Notes, note};
+use super::Notes;
 use bytes::Bytes;
 use mqtt5_base::{Error, QoS};
 use mqtt5_codec::Packet;
@@ -76,16 +76,10 @@ const MADE: &[(u8, Option<u32>, &str, &[u8])] = &[
 
 /// A publish of "hi" to "a/b", QoS 1, packet identifier 1.
 pub(super) fn publish_hi(alloc: Global) -> Result<Publish, Error> {
-    let payload = Bytes::copy_from_slice(alloc, b"hi")?;
+    let payload = Bytes::from_static(b"hi");
     let mut publish = Publish::new(alloc, "a/b", QoS::AtLeastOnce, payload, None)?;
     publish.pkid = 1;
     Ok(publish)
-}
-
-fn lost() -> PubComp {
-    let mut lost = PubComp::new(7, None);
-    lost.reason = PubCompReason::PacketIdentifierNotFound;
-    lost
 }
 
 fn made(alloc: Global, letter: u8) -> Result<Packet, Error> {
@@ -94,7 +88,11 @@ fn made(alloc: Global, letter: u8) -> Result<Packet, Error> {
         b'a' => Packet::PubAck(PubAck::new(1, None)),
         b'r' => Packet::PubRec(PubRec::new(7, None)),
         b'l' => Packet::PubRel(PubRel::new(7, None)),
-        b'c' => Packet::PubComp(lost()),
+        b'c' => Packet::PubComp(PubComp {
+            pkid: 7,
+            reason: PubCompReason::PacketIdentifierNotFound,
+            properties: None,
+        }),
         b'q' => Packet::PingReq(PingReq),
         b's' => Packet::PingResp(PingResp),
         b'd' => Packet::Disconnect(Disconnect::new(DisconnectReasonCode::NormalDisconnection)),
@@ -111,8 +109,11 @@ fn is_noted(
     bytes: &[u8],
 ) -> Result<bool, Error> {
     let mut notes = Notes::new(alloc);
-    note(&mut notes, made(alloc, letter), max)?;
-    Ok(notes.are(form, bytes))
+    let added = notes.add(made(alloc, letter), max);
+    let noted = notes.are(form, bytes);
+    drop(notes);
+    added?;
+    Ok(noted)
 }
 
 #[test]

@@ -8,14 +8,19 @@ use std::test::Fail;
 
 const BLOCK: &[u8] = &[0x09, 0x1F, 0x00, 0x01, 0x61, 0x26, 0x00, 0x00, 0x00, 0x00];
 
-/// A block that is read as a set and written again.
-fn set_again(alloc: Global, block: &[u8]) -> Result<BytesMut, Error> {
+/// Reads a block as a set, and writes that.
+fn write_again(alloc: Global, block: &[u8], buffer: &mut BytesMut) -> Result<(), Error> {
     let mut stream = Bytes::copy_from_slice(alloc, block)?;
-    let mut buffer = BytesMut::new(alloc);
-    if let Some(set) = AckProperties::read(alloc, &mut stream)? {
-        set.write(&mut buffer)?;
+    let set = AckProperties::read(alloc, &mut stream);
+    drop(stream);
+    match set? {
+        Some(set) => {
+            let written = set.write(buffer);
+            drop(set);
+            written
+        }
+        None => Ok(()),
     }
-    Ok(buffer)
 }
 
 /// How many bytes a block takes once it is read.
@@ -29,8 +34,9 @@ fn read_len(alloc: Global, block: &[u8]) -> Result<usize, Error> {
 
 #[test]
 fn sets_as_blocks(rt: HostRuntime) -> Result<(), Fail> {
-    let again = set_again(rt.alloc(), BLOCK)?;
-    let len = read_len(rt.alloc(), BLOCK)?;
-    assert!(rt; again.as_slice() == BLOCK && len == 10);
+    let mut again = BytesMut::new(rt.alloc());
+    let written = write_again(rt.alloc(), BLOCK, &mut again);
+    assert!(rt; written.is_ok() && again.as_slice() == BLOCK);
+    assert!(rt; matches!(read_len(rt.alloc(), BLOCK), Ok(10)));
     Ok(())
 }

@@ -2,16 +2,13 @@
 
 ghost use Rattle.std.specs.Prelude.{◌≡◌, [], ◌∷◌, None, Ok};
 
-use super::frames::written;
-use super::{Notes, note, note_packet};
+use super::frames::FRAMES;
+use super::{Notes, bytes_of, cut};
 use bytes::BytesMut;
 use mqtt5_base::{Error, check};
 use mqtt5_codec::{Codec, Packet};
 use std::alloc::Global;
 use std::test::Fail;
-
-/// The first two bytes of a frame of 12.
-const FRONT: &[u8] = &[0x32, 0x0A];
 
 /// The first bytes of the longest frame.
 const LONGEST: &[u8] = &[0x30, 0xFF, 0xFF, 0xFF, 0x7F];
@@ -21,23 +18,44 @@ const UNLIMITED: Codec = Codec {
     max_outgoing_size: None,
 };
 
-/// All frames that are written as they are read, one after the other.
-fn all_frames(alloc: Global) -> Result<Notes, Error> {
-    let mut all = Notes::new(alloc);
-    for (frame, form) in written() {
-        all.written.extend_from_slice(frame)?;
-        all.shown.push_str(form)?;
+/// All frames that are written as they are read, one after the other: their bytes, their forms, and where each ends.
+#[derive(Drop)]
+struct Frames {
+    bytes: BytesMut,
+    forms: String,
+    ends: Vec<usize>,
+}
+
+/// Adds the frame of a row, where that is written as it is read.
+fn add_row(alloc: Global, all: &mut Frames, row: &str) -> Result<(), Error> {
+    let (digits, rest) = cut(row);
+    let (again, form) = cut(rest);
+    if again == "=" {
+        let frame = bytes_of(alloc, digits)?;
+        all.bytes.extend_from_slice(frame.as_slice())?;
+        all.forms.push_str(form)?;
+        all.ends.push(all.bytes.len())?;
+    }
+    Ok(())
+}
+
+fn all_frames(alloc: Global) -> Result<Frames, Error> {
+    let mut all = Frames {
+        bytes: BytesMut::new(alloc),
+        forms: String::new(alloc),
+        ends: Vec::new(alloc),
+    };
+    for row in FRAMES.lines() {
+        add_row(alloc, &mut all, row)?;
     }
     Ok(all)
 }
 
-/// How many of them are whole in so many bytes.
-fn whole_in(bytes: usize) -> usize {
-    let mut end: usize = 0;
+/// How many frames end in so many bytes.
+fn whole_in(ends: &[usize], len: usize) -> usize {
     let mut whole: usize = 0;
-    for (frame, _form) in written() {
-        end = end.saturating_add(frame.len());
-        if end <= bytes {
+    for end in ends {
+        if *end <= len {
             whole = whole.saturating_add(1);
         }
     }
@@ -48,73 +66,72 @@ fn whole_in(bytes: usize) -> usize {
 fn decode_one(alloc: Global, stream: &mut BytesMut, notes: &mut Notes) -> Result<bool, Error> {
     match UNLIMITED.decode(alloc, stream)? {
         Some(packet) => {
-            let noted = note_packet(notes, &packet, None);
+            let added = notes.add_packet(&packet, None);
             drop(packet);
-            noted?;
+            added?;
             Ok(true)
         }
         None => Ok(false),
     }
 }
 
-/// How many frames are whole with the next piece of a stream; notes their packets.
-fn feed(
+/// Takes whole frames out of a stream, and notes their packets. How many they were.
+fn decode_all(
     alloc: Global,
     stream: &mut BytesMut,
-    piece: &[u8],
     notes: &mut Notes,
+    most: usize,
 ) -> Result<usize, Error> {
-    stream.extend_from_slice(piece)?;
-    for count in 0..written().len() {
+    for count in 0..most {
         if !decode_one(alloc, stream, notes)? {
             return Ok(count);
         }
     }
-    Ok(written().len())
+    Ok(most)
 }
 
-/// Whether all packets are read of a stream that comes in two pieces, each with the piece that makes it whole.
-fn in_two(alloc: Global, all: &Notes, at: usize) -> Result<bool, Error> {
-    let mut notes = Notes::new(alloc);
-    let mut stream = BytesMut::new(alloc);
-    let bytes = all.written.as_slice();
-    let first = feed(
-        alloc,
-        &mut stream,
-        bytes.get(..at).unwrap_or(&[]),
-        &mut notes,
-    )?;
-    let second = feed(
-        alloc,
-        &mut stream,
-        bytes.get(at..).unwrap_or(&[]),
-        &mut notes,
-    )?;
-    let counts = first == whole_in(at) && first.saturating_add(second) == written().len();
-    Ok(counts && notes.are(all.shown.as_str(), bytes))
-}
-
-/// Whether all packets are read of a stream that comes byte by byte, each with its last byte.
-fn byte_by_byte(alloc: Global, all: &Notes) -> Result<bool, Error> {
-    let mut notes = Notes::new(alloc);
-    let mut stream = BytesMut::new(alloc);
+/// Takes the bytes in, in two pieces, the first of which has so many; where that is 0, byte by byte. Whether each
+/// packet is read with the piece that makes it whole.
+fn take_in(
+    alloc: Global,
+    stream: &mut BytesMut,
+    notes: &mut Notes,
+    all: &Frames,
+    at: usize,
+) -> Result<bool, Error> {
+    let mut len: usize = 0;
     let mut count: usize = 0;
-    for (i, byte) in all.written.as_slice().iter().enumerate() {
-        count = count.saturating_add(feed(alloc, &mut stream, &[*byte], &mut notes)?);
-        if count != whole_in(i.saturating_add(1)) {
-            return Ok(false);
+    for byte in all.bytes.as_slice() {
+        stream.extend_from_slice(&[*byte])?;
+        len = len.saturating_add(1);
+        if at == 0 || len == at || len == all.bytes.len() {
+            let whole = decode_all(alloc, stream, notes, all.ends.len())?;
+            count = count.saturating_add(whole);
+            if count != whole_in(all.ends.as_slice(), len) {
+                return Ok(false);
+            }
         }
     }
-    Ok(notes.are(all.shown.as_str(), all.written.as_slice()))
+    Ok(true)
+}
+
+/// Whether all packets are read of a stream in pieces, each with the piece that makes it whole.
+fn in_pieces(alloc: Global, all: &Frames, at: usize) -> Result<bool, Error> {
+    let mut notes = Notes::new(alloc);
+    let mut stream = BytesMut::new(alloc);
+    let taken = take_in(alloc, &mut stream, &mut notes, all, at);
+    let noted = notes.are(all.forms.as_str(), all.bytes.as_slice());
+    drop(stream);
+    drop(notes);
+    Ok(taken? && noted)
 }
 
 #[test]
 fn frames_in_pieces(rt: HostRuntime) -> Result<(), Fail> {
     let all = all_frames(rt.alloc())?;
-    for at in 1..all.written.len() {
-        assert!(rt; in_two(rt.alloc(), &all, at)?, "cut at {at}");
+    for at in 0..all.bytes.len() {
+        assert!(rt; in_pieces(rt.alloc(), &all, at)?, "cut at {at}");
     }
-    assert!(rt; byte_by_byte(rt.alloc(), &all)?);
     Ok(())
 }
 
@@ -146,30 +163,5 @@ fn the_longest_frame(rt: HostRuntime) -> Result<(), Fail> {
     let missing = Error::InsufficientBytes(268_435_455);
     assert!(rt; check(LONGEST, None) == Err(missing));
     assert!(rt; awaits_longest(rt.alloc())?);
-    Ok(())
-}
-
-/// Whether this is answered of the front of a frame under a limit on remaining lengths.
-fn is_front_refused(alloc: Global, max: u32, form: &str) -> Result<bool, Error> {
-    let mut notes = Notes::new(alloc);
-    let mut stream = BytesMut::new(alloc);
-    stream.extend_from_slice(FRONT)?;
-    note(
-        &mut notes,
-        Packet::read(alloc, &mut stream, Some(max)),
-        None,
-    )?;
-    Ok(notes.are(form, &[]))
-}
-
-#[test]
-fn an_incoming_limit(rt: HostRuntime) -> Result<(), Fail> {
-    let limits: &[(u32, &str)] = &[
-        (9, "PayloadSizeLimitExceeded { pkt_size: 10, max: 9 }"),
-        (10, "InsufficientBytes(10)"),
-    ];
-    for (max, form) in limits {
-        assert!(rt; is_front_refused(rt.alloc(), *max, form)?, "under {max}");
-    }
     Ok(())
 }

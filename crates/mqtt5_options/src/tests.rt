@@ -3,11 +3,10 @@
 ghost use Rattle.std.specs.Prelude.{◌≡◌, Some, false};
 ghost use Rattle.mqtt5_options.specs.Options.{properties_of, with_properties};
 
-use super::one_pair;
+use crate::MqttOptions;
 use bytes::Bytes;
-use mqtt5_base::{Error, QoS, Text};
+use mqtt5_base::{Error, QoS, Sequence, Text};
 use mqtt5_connect::{ConnectProperties, LastWill, Login};
-use mqtt5_options::MqttOptions;
 use std::alloc::Global;
 use std::fmt::{Debug, Write};
 use std::test::Fail;
@@ -129,6 +128,13 @@ fn text(alloc: Global, text: &str) -> Result<Text, Error> {
 fn will(alloc: Global) -> Result<LastWill, Error> {
     let message = Vec::from_slice(alloc, b"m")?;
     LastWill::new(alloc, "w", message, QoS::AtLeastOnce, true, None)
+}
+
+/// The user property "k" of a value.
+fn one_pair(alloc: Global, value: &str) -> Result<Sequence<(Text, Text)>, Error> {
+    let mut pairs = Sequence::new(alloc);
+    pairs.push((text(alloc, "k")?, text(alloc, value)?))?;
+    Ok(pairs)
 }
 
 fn set_texts(alloc: Global, options: &mut MqttOptions) -> Result<(), Error> {
