@@ -1,6 +1,6 @@
-//! Reading, writing and matching, timed: ours, and beside it the original where the feature `original` is on.
+//! Reading, writing, matching, the session and the loop, timed: ours, and beside it the original where the feature `original` is on.
 //! `bench REPEATS [WORDS ..]` prints the rows whose names have one of the words; `bench one SIDE ROW on|off` runs
-//! one row once, for callgrind; `bench rows` lists them.
+//! one row once, for callgrind, and with `tenth-on` or `tenth-off` its tenth; `bench rows` lists them.
 
 #[cfg(feature = "original")]
 mod original;
@@ -27,6 +27,12 @@ mod ours {
         fn ours_decode(s: *const u8, n: usize, count: usize, rounds: usize) -> u64;
         fn ours_encode(s: *const u8, n: usize, rounds: usize, fresh: usize) -> u64;
         fn ours_matches(s: *const u8, n: usize, rounds: usize) -> u64;
+        fn ours_send(limit: u16, window: usize, windows: usize, s: *const u8, n: usize) -> u64;
+        fn ours_hear(acked: usize, rounds: usize, s: *const u8, n: usize) -> u64;
+        fn ours_pings(rounds: usize) -> u64;
+        fn ours_fresh(limit: u16, rounds: usize) -> u64;
+        fn ours_drive(s: *const u8, n: usize, piece: usize, rounds: usize) -> u64;
+        fn ours_requests(a: *const u8, m: usize, window: usize, rounds: usize, s: *const u8, n: usize) -> u64;
     }
     pub fn decode(s: &[u8], count: usize, rounds: usize) -> u64 {
         unsafe { ours_decode(s.as_ptr(), s.len(), count, rounds) }
@@ -36,6 +42,24 @@ mod ours {
     }
     pub fn matched(s: &[u8], rounds: usize) -> u64 {
         unsafe { ours_matches(s.as_ptr(), s.len(), rounds) }
+    }
+    pub fn send(limit: u16, window: usize, windows: usize, payload: &[u8]) -> u64 {
+        unsafe { ours_send(limit, window, windows, payload.as_ptr(), payload.len()) }
+    }
+    pub fn hear(acked: usize, rounds: usize, payload: &[u8]) -> u64 {
+        unsafe { ours_hear(acked, rounds, payload.as_ptr(), payload.len()) }
+    }
+    pub fn pings(rounds: usize) -> u64 {
+        unsafe { ours_pings(rounds) }
+    }
+    pub fn fresh(limit: u16, rounds: usize) -> u64 {
+        unsafe { ours_fresh(limit, rounds) }
+    }
+    pub fn drive(s: &[u8], piece: usize, rounds: usize) -> u64 {
+        unsafe { ours_drive(s.as_ptr(), s.len(), piece, rounds) }
+    }
+    pub fn requests(acks: &[u8], window: usize, rounds: usize, payload: &[u8]) -> u64 {
+        unsafe { ours_requests(acks.as_ptr(), acks.len(), window, rounds, payload.as_ptr(), payload.len()) }
     }
 }
 
@@ -161,10 +185,12 @@ type Side = Box<dyn Fn(bool) -> u64>;
 
 struct Row {
     name: String,
-    /// How many frames or pairs a run has.
+    /// How many frames, calls or pairs a run has.
     units: f64,
     ours: Side,
     original: Side,
+    /// The same over a tenth of the bytes, as often: such a row shows how many times the time of that it takes.
+    tenth: Option<(Side, Side)>,
 }
 
 fn leak(bytes: Vec<u8>) -> &'static [u8] {
@@ -180,6 +206,7 @@ fn frames(rows: &mut Vec<Row>, name: &str, stream: Vec<u8>, per: usize, total: u
         units: (per * rounds) as f64,
         ours: Box::new(move |on| ours::decode(s, if on { per + 1 } else { 0 }, rounds)),
         original: Box::new(move |on| original::decode(s, if on { per + 1 } else { 0 }, rounds)),
+        tenth: None,
     });
     for (kind, fresh) in [("encode", 0), ("encode-fresh", 1)] {
         rows.push(Row {
@@ -187,6 +214,7 @@ fn frames(rows: &mut Vec<Row>, name: &str, stream: Vec<u8>, per: usize, total: u
             units: (per * rounds) as f64,
             ours: Box::new(move |on| ours::encode(s, if on { rounds } else { 0 }, fresh)),
             original: Box::new(move |on| original::encode(s, if on { rounds } else { 0 }, fresh)),
+            tenth: None,
         });
     }
 }
@@ -208,9 +236,94 @@ fn rows() -> Vec<Row> {
             units: 1_000_000.0,
             ours: Box::new(move |on| ours::matched(s, if on { 1000 } else { 0 })),
             original: Box::new(move |on| original::matched(s, if on { 1000 } else { 0 })),
+            tenth: None,
         });
     }
+    calls(&mut rows);
+    loops(&mut rows);
+    growth(&mut rows);
     rows
+}
+
+fn row(name: String, units: usize, ours: Side, original: Side) -> Row {
+    Row { name, units: units as f64, ours, original, tenth: None }
+}
+
+/// The session's calls, with their events taken; no bytes.
+fn calls(rows: &mut Vec<Row>) {
+    let payload = leak(vec![b'x'; 16]);
+    for (limit, window) in [(100, 100), (100, 1)] {
+        let windows = 100_000 / window;
+        rows.push(row(
+            format!("session publish QoS 1 and its ack, {window} at a time"),
+            100_000,
+            Box::new(move |on| ours::send(limit, window, if on { windows } else { 0 }, payload)),
+            Box::new(move |on| original::send(limit, window, if on { windows } else { 0 }, payload)),
+        ));
+    }
+    for acked in [0, 1] {
+        rows.push(row(
+            format!("session incoming publish QoS {acked}"),
+            200_000,
+            Box::new(move |on| ours::hear(acked, if on { 200_000 } else { 0 }, payload)),
+            Box::new(move |on| original::hear(acked, if on { 200_000 } else { 0 }, payload)),
+        ));
+    }
+    rows.push(row(
+        "session ping and its answer".to_string(),
+        400_000,
+        Box::new(move |on| ours::pings(if on { 400_000 } else { 0 })),
+        Box::new(move |on| original::pings(if on { 400_000 } else { 0 })),
+    ));
+    rows.push(row(
+        "session new, limit 100".to_string(),
+        20_000,
+        Box::new(move |on| ours::fresh(100, if on { 20_000 } else { 0 })),
+        Box::new(move |on| original::fresh(100, if on { 20_000 } else { 0 })),
+    ));
+}
+
+/// A stream in pieces of so many bytes, on a new session in each round.
+fn driven(stream: &'static [u8], piece: usize, rounds: usize) -> (Side, Side) {
+    (
+        Box::new(move |on| ours::drive(stream, piece, if on { rounds } else { 0 })),
+        Box::new(move |on| original::drive(stream, piece, if on { rounds } else { 0 })),
+    )
+}
+
+const CUTS: [(usize, &str, usize); 4] = [(usize::MAX, "whole", 100), (1460, "of 1,460", 100), (7, "of 7", 30), (1, "of 1", 10)];
+
+/// The loop.
+fn loops(rows: &mut Vec<Row>) {
+    let stream = leak(publishes(1000, 16, false, 1));
+    for (piece, cut, rounds) in CUTS {
+        let (ours, original) = driven(stream, piece, rounds);
+        rows.push(row(format!("drive 1,000 publishes QoS 1, pieces {cut}"), 1000 * rounds, ours, original));
+    }
+    let (acks, payload) = (leak(pubacks(100)), leak(vec![b'x'; 16]));
+    rows.push(row(
+        "drive 1,000 requests and their acks".to_string(),
+        100_000,
+        Box::new(move |on| ours::requests(acks, 100, if on { 100 } else { 0 }, payload)),
+        Box::new(move |on| original::requests(acks, 100, if on { 100 } else { 0 }, payload)),
+    ));
+}
+
+/// What ten times the bytes cost, as many frames and as one.
+fn growth(rows: &mut Vec<Row>) {
+    let streams = [
+        ("100 to 1,000 publishes", publishes(100, 16, false, 1), publishes(1000, 16, false, 1), 1),
+        ("64 to 640 KiB in a publish", publishes(1, 65_536, false, 1), publishes(1, 655_360, false, 1), 10),
+    ];
+    for (name, small, large, fewer) in streams {
+        let (small, large) = (leak(small), leak(large));
+        for (piece, cut, rounds) in CUTS {
+            let rounds = if piece > 7 { rounds } else { (rounds / fewer).max(3) };
+            let (ours, original) = driven(large, piece, rounds);
+            let tenth = Some(driven(small, piece, rounds));
+            rows.push(Row { name: format!("growth {name}, pieces {cut}"), units: 1.0, ours, original, tenth });
+        }
+    }
 }
 
 const KINDS: [&str; 8] = [
@@ -231,17 +344,28 @@ fn median(values: &mut [f64]) -> f64 {
     values[values.len() / 2]
 }
 
+/// The time of a side: a unit's in nanoseconds, or that beside a tenth of the bytes.
+fn weigh(side: &Side, tenth: Option<&Side>, units: f64) -> (f64, u64) {
+    let (mine, sum) = time(side, units);
+    match tenth {
+        Some(tenth) => (mine / time(tenth, units).0, sum),
+        None => (mine, sum),
+    }
+}
+
 /// Times a row, the sides in turn, after one round that isn't counted; whether the sums are equal.
 fn show(row: &Row, repeats: usize) -> bool {
     let (mut mine, mut theirs, mut ratios) = (vec![], vec![], vec![]);
     let mut same = true;
     for repeat in 0..=repeats {
+        let ours = || weigh(&row.ours, row.tenth.as_ref().map(|it| &it.0), row.units);
+        let original = || weigh(&row.original, row.tenth.as_ref().map(|it| &it.1), row.units);
         let (a, b) = if repeat % 2 == 0 {
-            let a = time(&row.ours, row.units);
-            (a, time(&row.original, row.units))
+            let a = ours();
+            (a, original())
         } else {
-            let b = time(&row.original, row.units);
-            (time(&row.ours, row.units), b)
+            let b = original();
+            (ours(), b)
         };
         same &= a.1 == b.1;
         if repeat > 0 {
@@ -252,9 +376,9 @@ fn show(row: &Row, repeats: usize) -> bool {
     }
     if cfg!(feature = "original") {
         let sums = if same { "equal" } else { "DIFFER" };
-        println!("{:42} {:10.2} {:10.2} {:6.2} {sums}", row.name, median(&mut mine), median(&mut theirs), median(&mut ratios));
+        println!("{:48} {:10.2} {:10.2} {:6.2} {sums}", row.name, median(&mut mine), median(&mut theirs), median(&mut ratios));
     } else {
-        println!("{:42} {:10.2}", row.name, median(&mut mine));
+        println!("{:48} {:10.2}", row.name, median(&mut mine));
     }
     same
 }
@@ -267,17 +391,21 @@ fn main() {
         ["one", side, name, on] => {
             let rows = rows();
             let row = rows.iter().find(|row| row.name == *name).expect("no such row");
-            let side = if *side == "ours" { &row.ours } else { &row.original };
-            println!("units {} sum {}", row.units, side(*on == "on"));
+            let pick = |ours, original| if *side == "ours" { ours } else { original };
+            let (side, work) = match on.strip_prefix("tenth-") {
+                Some(work) => (row.tenth.as_ref().map(|(ours, original)| pick(ours, original)), work),
+                None => (Some(pick(&row.ours, &row.original)), *on),
+            };
+            println!("units {} sum {}", row.units, side.expect("no tenth of this row")(work == "on"));
         }
         [repeats, words @ ..] => {
             let repeats = repeats.parse().expect("how often is a number");
-            println!("{:42} {:>10} {:>10} {:>6}", "row (ns a frame or pair)", "ours", "original", "ratio");
+            println!("{:48} {:>10} {:>10} {:>6}", "row (ns a frame, call or pair; growth: times)", "ours", "original", "ratio");
             let wanted = |row: &&Row| words.is_empty() || words.iter().any(|word| row.name.contains(word));
             if !rows().iter().filter(wanted).fold(true, |same, row| show(row, repeats) & same) {
                 std::process::exit(1);
             }
         }
-        [] => eprintln!("bench REPEATS [WORDS ..] | bench one SIDE ROW on|off | bench rows"),
+        [] => eprintln!("bench REPEATS [WORDS ..] | bench one SIDE ROW [tenth-]on|off | bench rows"),
     }
 }

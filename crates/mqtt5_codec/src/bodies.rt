@@ -47,6 +47,7 @@ pub(crate) fn connack(alloc: Global, header: FixedHeader, bytes: Bytes) -> Resul
     ConnAck::read(alloc, header, bytes)
 }
 
+#[inline(always)]
 #[tactic(auto, using(mqtt5_base::proofs::AnswersLemmas::row_given))]
 pub(crate) fn publish(alloc: Global, header: FixedHeader, bytes: Bytes) -> Result<Publish, Error>
     requires { length bytes ≡ header.fixed_header_len + header.remaining_len }
@@ -55,6 +56,7 @@ pub(crate) fn publish(alloc: Global, header: FixedHeader, bytes: Bytes) -> Resul
     Publish::read(alloc, header, bytes)
 }
 
+#[inline(always)]
 #[tactic(auto, using(mqtt5_base::proofs::AnswersLemmas::row_given))]
 pub(crate) fn puback(alloc: Global, header: FixedHeader, bytes: Bytes) -> Result<PubAck, Error>
     requires { length bytes ≡ header.fixed_header_len + header.remaining_len }
@@ -63,6 +65,7 @@ pub(crate) fn puback(alloc: Global, header: FixedHeader, bytes: Bytes) -> Result
     PubAck::read(alloc, header, bytes)
 }
 
+#[inline(always)]
 #[tactic(auto, using(mqtt5_base::proofs::AnswersLemmas::row_given))]
 pub(crate) fn pubrec(alloc: Global, header: FixedHeader, bytes: Bytes) -> Result<PubRec, Error>
     requires { length bytes ≡ header.fixed_header_len + header.remaining_len }
@@ -71,6 +74,7 @@ pub(crate) fn pubrec(alloc: Global, header: FixedHeader, bytes: Bytes) -> Result
     PubRec::read(alloc, header, bytes)
 }
 
+#[inline(always)]
 #[tactic(auto, using(mqtt5_base::proofs::AnswersLemmas::row_given))]
 pub(crate) fn pubrel(alloc: Global, header: FixedHeader, bytes: Bytes) -> Result<PubRel, Error>
     requires { length bytes ≡ header.fixed_header_len + header.remaining_len }
@@ -79,6 +83,7 @@ pub(crate) fn pubrel(alloc: Global, header: FixedHeader, bytes: Bytes) -> Result
     PubRel::read(alloc, header, bytes)
 }
 
+#[inline(always)]
 #[tactic(auto, using(mqtt5_base::proofs::AnswersLemmas::row_given))]
 pub(crate) fn pubcomp(alloc: Global, header: FixedHeader, bytes: Bytes) -> Result<PubComp, Error>
     requires { length bytes ≡ header.fixed_header_len + header.remaining_len }

@@ -25,6 +25,7 @@ impl Codec {
     /// Takes the frame at the front of the stream out and answers its packet, or None, with the stream
     /// unchanged and nothing reserved, where more bytes are needed. Errors as of `Packet::read`, but
     /// E19.
+    #[inline(always)]
     pub fn decode(&self, alloc: Global, stream: &mut BytesMut) -> Result<Option<Packet>, Error>
         ensures decodes { Decodes result self.now.max_incoming_size stream.old.items stream.new.items }
         ensures reserves { Reserves result stream.old stream.new }

@@ -41,6 +41,7 @@ pub trait Reason: Copy {
         ensures { code result ≡ 0 };
 }
 
+#[inline(always)]
 fn read_fields<R: Reason, P: PropertySet>(
     alloc: Global,
     header: FixedHeader,
@@ -64,6 +65,7 @@ fn read_fields<R: Reason, P: PropertySet>(
 }
 
 /// The identifier, reason and properties of an ack.
+#[inline(always)]
 #[tactic(auto, using(mqtt5_base::proofs::AnswersLemmas::row_said))]
 pub(crate) fn read_ack<R: Reason, P: PropertySet>(
     alloc: Global,
@@ -118,6 +120,7 @@ pub(crate) fn ack_size<R: Reason, P: PropertySet>(reason: R, properties: &Option
 }
 
 /// Appends an ack and answers its length. E11, E21; then the buffer is unchanged.
+#[inline(always)]
 pub(crate) fn write_ack<R: Reason, P: PropertySet>(
     first: u8,
     pkid: u16,

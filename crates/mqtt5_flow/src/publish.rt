@@ -197,6 +197,7 @@ impl Publish {
         })
     }
 
+    #[inline(always)]
     #[tactic(auto, using(mqtt5_base::proofs::Bits::bit_of_mod))]
     fn read_values(alloc: Global, header: FixedHeader, bytes: Bytes) -> Result<Publish, Error>
         requires { length bytes ≡ header.fixed_header_len + header.remaining_len }
@@ -221,6 +222,7 @@ impl Publish {
 
     /// The Publish of a frame's bytes, of which the header is. E7 of a QoS of 3, E9 of a packet
     /// identifier 0 where the QoS is 1 or 2, E14 to E18 of a field that can't be read; E21.
+    #[inline(always)]
     #[tactic(auto, using(mqtt5_base::proofs::AnswersLemmas::row_said))]
     pub fn read(alloc: Global, header: FixedHeader, bytes: Bytes) -> Result<Publish, Error>
         requires { length bytes ≡ header.fixed_header_len + header.remaining_len }
