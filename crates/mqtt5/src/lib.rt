@@ -7,9 +7,11 @@ pub mod mqttbytes;
 #[cfg(test)]
 mod tests;
 
-pub use mqtt5_drive::{Input, Step, cutting, drive, may_start, twice};
+pub use mqtt5_drive::{Input, Step, calls_law, cutting, drive, may_start, twice};
 pub use mqtt5_options::MqttOptions;
-pub use mqtt5_session::{Event, Incoming, MqttState, Outgoing, Request, StateError, ledger_law};
+pub use mqtt5_session::{
+    Event, Incoming, MqttState, Outgoing, Request, StateError, ledger_law, once_law,
+};
 pub use mqtt5_world::{
     Call, Reply, Report, Twin, WorldEvent, delivery_law, play, tokens_law, twin, twin_law,
 };

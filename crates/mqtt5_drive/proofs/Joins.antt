@@ -6,11 +6,11 @@ use Rattle.mqtt5_base.specs.declared.error.Error.{Error}
 use Rattle.mqtt5_codec.specs.declared.codec.Codec.{Codec}
 use Rattle.mqtt5_codec.specs.declared.packet.Packet.{Packet}
 use Rattle.mqtt5_codec.specs.PacketsIn.{packet_in}
+use Rattle.mqtt5_held.specs.declared.error.StateError.{StateError}
+use Rattle.mqtt5_held.specs.declared.error.StateError.TheVariants as faults
 use Rattle.mqtt5_session.specs.Session.{Session}
 use Rattle.mqtt5_session.specs.Requests.{out}
 use Rattle.mqtt5_session.specs.Packets.{inc}
-use Rattle.mqtt5_session.specs.declared.error.StateError.{StateError}
-use Rattle.mqtt5_session.specs.declared.error.StateError.TheVariants as faults
 use Rattle.mqtt5_drive.specs.declared.run.Step.{Step}
 use Rattle.mqtt5_drive.specs.Course.{Course, Rests, Faults, Moves, End, Ending, Holds, Fault, finish, Passes, Stops}
 use Rattle.mqtt5_drive.specs.Run.{Turn, Byte, Ask, of_input, turns, reply_bytes, answered, moved, received, looked, run}

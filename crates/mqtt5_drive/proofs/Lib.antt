@@ -3,3 +3,4 @@ pub mod Ways
 pub mod Taking
 pub mod Cuts
 pub mod Joins
+pub mod Calls

@@ -7,8 +7,8 @@ use Rattle.mqtt5_base.proofs.FrontFound.{front_found}
 use Rattle.mqtt5_base.proofs.FrontLemmas.{front_is}
 use Rattle.mqtt5_codec.specs.declared.codec.Codec.{Codec}
 use Rattle.mqtt5_codec.specs.PacketsIn.{packet_in}
+use Rattle.mqtt5_held.specs.Errors.{state_error}
 use Rattle.mqtt5_session.specs.Session.{Session}
-use Rattle.mqtt5_session.specs.Errors.{state_error}
 use Rattle.mqtt5_drive.specs.Course.{Course, Faults}
 use Rattle.mqtt5_drive.specs.Run.{Turn, bytes_of, received, looked, run}
 

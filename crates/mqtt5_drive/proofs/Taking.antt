@@ -9,12 +9,12 @@ use Rattle.mqtt5_codec.specs.declared.packet.Packet.{Packet}
 use Rattle.mqtt5_codec.specs.Packets.{IsFrameOf}
 use Rattle.mqtt5_codec.proofs.CodecLemmas.{taken_packet, taken_fault}
 use Rattle.mqtt5_codec.specs.Codecs.{Decodes}
+use Rattle.mqtt5_held.specs.Errors.{state_error}
+use Rattle.mqtt5_held.specs.declared.error.StateError.{StateError}
+use Rattle.mqtt5_held.specs.declared.event.Request.{Request}
 use Rattle.mqtt5_session.specs.Session.{Session}
 use Rattle.mqtt5_session.specs.Requests.{out}
 use Rattle.mqtt5_session.specs.Packets.{inc}
-use Rattle.mqtt5_session.specs.Errors.{state_error}
-use Rattle.mqtt5_session.specs.declared.error.StateError.{StateError}
-use Rattle.mqtt5_session.specs.declared.event.Request.{Request}
 use Rattle.mqtt5_drive.specs.Ways.{LeadsTo, Goes, Drained}
 use Rattle.mqtt5_drive.specs.Course.{Course, finish, Stops, Holds}
 use Rattle.mqtt5_drive.specs.Run.{Turn, Ask, bytes_of, stepped, received, run, IsMore}

@@ -1,7 +1,7 @@
 -- Courses that lead to one another.
 use Rattle.std.proofs.Common.{◌≡◌, ℕ, List, refl, sym, ap, subst, ◌∙◌, inl, inr}
+use Rattle.mqtt5_held.specs.declared.error.StateError.{StateError}
 use Rattle.mqtt5_session.specs.Session.{Session}
-use Rattle.mqtt5_session.specs.declared.error.StateError.{StateError}
 use Rattle.mqtt5_drive.specs.Ways.{LeadsTo}
 use Rattle.mqtt5_drive.specs.Course.{Course, Rests, Faults, Moves, finish, Passes, Stops}
 

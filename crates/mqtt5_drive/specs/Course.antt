@@ -1,8 +1,8 @@
 -- What a run does, move by move.
 use Rattle.std.specs.Prelude.{◌≡◌, ℕ, ◌⊎◌, List, ◌++◌}
+use Rattle.mqtt5_held.specs.declared.error.StateError.{StateError}
+use Rattle.mqtt5_held.specs.declared.error.StateError.TheVariants as faults
 use Rattle.mqtt5_session.specs.Session.{Session}
-use Rattle.mqtt5_session.specs.declared.error.StateError.{StateError}
-use Rattle.mqtt5_session.specs.declared.error.StateError.TheVariants as faults
 
 -- The moves of a run, each a request or a packet that the session took, with the session after it and the bytes of its
 -- reply; and how it ends: with the bytes that are held, or with a fault.

@@ -1,3 +1,4 @@
 pub mod Course
 pub mod Run
+pub mod Calls
 pub mod Ways

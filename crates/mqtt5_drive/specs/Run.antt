@@ -8,12 +8,12 @@ use Rattle.mqtt5_codec.specs.declared.packet.Packet.{Packet}
 use Rattle.mqtt5_codec.specs.declared.codec.Codec.{Codec}
 use Rattle.mqtt5_codec.specs.Packets.{writing_under}
 use Rattle.mqtt5_codec.specs.PacketsIn.{packet_in}
+use Rattle.mqtt5_held.specs.Errors.{state_error}
+use Rattle.mqtt5_held.specs.declared.event.Request.{Request}
+use Rattle.mqtt5_held.specs.declared.error.StateError.{StateError}
 use Rattle.mqtt5_session.specs.Session.{Session, Answer}
 use Rattle.mqtt5_session.specs.Requests.{out}
 use Rattle.mqtt5_session.specs.Packets.{inc}
-use Rattle.mqtt5_session.specs.Errors.{state_error}
-use Rattle.mqtt5_session.specs.declared.event.Request.{Request}
-use Rattle.mqtt5_session.specs.declared.error.StateError.{StateError}
 use Rattle.mqtt5_drive.specs.declared.run.Step.{Step}
 use Rattle.mqtt5_drive.specs.declared.run.Input.{Input}
 use Rattle.mqtt5_drive.specs.declared.run.Input.TheVariants as inputs

@@ -5,4 +5,4 @@ mod run;
 #[cfg(test)]
 mod tests;
 
-pub use run::{Input, Step, cutting, drive, may_start, twice};
+pub use run::{Input, Step, calls_law, cutting, drive, may_start, twice};

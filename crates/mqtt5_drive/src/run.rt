@@ -1,14 +1,17 @@
 //! The loop: bytes in pieces and requests go in, frames and events come out.
 
-ghost use Rattle.std.specs.Prelude.{◌≡◌, ℕ, Some, List, [], ◌++◌, map, Option, IfErr, OnOk, IsOk};
+ghost use Rattle.std.specs.Prelude.{◌≡◌, ◌+◌, ℕ, Some, List, [], ◌++◌, map, Option, IfErr, OnOk, IsOk};
 ghost use Rattle.std.specs.List.{concat};
 ghost use Rattle.mqtt5_base.specs.FrontAt.{front};
 ghost use Rattle.mqtt5_codec.specs.declared.codec.Codec.{Codec};
 ghost use Rattle.mqtt5_session.specs.Session.{Session};
 ghost use Rattle.mqtt5_session.specs.Requests.{out};
 ghost use Rattle.mqtt5_session.specs.Packets.{inc};
+ghost use Rattle.mqtt5_session.specs.Ledger.{after_all};
+ghost use Rattle.mqtt5_session.specs.Once.{kept_id, notified_by, released_by};
 ghost use Rattle.mqtt5_drive.specs.Ways.{LeadsTo, Goes, Replies};
 ghost use Rattle.mqtt5_drive.specs.Course.{Holds, finish, Stops};
+ghost use Rattle.mqtt5_drive.specs.Calls.{calls_of};
 ghost use Rattle.mqtt5_drive.specs.Run.{Turn, bytes_of, of_input, turns, reply_bytes, run, IsMore, piece};
 
 use bytes::{Bytes, BytesMut};
@@ -62,8 +65,12 @@ fn deliver(
 ) -> Result<(), StateError>
     ensures { Goes result codec.now (inc state.old packet at) state.old output.old.items state.new output.new.items }
 {
-    match state.handle_incoming_packet(packet, at) {
-        Ok(reply) => answer(codec, output, &reply),
+    let heard = state.handle_incoming_packet(packet, at);
+    if let Ok(reply) = &heard {
+        return answer(codec, output, reply);
+    }
+    match heard {
+        Ok(_answered) => Ok(()),
         Err(error) => Err(error),
     }
 }
@@ -81,8 +88,12 @@ fn ask(
     let Ok(request) = copied(request) else {
         return Err(StateError::OutOfMemory);
     };
-    match state.handle_outgoing_packet(request, at) {
-        Ok(reply) => answer(codec, output, &reply),
+    let sent = state.handle_outgoing_packet(request, at);
+    if let Ok(reply) = &sent {
+        return answer(codec, output, reply);
+    }
+    match sent {
+        Ok(_answered) => Ok(()),
         Err(error) => Err(error),
     }
 }
@@ -189,4 +200,16 @@ pub fn twice()
         → finish s o (run codec (turns first) s held) ≡ record { session = t; output = u; ending = Holds left }
         → Stops why t u (run codec (turns second) t left) v w
         → Stops why s o (run codec (turns (first ++ second)) s held) v w }
+{}
+
+/// A law, which does nothing when it is called: a run is a list of calls of its session, so a publish of QoS 2
+/// from the broker is handed on once over every run.
+pub fn calls_law()
+    // A run leaves the session that its calls leave.
+    ensures session { (codec : Codec) (ts : List Turn) (s : Session) (held output : List ℕ)
+        → (finish s output (run codec ts s held)).session ≡ after_all s (calls_of codec ts s held) }
+    // Each id that is kept or was released was kept before or handed on.
+    ensures once { (codec : Codec) (ts : List Turn) (s : Session) (held output : List ℕ) (id : ℕ)
+        → kept_id id (finish s output (run codec ts s held)).session.core + released_by id s (calls_of codec ts s held)
+        ≡ kept_id id s.core + notified_by id s (calls_of codec ts s held) }
 {}

@@ -3,7 +3,7 @@
 ghost use Rattle.std.specs.Prelude.{◌≡◌, ◌↔◌, Some, codes};
 ghost use Rattle.hex.specs.declared.error.FromHexError.TheVariants as hex_errors;
 ghost use Rattle.mqtt5_base.specs.declared.error.Error.TheVariants as base_errors;
-ghost use Rattle.mqtt5_session.specs.declared.event.Request.TheVariants as requests;
+ghost use Rattle.mqtt5_held.specs.declared.event.Request.TheVariants as requests;
 ghost use Rattle.mqtt5_program.specs.declared.script.ScriptError.TheVariants as script_errors;
 ghost use Rattle.mqtt5_program.specs.declared.script.LineError.TheVariants as line_errors;
 

@@ -92,8 +92,13 @@ const SCRIPTS: &[(&str, &str, u8)] = &[
     ),
     (
         "in 1 340700016100070078\nin 2 62020007\nin 3 62020007\n",
-        "out 5002000770020007\ngot Publish 7 61 78\nsent PubRec 7\ngot PubRel 7\nsent PubComp 7\ngot PubRel 7\ninflight 0\nfault S2 7\n",
-        1,
+        "out 5002000770020007700400079200\ngot Publish 7 61 78\nsent PubRec 7\ngot PubRel 7\nsent PubComp 7\ngot PubRel 7\nsent PubComp 7\ninflight 0\n",
+        0,
+    ),
+    (
+        "in 0 340700016100070078\nin 0 340700016100070078\n",
+        "out 5002000750020007\ngot Publish 7 61 78\nsent PubRec 7\nsent PubRec 7\ninflight 0\n",
+        0,
     ),
     (
         "in 1 50020007\n",
@@ -185,8 +190,8 @@ const SCRIPTS_OF_FEW: &[(&str, &str, &str, u8)] = &[
     (
         "drive 2",
         "in 0 62020001\n",
-        "out -\ngot PubRel 1\ninflight 0\nfault S2 1\n",
-        1,
+        "out 700400019200\ngot PubRel 1\nsent PubComp 1\ninflight 0\n",
+        0,
     ),
     (
         "drive 2",

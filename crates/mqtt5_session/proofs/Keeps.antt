@@ -16,23 +16,26 @@ use Rattle.mqtt5_link.specs.declared.connack.ConnectReturnCode.TheVariants as re
 use Rattle.mqtt5_link.specs.declared.connack.ConnAckProperties.{ConnAckProperties}
 use Rattle.mqtt5_codec.specs.declared.packet.Packet.{Packet}
 use Rattle.mqtt5_codec.specs.declared.packet.Packet.TheVariants as packets
-use Rattle.mqtt5_session.specs.declared.slot.Slot.{Slot}
-use Rattle.mqtt5_session.specs.declared.slot.Slot.TheVariants.{Sent, Released}
-use Rattle.mqtt5_session.specs.declared.event.Request.{Request}
-use Rattle.mqtt5_session.specs.declared.event.Request.TheVariants as requests
-use Rattle.mqtt5_session.specs.declared.event.Outgoing.{Outgoing}
-use Rattle.mqtt5_session.specs.declared.error.StateError.{StateError}
-use Rattle.mqtt5_session.specs.Held.{Held}
+use Rattle.mqtt5_held.specs.declared.slot.Slot.{Slot}
+use Rattle.mqtt5_held.specs.declared.slot.Slot.TheVariants.{Sent, Released}
+use Rattle.mqtt5_held.specs.declared.event.Request.{Request}
+use Rattle.mqtt5_held.specs.declared.event.Request.TheVariants as requests
+use Rattle.mqtt5_held.specs.declared.event.Outgoing.{Outgoing}
+use Rattle.mqtt5_held.specs.declared.error.StateError.{StateError}
+use Rattle.mqtt5_held.specs.Held.{Held}
+use Rattle.mqtt5_held.specs.Unacked.{alias_again, by_id}
+use Rattle.mqtt5_held.specs.Resent.{packets_of}
+use Rattle.mqtt5_held.proofs.Within.{no_ids, Fits, IsUsed, with_used, without, none_used, within_fits}
+use Rattle.mqtt5_held.proofs.Counts.{requests_len}
 use Rattle.mqtt5_session.specs.Release.{IsCounted}
 use Rattle.mqtt5_session.specs.Session.{Core, Session, Answer, fresh}
 use Rattle.mqtt5_session.specs.Requests.{out, next_id, unless, over_maximum, Verdict, Refuse, Wait, Store, out_acked, out_publish, out_release, out_known, id_for, last_after, ping_fault, counts_ping}
-use Rattle.mqtt5_session.specs.Packets.{inc, heard, hears, told, freed_for, on_puback, on_received, on_pubrec, on_pubcomp, on_pubrel, on_publish, on_qos, answers, on_connack, is_taken, topic_of}
-use Rattle.mqtt5_session.specs.Cleaning.{alias_again, by_id, cleaned, resume_of}
-use Rattle.mqtt5_session.specs.Again.{sent_unless, packets_of}
+use Rattle.mqtt5_session.specs.Packets.{inc, heard, hears, notes, told, freed_for, on_puback, on_received, on_pubrec, on_pubcomp, on_pubrel, on_publish, on_qos, answers, on_connack, is_taken, topic_of}
+use Rattle.mqtt5_session.specs.Cleaning.{cleaned, resume_of}
+use Rattle.mqtt5_session.specs.Again.{sent_unless}
 use Rattle.mqtt5_session.specs.Ledger.{owed, Call, Ask, Hear, Error, Clean, Resume, kept_by, after, added, taken, after_all, added_by, taken_by, IsLedger}
-use Rattle.mqtt5_session.proofs.Within.{no_ids, Fits, IsUsed, with_used, without, none_used, within_fits}
 use Rattle.mqtt5_session.proofs.Resume.{resumes}
-use Rattle.mqtt5_session.proofs.Owed.{choose, Judges, judges, out_adds, inc_takes, requests_len}
+use Rattle.mqtt5_session.proofs.Owed.{choose, Judges, judges, out_adds, inc_takes}
 
 -- ids in use lie in 1..=limit, publishes stand under their own, and what waits isn't of QoS 0
 abbrev pub Sound : Core → Type 0
@@ -145,14 +148,18 @@ heard_sound : (s : Session) (packet : Packet) (at : ℕ) → Sound s.core → So
 heard_sound s (packets.PubAck p) at i = puback_sound (get s.core.held p.pkid) s p.pkid at refl i
 heard_sound s (packets.PubRec p) at i = pubrec_sound (get s.core.held p.pkid) s p.reason p.pkid at refl i
 heard_sound s (packets.PubComp p) at i = pubcomp_sound (get s.core.held p.pkid) s p.pkid at refl i
-heard_sound s (packets.PubRel p) at i = pubrel_sound (set.contains s.incoming p.pkid) s p.reason p.pkid at i
+heard_sound s (packets.PubRel p) at i = pubrel_sound (set.contains s.core.incoming p.pkid) s p.reason p.pkid at i
 heard_sound s (packets.Publish p) at i = publish_heard (is_some (topic_of s p)) s p at i
 heard_sound s (packets.ConnAck p) at i = connack_sound p.code p.properties s at i
 heard_sound s packet at i = i
 
 pub inc_sound : (s : Session) (packet : Packet) (at : ℕ) → Sound s.core → Sound (inc s packet at).1.core
 unfolding inc
-inc_sound s packet at i = heard_sound (hears s (told s packet)) packet at i
+inc_sound s packet at i = noted (told s packet)
+  where
+    noted : (o : Option Packet) → Sound (heard (notes s o) packet at).1.core
+    noted None = heard_sound s packet at i
+    noted (Some x) = heard_sound (hears s x) packet at i
 
 -- ---- any call
 

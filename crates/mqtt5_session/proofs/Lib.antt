@@ -1,7 +1,5 @@
-pub mod Within
-pub mod Trees
-pub mod Entries
 pub mod Sets
 pub mod Resume
 pub mod Owed
+pub mod Once
 pub mod Keeps

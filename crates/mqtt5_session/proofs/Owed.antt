@@ -1,13 +1,9 @@
 -- What each call does to what is owed.
-use Rattle.std.proofs.Common.{◌≡◌, ℕ, zero, suc, ◌+◌, ◌-◌, ◌<◌, ◌≤◌, Bool, true, false, cond, List, ◌==◌, length, Option, Some, None, Result, Err, refl, sym, ap, ◌∙◌, subst, arith, nat_lt, inl, inr}
-use Rattle.std.proofs.lemmas.List.{length-append}
-use Rattle.std.proofs.lemmas.Bool.{ltb-false, false≢true}
-use Rattle.std.proofs.Math.Nat.{eq-zero-or-pos}
+use Rattle.std.proofs.Common.{◌≡◌, ℕ, ◌+◌, ◌≤◌, Bool, true, false, cond, ◌==◌, length, Option, Some, None, Result, Err, refl, sym, ap, ◌∙◌, arith, nat_lt}
+use Rattle.std.proofs.lemmas.Bool.{ltb-false}
 use Rattle.std.specs.Prelude.{is_some}
-use Rattle.std.specs.Cmp.{nat_cmp_total}
-use Rattle.std.specs.FinMap.{get, len, insert, remove, contains_key, get-empty, empty_of_len, len-insert, len-remove, len-empty}
+use Rattle.std.specs.FinMap.{get, len, insert, remove, contains_key}
 use Rattle.std.specs.FinSet as set
-use Rattle.std.specs.Ordering.{nat_cmp}
 use Rattle.mqtt5_base.specs.declared.quality.QoS.{QoS}
 use Rattle.mqtt5_base.specs.declared.quality.QoS.TheVariants.{AtMostOnce, AtLeastOnce, ExactlyOnce}
 use Rattle.mqtt5_flow.specs.declared.publish.Publish.{Publish}
@@ -19,21 +15,18 @@ use Rattle.mqtt5_link.specs.declared.connack.ConnectReturnCode.TheVariants as re
 use Rattle.mqtt5_link.specs.declared.connack.ConnAckProperties.{ConnAckProperties}
 use Rattle.mqtt5_codec.specs.declared.packet.Packet.{Packet}
 use Rattle.mqtt5_codec.specs.declared.packet.Packet.TheVariants as packets
-use Rattle.mqtt5_session.specs.declared.slot.Slot.{Slot}
-use Rattle.mqtt5_session.specs.declared.slot.Slot.TheVariants.{Sent, Released}
-use Rattle.mqtt5_session.specs.declared.event.Request.{Request}
-use Rattle.mqtt5_session.specs.declared.event.Request.TheVariants as requests
-use Rattle.mqtt5_session.specs.declared.event.Outgoing.{Outgoing}
-use Rattle.mqtt5_session.specs.declared.error.StateError.{StateError}
-use Rattle.mqtt5_session.specs.declared.error.StateError.TheVariants as errors
-use Rattle.mqtt5_session.specs.Held.{Held}
+use Rattle.mqtt5_held.specs.declared.slot.Slot.{Slot}
+use Rattle.mqtt5_held.specs.declared.slot.Slot.TheVariants.{Sent, Released}
+use Rattle.mqtt5_held.specs.declared.event.Request.{Request}
+use Rattle.mqtt5_held.specs.declared.event.Request.TheVariants as requests
+use Rattle.mqtt5_held.specs.declared.event.Outgoing.{Outgoing}
+use Rattle.mqtt5_held.specs.declared.error.StateError.{StateError}
+use Rattle.mqtt5_held.specs.declared.error.StateError.TheVariants as errors
+use Rattle.mqtt5_held.proofs.Counts.{len_used, len_free, len_removed}
 use Rattle.mqtt5_session.specs.Session.{Core, Session, Answer, Sends, Hears}
 use Rattle.mqtt5_session.specs.Requests.{out, unless, over_maximum, judged, by_alias, by_use, Verdict, Refuse, Wait, Store, out_acked, out_publish, out_release, out_known, id_for, last_after, counts_ping, ping_fault}
-use Rattle.mqtt5_session.specs.Packets.{inc, heard, hears, told, freed_for, on_puback, on_received, on_pubrec, on_pubcomp, on_pubrel, on_publish, on_qos, answers, on_connack, is_taken, topic_of}
-use Rattle.mqtt5_session.specs.Cleaning.{by_id, publish_again, release_again, requests_of}
+use Rattle.mqtt5_session.specs.Packets.{inc, heard, hears, notes, told, freed_for, on_puback, on_received, on_pubrec, on_pubcomp, on_pubrel, on_publish, on_qos, answers, on_connack, is_taken, topic_of}
 use Rattle.mqtt5_session.specs.Ledger.{one_of, owed, owed_at, adds, ends, accepted}
-use Rattle.mqtt5_session.proofs.Within.{no_ids, Fits}
-use Rattle.mqtt5_session.proofs.Resume.{is_sent, is_kept, with_slot, map_to, above, FreeFor, free_first, free_then, whole_map}
 
 -- what an answer owes, where n is added on success
 abbrev Adds : Session → ℕ → Answer → Type 0
@@ -50,27 +43,6 @@ choose P false x y f g = g refl
 unless_adds : (s : Session) (n : ℕ) (e : Option StateError) (a : Answer) → Adds s n a → Adds s n (unless e s a)
 unless_adds s n None a h = h
 unless_adds s n (Some e) a h = omega arith
-
--- ---- the number of ids
-
-len_used : (m : Held) (id : ℕ) (x y : Slot) → get m id ≡ Some x → len (insert m id y) ≡ len m
-len_used m id x y e = len-insert nat_cmp_total m id y ∙ ap (λ b. cond b (len m) (len m + 1)) (ap is_some e)
-
-len_free : (m : Held) (id : ℕ) (y : Slot) → get m id ≡ None → len (insert m id y) ≡ len m + 1
-len_free m id y e = len-insert nat_cmp_total m id y ∙ ap (λ b. cond b (len m) (len m + 1)) (ap is_some e)
-
--- an id in use is counted
-one_in_use : (m : Held) (i : ℕ) → contains_key m i ≡ true → 0 < len m
-one_in_use m i e = elim (eq-zero-or-pos (len m)) [
-  | inl z ↦ absurd (false≢true (ap is_some (sym (get-empty nat_cmp i)) ∙ ap (λ k. contains_key k i) (sym (empty_of_len m z)) ∙ e))
-  | inr p ↦ p
-]
-
-len_removed : (m : Held) (id : ℕ) (x : Slot) → get m id ≡ Some x → len (remove m id) + 1 ≡ len m
-len_removed m id x e =
-    let some : 0 < len m = one_in_use m id (ap is_some e) in
-    let less : len (remove m id) ≡ len m - 1 = len-remove nat_cmp_total m id ∙ ap (λ b. cond b (len m - 1) (len m)) (ap is_some e) in
-    omega arith
 
 -- ---- requests
 
@@ -185,14 +157,18 @@ heard_takes : (s : Session) (packet : Packet) (at : ℕ) → Takes s (ends packe
 heard_takes s (packets.PubAck p) at = puback_takes (get s.core.held p.pkid) s p.pkid at refl
 heard_takes s (packets.PubRec p) at = pubrec_takes (get s.core.held p.pkid) s p.reason p.pkid at refl
 heard_takes s (packets.PubComp p) at = pubcomp_takes (get s.core.held p.pkid) s p.pkid at refl
-heard_takes s (packets.PubRel p) at = pubrel_takes (set.contains s.incoming p.pkid) s p.reason p.pkid at
+heard_takes s (packets.PubRel p) at = pubrel_takes (set.contains s.core.incoming p.pkid) s p.reason p.pkid at
 heard_takes s (packets.Publish p) at = publish_takes (is_some (topic_of s p)) s p at
 heard_takes s (packets.ConnAck p) at = connack_takes p.code p.properties s at
 heard_takes s packet at = omega arith
 
 pub inc_takes : (s : Session) (packet : Packet) (at : ℕ) → Takes s (ends packet) (inc s packet at)
 unfolding inc
-inc_takes s packet at = heard_takes (hears s (told s packet)) packet at
+inc_takes s packet at = noted (told s packet)
+  where
+    noted : (o : Option Packet) → Takes s (ends packet) (heard (notes s o) packet at)
+    noted None = heard_takes s packet at
+    noted (Some x) = heard_takes (hears s x) packet at
 
 -- ---- the clauses of calls
 
@@ -203,45 +179,3 @@ adds_of result old new n a law h = ap (λ s. owed s.core) h.1 ∙ law ∙ ap (λ
 pub takes_of : (result : Result (Option Packet) StateError) (old new : Session) (n : ℕ) (a : Answer) → Takes old n a → Hears result old new a → owed new.core + accepted result n ≡ owed old.core
 takes_of (Err errors.OutOfMemory) old new n a law h = let e = ap (λ s. owed s.core) h in omega arith
 takes_of result old new n a law h = ap (λ s. owed s.core + accepted result n) h.1 ∙ ap (λ x. owed a.1.core + accepted x n) h.0 ∙ law
-
--- ---- what a clean gives
-
-abbrev chosen : (Slot → Bool) → Option Slot → ℕ
-chosen ok None = 0
-chosen ok (Some x) = cond (ok x) 1 0
-
-len_with : (ok : Slot → Bool) (id : ℕ) (x : Option Slot) (b : Held) → FreeFor ok x (get b id) → len (with_slot ok id x b) ≡ len b + chosen ok x
-len_with ok id None b free = omega arith
-len_with ok id (Some x) b free = by (ok x) free
-  where
-    by : (t : Bool) → (t ≡ true → get b id ≡ None) → len (cond t (insert b id x) b) ≡ len b + cond t 1 0
-    by true free = len_free b id x (free refl)
-    by false free = omega arith
-
-len_to : (ok : Slot → Bool) (f : ℕ → Option Slot → List Request) → ((id : ℕ) (x : Option Slot) → length (f id x) ≡ chosen ok x) → (h b : Held) → ((k : ℕ) → FreeFor ok (get h k) (get b k)) → (n : ℕ) → len (map_to ok n h b) ≡ len b + length (by_id f n h)
-len_to ok f one h b free zero = omega arith
-len_to ok f one h b free (suc n) =
-    let here = len_with ok (suc n) (get h (suc n)) (map_to ok n h b) (subst (FreeFor ok (get h (suc n))) (sym (above ok h b n (suc n) (omega arith))) (free (suc n))) in
-    let rest = len_to ok f one h b free n in
-    let some = one (suc n) (get h (suc n)) in
-    let both = length-append (by_id f n h) (f (suc n) (get h (suc n))) in
-    omega arith
-
-one_sent : (id : ℕ) (x : Option Slot) → length (publish_again id x) ≡ chosen is_sent x
-one_sent id None = refl
-one_sent id (Some (Sent p)) = refl
-one_sent id (Some Released) = refl
-
-one_kept : (id : ℕ) (x : Option Slot) → length (release_again id x) ≡ chosen is_kept x
-one_kept id None = refl
-one_kept id (Some (Sent p)) = refl
-one_kept id (Some Released) = refl
-
-pub requests_len : (limit : ℕ) (h : Held) → ((k : ℕ) → Fits limit k (get h k)) → length (requests_of limit h) ≡ len h
-requests_len n h fit =
-    let sent = len_to is_sent publish_again one_sent h no_ids (free_first h) n in
-    let kept = len_to is_kept release_again one_kept h (map_to is_sent n h no_ids) (λ k. free_then n h k (fit k)) n in
-    let none : len no_ids ≡ 0 = len-empty nat_cmp _ in
-    let whole = ap len (whole_map n h fit) in
-    let both = length-append (by_id publish_again n h) (by_id release_again n h) in
-    omega arith

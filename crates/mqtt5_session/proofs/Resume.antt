@@ -1,29 +1,30 @@
 -- To resume sends the packets of what is held, in one piece, and keeps what is held.
-use Rattle.std.proofs.Common.{◌≡◌, ◌≢◌, ℕ, zero, suc, ◌<◌, ◌≤◌, Bool, true, false, cond, List, [], ◌∷◌, ◌++◌, ◌==◌, Option, Some, None, Result, Ok, Err, refl, sym, ap, ◌∙◌, subst, ⊎_elim, arith, le-ltb, ne_eqb, append_assoc, append-nil}
+use Rattle.std.proofs.Common.{◌≡◌, ◌≢◌, ℕ, zero, suc, ◌<◌, ◌≤◌, Bool, false, cond, List, [], ◌∷◌, ◌++◌, ◌==◌, Option, Some, None, Result, Ok, Err, refl, sym, ap, ◌∙◌, subst, arith, le-ltb, ne_eqb, append_assoc, append-nil}
 use Rattle.std.specs.List.{filter_map}
 use Rattle.std.specs.Option.{option_to_list}
 use Rattle.std.proofs.lemmas.List.Elements.{filter_map-append}
-use Rattle.std.proofs.lemmas.Bool.{cases_eq}
-use Rattle.std.specs.Cmp.{nat_cmp_total}
-use Rattle.std.specs.Ordering.{nat_cmp}
-use Rattle.std.specs.FinMap.{get, insert, empty, same_map, get-empty, nat_cmp-IsAntisymmetric}
+use Rattle.std.specs.FinMap.{get, insert, empty}
 use Rattle.mqtt5_base.specs.declared.quality.QoS.{QoS}
 use Rattle.mqtt5_base.specs.declared.quality.QoS.TheVariants.{AtMostOnce, AtLeastOnce, ExactlyOnce}
 use Rattle.mqtt5_flow.specs.declared.publish.Publish.{Publish}
 use Rattle.mqtt5_codec.specs.declared.packet.Packet.{Packet}
 use Rattle.mqtt5_codec.specs.declared.packet.Packet.TheVariants as packets
-use Rattle.mqtt5_session.specs.declared.slot.Slot.{Slot}
-use Rattle.mqtt5_session.specs.declared.slot.Slot.TheVariants.{Sent, Released}
-use Rattle.mqtt5_session.specs.declared.event.Request.{Request}
-use Rattle.mqtt5_session.specs.declared.event.Request.TheVariants as requests
-use Rattle.mqtt5_session.specs.declared.error.StateError.{StateError}
-use Rattle.mqtt5_session.specs.declared.error.StateError.TheVariants as errors
-use Rattle.mqtt5_session.specs.Held.{Held, IsWithin}
+use Rattle.mqtt5_held.specs.declared.slot.Slot.{Slot}
+use Rattle.mqtt5_held.specs.declared.slot.Slot.TheVariants.{Sent, Released}
+use Rattle.mqtt5_held.specs.declared.event.Request.{Request}
+use Rattle.mqtt5_held.specs.declared.event.Request.TheVariants as requests
+use Rattle.mqtt5_held.specs.declared.error.StateError.{StateError}
+use Rattle.mqtt5_held.specs.declared.error.StateError.TheVariants as errors
+use Rattle.mqtt5_held.specs.Held.{Held, IsWithin}
+use Rattle.mqtt5_held.specs.Aliases.{alias_of, alias_over}
+use Rattle.mqtt5_held.specs.Unacked.{alias_again, by_id, publish_again, release_again}
+use Rattle.mqtt5_held.specs.Resent.{packet_for, packets_of}
+use Rattle.mqtt5_held.proofs.Within.{Fits, fits}
+use Rattle.mqtt5_held.proofs.Parts.{is_sent, is_kept, with_slot, map_to, above, FreeFor, free_first, free_then, whole_map}
 use Rattle.mqtt5_session.specs.Session.{Session, Answer}
-use Rattle.mqtt5_session.specs.Requests.{out, alias_of, alias_over, alias_fault, id_for, last_after, by_alias, by_use, over_maximum, Refuse, Store, out_acked, out_identified, out_publish, out_release, out_known, stored}
-use Rattle.mqtt5_session.specs.Cleaning.{alias_again, by_id, publish_again, release_again, cleaned, Sendings, with_reply, send_all, resume_of}
-use Rattle.mqtt5_session.specs.Again.{packet_for, event_for, moment_after, after_sent, sent_unless, packets_of, resumed}
-use Rattle.mqtt5_session.proofs.Within.{no_ids, get_insert_same, get_insert_other, Fits, fits}
+use Rattle.mqtt5_session.specs.Requests.{out, alias_fault, id_for, last_after, by_alias, by_use, over_maximum, Refuse, Store, out_acked, out_identified, out_publish, out_release, out_known, stored}
+use Rattle.mqtt5_session.specs.Cleaning.{cleaned, Sendings, with_reply, send_all, resume_of}
+use Rattle.mqtt5_session.specs.Again.{event_for, moment_after, after_sent, sent_unless, resumed}
 
 -- ---- one list of requests after another
 
@@ -80,85 +81,7 @@ sent_then : (xs ys : List ℕ) (ps qs : List Packet) (m k : Held) (s : Session) 
 sent_then (x ∷ xs) ys ps qs m k s f at e = refl
 sent_then [] ys ps qs m k s f at e = ap (sent_before ps) e ∙ both_sent [] ys ps qs m k s at
 
--- ---- the map, id by id
-
-abbrev pub is_sent : Slot → Bool
-is_sent (Sent p) = true
-is_sent Released = false
-
-abbrev pub is_kept : Slot → Bool
-is_kept (Sent p) = false
-is_kept Released = true
-
--- what is known of an id is put into a map, where it is chosen
-abbrev pub with_slot : (Slot → Bool) → ℕ → Option Slot → Held → Held
-with_slot ok id None b = b
-with_slot ok id (Some x) b = cond (ok x) (insert b id x) b
-
-abbrev pub map_to : (Slot → Bool) → ℕ → Held → Held → Held
-map_to ok zero h b = b
-map_to ok (suc n) h b = with_slot ok (suc n) (get h (suc n)) (map_to ok n h b)
-
-abbrev pick : (Slot → Bool) → Option Slot → Option Slot → Option Slot
-pick ok None o = o
-pick ok (Some x) o = cond (ok x) (Some x) o
-
-get_with_same : (ok : Slot → Bool) (id : ℕ) (x : Option Slot) (b : Held) → get (with_slot ok id x b) id ≡ pick ok x (get b id)
-get_with_same ok id None b = refl
-get_with_same ok id (Some x) b = by (ok x)
-  where
-    by : (t : Bool) → get (cond t (insert b id x) b) id ≡ cond t (Some x) (get b id)
-    by true = get_insert_same b id x
-    by false = refl
-
-get_with_other : (ok : Slot → Bool) (id : ℕ) (x : Option Slot) (b : Held) (k : ℕ) → k ≢ id → get (with_slot ok id x b) k ≡ get b k
-get_with_other ok id None b k ne = refl
-get_with_other ok id (Some x) b k ne = by (ok x)
-  where
-    by : (t : Bool) → get (cond t (insert b id x) b) k ≡ get b k
-    by true = get_insert_other b id x k ne
-    by false = refl
-
-module _ (ok : Slot → Bool) (h b : Held) where
-  pub above : (n k : ℕ) → n < k → get (map_to ok n h b) k ≡ get b k
-  above zero k a = refl
-  above (suc n) k a = get_with_other ok (suc n) (get h (suc n)) (map_to ok n h b) k (λ e. absurd (omega arith)) ∙ above n k (omega arith)
-
-  inside : (n k : ℕ) → 0 < k → k ≤ n → get (map_to ok n h b) k ≡ pick ok (get h k) (get b k)
-  inside zero k low high = absurd (omega arith)
-  inside (suc n) k low high = ⊎_elim
-      (λ (e : k ≡ suc n). subst (λ j. get (map_to ok (suc n) h b) j ≡ pick ok (get h j) (get b j)) (sym e) (get_with_same ok (suc n) (get h (suc n)) (map_to ok n h b) ∙ ap (pick ok (get h (suc n))) (above n (suc n) (omega arith))))
-      (λ (ne : k ≢ suc n). get_with_other ok (suc n) (get h (suc n)) (map_to ok n h b) k ne ∙ inside n k low (omega arith))
-      (cases_eq k (suc n))
-
-  unknown : (n k : ℕ) → get h k ≡ None → get (map_to ok n h b) k ≡ get b k
-  unknown zero k e = refl
-  unknown (suc n) k e = ⊎_elim
-      (λ (same : k ≡ suc n). ap (λ x. get (with_slot ok (suc n) x (map_to ok n h b)) k) (ap (get h) (sym same) ∙ e) ∙ unknown n k e)
-      (λ (ne : k ≢ suc n). get_with_other ok (suc n) (get h (suc n)) (map_to ok n h b) k ne ∙ unknown n k e)
-      (cases_eq k (suc n))
-
-both_parts : (x : Option Slot) → pick is_kept x (pick is_sent x None) ≡ x
-both_parts None = refl
-both_parts (Some Released) = refl
-both_parts (Some (Sent p)) = refl
-
-module _ (limit : ℕ) (h : Held) (ok : (k : ℕ) → Fits limit k (get h k)) where
-  pub whole_map : map_to is_kept limit h (map_to is_sent limit h empty) ≡ h
-  whole_map = same_map nat_cmp_total nat_cmp-IsAntisymmetric _ _ (λ k. by k (get h k) refl (ok k))
-    where
-      by : (k : ℕ) (x : Option Slot) → get h k ≡ x → Fits limit k x → get (map_to is_kept limit h (map_to is_sent limit h empty)) k ≡ get h k
-      by k None e f = unknown is_kept h (map_to is_sent limit h empty) limit k e ∙ unknown is_sent h empty limit k e ∙ get-empty nat_cmp k ∙ sym e
-      by k (Some x) e f =
-          inside is_kept h (map_to is_sent limit h empty) limit k f.low f.high
-          ∙ ap (pick is_kept (get h k)) (inside is_sent h empty limit k f.low f.high ∙ ap (pick is_sent (get h k)) (get-empty nat_cmp k))
-          ∙ both_parts (get h k)
-
 -- ---- the requests, id by id
-
-abbrev pub FreeFor : (Slot → Bool) → Option Slot → Option Slot → Type 0
-FreeFor ok None o = Unit {0}
-FreeFor ok (Some x) o = ok x ≡ true → o ≡ None
 
 -- what is chosen of an id is sent, and put into the map
 abbrev Steps : (Slot → Bool) → (ℕ → Option Slot → List Request) → (ℕ → Option Slot → List ℕ) → Session → ℕ → Type 0
@@ -246,21 +169,6 @@ kept_step s at ps m id (Some Released) f free = ap (λ a. with_reply a.0 (Ok ([]
 no_aliases : (n : ℕ) (h : Held) → by_id no_alias n h ≡ []
 no_aliases zero h = refl
 no_aliases (suc n) h = append-nil (by_id no_alias n h) ∙ no_aliases n h
-
-pub free_first : (h : Held) (k : ℕ) → FreeFor is_sent (get h k) (get no_ids k)
-free_first h k = by (get h k)
-  where
-    by : (x : Option Slot) → FreeFor is_sent x (get no_ids k)
-    by None = tt {0}
-    by (Some x) = λ _. get-empty nat_cmp k
-
-pub free_then : (limit : ℕ) (h : Held) (k : ℕ) → Fits limit k (get h k) → FreeFor is_kept (get h k) (get (map_to is_sent limit h empty) k)
-free_then limit h k f = by (get h k) refl f
-  where
-    by : (x : Option Slot) → get h k ≡ x → Fits limit k x → FreeFor is_kept x (get (map_to is_sent limit h empty) k)
-    by None e f = tt {0}
-    by (Some (Sent p)) e f = λ no. absurd cc
-    by (Some Released) e f = λ _. inside is_sent h empty limit k f.low f.high ∙ ap (λ x. pick is_sent x (get no_ids k)) e ∙ get-empty nat_cmp k
 
 -- to resume sends all in one piece, and keeps the ids in use
 pub resumes : (s : Session) (at : ℕ) → IsWithin s.core.limit s.core.held → resume_of s at ≡ resumed s at

@@ -3,21 +3,15 @@ use Rattle.std.specs.Prelude.{ℕ, List, [], ◌∷◌, ◌++◌, Option, Some, 
 use Rattle.std.specs.List.{filter_map}
 use Rattle.mqtt5_codec.specs.declared.packet.Packet.{Packet}
 use Rattle.mqtt5_codec.specs.declared.packet.Packet.TheVariants as packets
-use Rattle.mqtt5_session.specs.declared.event.Request.{Request}
-use Rattle.mqtt5_session.specs.declared.event.Request.TheVariants as requests
-use Rattle.mqtt5_session.specs.declared.event.Outgoing.TheVariants as outgoing
-use Rattle.mqtt5_session.specs.declared.event.Event.{Event}
-use Rattle.mqtt5_session.specs.declared.event.Event.TheVariants as events
-use Rattle.mqtt5_session.specs.declared.error.StateError.TheVariants as errors
-use Rattle.mqtt5_session.specs.Held.{Held}
+use Rattle.mqtt5_held.specs.declared.event.Outgoing.TheVariants as outgoing
+use Rattle.mqtt5_held.specs.declared.event.Event.{Event}
+use Rattle.mqtt5_held.specs.declared.event.Event.TheVariants as events
+use Rattle.mqtt5_held.specs.declared.error.StateError.TheVariants as errors
+use Rattle.mqtt5_held.specs.Held.{Held}
+use Rattle.mqtt5_held.specs.Unacked.{by_id, alias_again}
+use Rattle.mqtt5_held.specs.Resent.{packets_of}
 use Rattle.mqtt5_session.specs.Session.{Session}
-use Rattle.mqtt5_session.specs.Cleaning.{by_id, alias_again, requests_of, cleaned, Sendings}
-
--- the packet that a request which a clean gave is sent as
-abbrev pub packet_for : Request → Option Packet
-packet_for (requests.Publish p) = Some (packets.Publish p)
-packet_for (requests.PubRel p) = Some (packets.PubRel p)
-packet_for request = None
+use Rattle.mqtt5_session.specs.Cleaning.{cleaned, Sendings}
 
 -- what is told of it
 abbrev pub event_for : Packet → Option Event
@@ -42,10 +36,6 @@ after_sent ps held s at = record s {
 abbrev pub sent_unless : List ℕ → List Packet → Held → Session → ℕ → Sendings
 sent_unless [] ps held s at = Ok (ps, after_sent ps held s at)
 sent_unless (alias ∷ others) ps held s at = Err (errors.InvalidAlias alias s.core.alias_max)
-
--- the packets that are sent again
-abbrev pub packets_of : ℕ → Held → List Packet
-packets_of limit held = filter_map packet_for (requests_of limit held)
 
 -- what a resume does: the ids in use stay
 abbrev pub resumed : Session → ℕ → Sendings

@@ -6,13 +6,14 @@ use Rattle.mqtt5_base.specs.declared.quality.QoS.TheVariants.{AtMostOnce}
 use Rattle.mqtt5_flow.specs.declared.publish.Publish.{Publish}
 use Rattle.mqtt5_codec.specs.declared.packet.Packet.{Packet}
 use Rattle.mqtt5_codec.specs.declared.packet.Packet.TheVariants as packets
-use Rattle.mqtt5_session.specs.declared.event.Request.{Request}
-use Rattle.mqtt5_session.specs.declared.event.Request.TheVariants as requests
-use Rattle.mqtt5_session.specs.declared.error.StateError.{StateError}
+use Rattle.mqtt5_held.specs.declared.event.Request.{Request}
+use Rattle.mqtt5_held.specs.declared.event.Request.TheVariants as requests
+use Rattle.mqtt5_held.specs.declared.error.StateError.{StateError}
+use Rattle.mqtt5_held.specs.Unacked.{requests_of}
 use Rattle.mqtt5_session.specs.Session.{Core, Session, fresh}
 use Rattle.mqtt5_session.specs.Requests.{id_for, out, protocol_error}
 use Rattle.mqtt5_session.specs.Packets.{is_taken, inc}
-use Rattle.mqtt5_session.specs.Cleaning.{requests_of, cleaned, Sendings, resume_of}
+use Rattle.mqtt5_session.specs.Cleaning.{cleaned, Sendings, resume_of}
 
 -- one where there is one
 abbrev pub one_of : Option Publish → ℕ

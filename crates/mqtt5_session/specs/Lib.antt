@@ -1,11 +1,8 @@
-pub mod Errors
-pub mod Held
-pub mod Codes
 pub mod Session
 pub mod Requests
 pub mod Packets
 pub mod Cleaning
 pub mod Again
 pub mod Ledger
-pub mod Sound
+pub mod Once
 pub mod Release

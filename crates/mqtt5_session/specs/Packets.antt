@@ -1,6 +1,6 @@
 -- What each packet from the broker makes of the session: a reply or a refusal, and the session after it (MQTT 5.0 sections 3
 -- and 4.3).
-use Rattle.std.specs.Prelude.{ℕ, Bool, true, false, List, [], ◌∷◌, ◌++◌, length, Option, Some, None, Ok, Err, ◌==◌, unwrap_or, is_some, option_map, min, if◌then◌else◌}
+use Rattle.std.specs.Prelude.{ℕ, Bool, true, false, ◌&&◌, List, [], ◌∷◌, ◌++◌, length, Option, Some, None, Ok, Err, ◌==◌, unwrap_or, is_some, option_map, min, if◌then◌else◌}
 use Rattle.std.specs.Ordering.{nat_cmp}
 use Rattle.std.specs.FinMap as map
 use Rattle.std.specs.FinSet as set
@@ -19,14 +19,15 @@ use Rattle.mqtt5_link.specs.declared.disconnect.DisconnectReasonCode.TheVariants
 use Rattle.mqtt5_link.specs.declared.disconnect.DisconnectProperties.{DisconnectProperties}
 use Rattle.mqtt5_codec.specs.declared.packet.Packet.{Packet}
 use Rattle.mqtt5_codec.specs.declared.packet.Packet.TheVariants as packets
-use Rattle.mqtt5_session.specs.declared.slot.Slot.{Slot}
-use Rattle.mqtt5_session.specs.declared.slot.Slot.TheVariants.{Sent, Released}
-use Rattle.mqtt5_session.specs.declared.event.Event.TheVariants as events
-use Rattle.mqtt5_session.specs.declared.event.Outgoing.{Outgoing}
-use Rattle.mqtt5_session.specs.declared.event.Outgoing.TheVariants as outgoing
-use Rattle.mqtt5_session.specs.declared.error.StateError.TheVariants as errors
+use Rattle.mqtt5_held.specs.declared.slot.Slot.{Slot}
+use Rattle.mqtt5_held.specs.declared.slot.Slot.TheVariants.{Sent, Released}
+use Rattle.mqtt5_held.specs.declared.event.Event.TheVariants as events
+use Rattle.mqtt5_held.specs.declared.event.Outgoing.{Outgoing}
+use Rattle.mqtt5_held.specs.declared.event.Outgoing.TheVariants as outgoing
+use Rattle.mqtt5_held.specs.declared.error.StateError.TheVariants as errors
+use Rattle.mqtt5_held.specs.Aliases.{alias_of}
 use Rattle.mqtt5_session.specs.Session.{Topics, Session, Answer, tells}
-use Rattle.mqtt5_session.specs.Requests.{alias_of, release_of, disconnect_of}
+use Rattle.mqtt5_session.specs.Requests.{release_of, disconnect_of}
 
 -- an event of the broker is told
 abbrev pub hears : Session → Packet → Session
@@ -85,16 +86,17 @@ on_pubcomp other s id at = (Err (errors.Unsolicited id), s)
 abbrev pub pubcomp_of : ℕ → PubRelReason → Packet
 pubcomp_of id reason = packets.PubComp (record { pkid = id; reason = reason; properties = None })
 
--- a release of success is answered (4.3.3)
+-- a release of success of an id that was there is answered (4.3.3)
 abbrev pub on_released : PubRelReason → Session → ℕ → ℕ → Answer
 on_released pubrel_reasons.Success s id at =
     (Ok (Some (pubcomp_of id pubrel_reasons.Success)), record (tells s (outgoing.PubComp id)) { last_incoming = at })
 on_released other s id at = takes s at
 
--- a PubRel takes out the id of a publish that came (4.3.3)
+-- a PubRel takes out the id of a publish that came; of another id it is answered that it isn't there (4.3.3, 3.7.2.1)
 abbrev pub on_pubrel : Bool → Session → PubRelReason → ℕ → ℕ → Answer
-on_pubrel true s reason id at = on_released reason (record s { incoming = set.remove s.incoming id }) id at
-on_pubrel false s reason id at = (Err (errors.Unsolicited id), s)
+on_pubrel true s reason id at = on_released reason (record s { core = record s.core { incoming = set.remove s.core.incoming id } }) id at
+on_pubrel false s reason id at =
+    (Ok (Some (pubcomp_of id pubrel_reasons.PacketIdentifierNotFound)), record (tells s (outgoing.PubComp id)) { last_incoming = at })
 
 -- the topic of a publish: its own, or where that is empty the one that its alias stands for; None where the alias isn't
 -- known (3.3.2.3.4)
@@ -139,7 +141,7 @@ on_qos ExactlyOnce s id at = answers s.core.manual_acks (pubrec_of id) (outgoing
 -- a publish is taken where its topic is known; else its alias is an error of the broker (3.3.2.3.4)
 abbrev pub on_publish : Bool → Session → Publish → ℕ → Answer
 on_publish true s p at =
-    on_qos p.qos (record s { core = record s.core { aliases = topics_with (alias_of p) p.topic s.core.aliases }; incoming = ids_with p.qos s.incoming p.pkid }) p.pkid at
+    on_qos p.qos (record s { core = record s.core { aliases = topics_with (alias_of p) p.topic s.core.aliases; incoming = ids_with p.qos s.core.incoming p.pkid } }) p.pkid at
 on_publish false s p at = (Ok (Some (disconnect_of ProtocolError)), record (tells s outgoing.Disconnect) { last_incoming = at })
 
 -- ---- the connection
@@ -167,12 +169,12 @@ reason_in (Some set) = set.reason_string
 
 -- ---- packets
 
--- a packet, whose event is told
+-- a packet that was told of
 abbrev pub heard : Session → Packet → ℕ → Answer
 heard s (packets.PubAck p) at = on_puback (map.get s.core.held p.pkid) s p.pkid at
 heard s (packets.PubRec p) at = on_pubrec (map.get s.core.held p.pkid) s p.reason p.pkid at
 heard s (packets.PubComp p) at = on_pubcomp (map.get s.core.held p.pkid) s p.pkid at
-heard s (packets.PubRel p) at = on_pubrel (set.contains s.incoming p.pkid) s p.reason p.pkid at
+heard s (packets.PubRel p) at = on_pubrel (set.contains s.core.incoming p.pkid) s p.reason p.pkid at
 heard s (packets.Publish p) at = on_publish (is_some (topic_of s p)) s p at
 heard s (packets.ConnAck p) at = on_connack p.code p.properties s at
 heard s (packets.PingResp p) at = takes (record s { awaits_ping = false }) at
@@ -181,11 +183,24 @@ heard s (packets.UnsubAck p) at = takes s at
 heard s (packets.Disconnect p) at = (Err (errors.ServerDisconnect p.reason_code (reason_in p.properties)), s)
 heard s other at = (Err errors.WrongPacket, s)
 
--- a packet as it is told: a publish with the topic that its alias stands for (3.3.2.3.4)
-abbrev pub told : Session → Packet → Packet
-told s (packets.Publish p) = packets.Publish (record p { topic = unwrap_or (topic_of s p) p.topic })
-told s packet = packet
+-- whether a publish is of QoS 2 (4.3.3)
+abbrev pub is_exactly_once : QoS → Bool
+is_exactly_once ExactlyOnce = true
+is_exactly_once qos = false
 
--- a packet: its reply or its refusal, and the session after it, which has its event in both cases
+-- what is told of a packet: itself, a publish with the topic that its alias stands for (3.3.2.3.4); nothing of a publish of
+-- QoS 2 under an id of one that the broker hasn't released, which is a duplicate (4.3.3)
+abbrev pub told : Session → Packet → Option Packet
+told s (packets.Publish p) =
+    if is_exactly_once p.qos && set.contains s.core.incoming p.pkid then None
+    else Some (packets.Publish (record p { topic = unwrap_or (topic_of s p) p.topic }))
+told s packet = Some packet
+
+-- it is told
+abbrev pub notes : Session → Option Packet → Session
+notes s None = s
+notes s (Some packet) = hears s packet
+
+-- a packet: its reply or its refusal, and the session after it, which has its event in both cases, unless it is a duplicate
 unfoldable pub inc : Session → Packet → ℕ → Answer
-inc s packet at = heard (hears s (told s packet)) packet at
+inc s packet at = heard (notes s (told s packet)) packet at

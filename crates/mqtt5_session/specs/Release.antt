@@ -3,8 +3,8 @@ use Rattle.std.specs.Prelude.{◌≢◌, ℕ, Option, Some, None, ◌==◌, if�
 use Rattle.std.specs.FinMap as map
 use Rattle.mqtt5_base.specs.declared.quality.QoS.TheVariants.{AtMostOnce}
 use Rattle.mqtt5_flow.specs.declared.publish.Publish.{Publish}
-use Rattle.mqtt5_session.specs.declared.slot.Slot.TheVariants.{Sent}
-use Rattle.mqtt5_session.specs.Held.{Held}
+use Rattle.mqtt5_held.specs.declared.slot.Slot.TheVariants.{Sent}
+use Rattle.mqtt5_held.specs.Held.{Held}
 
 -- what waits has a QoS of 1 or 2
 abbrev pub IsCounted : Option Publish → Type 0

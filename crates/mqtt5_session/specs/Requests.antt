@@ -4,7 +4,6 @@ use Rattle.std.specs.FinMap as map
 use Rattle.mqtt5_base.specs.declared.quality.QoS.{QoS}
 use Rattle.mqtt5_base.specs.declared.quality.QoS.TheVariants.{AtMostOnce, AtLeastOnce, ExactlyOnce}
 use Rattle.mqtt5_flow.specs.declared.publish.Publish.{Publish}
-use Rattle.mqtt5_flow.specs.declared.publish.PublishProperties.{PublishProperties}
 use Rattle.mqtt5_flow.specs.declared.pubrel.PubRelReason.TheVariants as pubrel_reasons
 use Rattle.mqtt5_subs.specs.declared.subscribe.Subscribe.{Subscribe}
 use Rattle.mqtt5_subs.specs.declared.unsubscribe.Unsubscribe.{Unsubscribe}
@@ -12,14 +11,15 @@ use Rattle.mqtt5_link.specs.declared.disconnect.DisconnectReasonCode.{Disconnect
 use Rattle.mqtt5_link.specs.declared.disconnect.DisconnectReasonCode.TheVariants.{NormalDisconnection, ProtocolError}
 use Rattle.mqtt5_codec.specs.declared.packet.Packet.{Packet}
 use Rattle.mqtt5_codec.specs.declared.packet.Packet.TheVariants as packets
-use Rattle.mqtt5_session.specs.declared.slot.Slot.{Slot}
-use Rattle.mqtt5_session.specs.declared.slot.Slot.TheVariants.{Sent, Released}
-use Rattle.mqtt5_session.specs.declared.event.Request.{Request}
-use Rattle.mqtt5_session.specs.declared.event.Request.TheVariants as requests
-use Rattle.mqtt5_session.specs.declared.event.Outgoing.{Outgoing}
-use Rattle.mqtt5_session.specs.declared.event.Outgoing.TheVariants as outgoing
-use Rattle.mqtt5_session.specs.declared.error.StateError.{StateError}
-use Rattle.mqtt5_session.specs.declared.error.StateError.TheVariants as errors
+use Rattle.mqtt5_held.specs.declared.slot.Slot.{Slot}
+use Rattle.mqtt5_held.specs.declared.slot.Slot.TheVariants.{Sent, Released}
+use Rattle.mqtt5_held.specs.declared.event.Request.{Request}
+use Rattle.mqtt5_held.specs.declared.event.Request.TheVariants as requests
+use Rattle.mqtt5_held.specs.declared.event.Outgoing.{Outgoing}
+use Rattle.mqtt5_held.specs.declared.event.Outgoing.TheVariants as outgoing
+use Rattle.mqtt5_held.specs.declared.error.StateError.{StateError}
+use Rattle.mqtt5_held.specs.declared.error.StateError.TheVariants as errors
+use Rattle.mqtt5_held.specs.Aliases.{alias_of, alias_over}
 use Rattle.mqtt5_session.specs.Session.{Core, Session, Answer, tells}
 
 -- ---- identifiers
@@ -45,20 +45,6 @@ abbrev pub tells_at : Session → Outgoing → ℕ → Session
 tells_at s event at = record (tells s event) { last_outgoing = at }
 
 -- ---- a publish
-
--- the topic alias among the properties (3.3.2.3.4)
-abbrev pub alias_in : Option PublishProperties → Option ℕ
-alias_in None = None
-alias_in (Some set) = set.topic_alias
-
--- the topic alias of a publish (3.3.2.3.4)
-abbrev pub alias_of : Publish → Option ℕ
-alias_of p = alias_in p.properties
-
--- an alias above the broker's maximum (3.2.2.3.8)
-abbrev pub alias_over : ℕ → Option ℕ → Option ℕ
-alias_over max None = None
-alias_over max (Some alias) = if nat_lt max alias then Some alias else None
 
 -- its refusal
 abbrev pub alias_fault : ℕ → Option ℕ → Option StateError

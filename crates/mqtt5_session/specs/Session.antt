@@ -5,20 +5,20 @@ use Rattle.std.specs.FinMap as map
 use Rattle.std.specs.FinSet as set
 use Rattle.mqtt5_flow.specs.declared.publish.Publish.{Publish}
 use Rattle.mqtt5_codec.specs.declared.packet.Packet.{Packet}
-use Rattle.mqtt5_session.specs.declared.event.Outgoing.{Outgoing}
-use Rattle.mqtt5_session.specs.declared.event.Event.{Event}
-use Rattle.mqtt5_session.specs.declared.event.Event.TheVariants as events
-use Rattle.mqtt5_session.specs.declared.error.StateError.{StateError}
-use Rattle.mqtt5_session.specs.declared.error.StateError.TheVariants as errors
-use Rattle.mqtt5_session.specs.Held.{Held}
+use Rattle.mqtt5_held.specs.declared.event.Outgoing.{Outgoing}
+use Rattle.mqtt5_held.specs.declared.event.Event.{Event}
+use Rattle.mqtt5_held.specs.declared.event.Event.TheVariants as events
+use Rattle.mqtt5_held.specs.declared.error.StateError.{StateError}
+use Rattle.mqtt5_held.specs.declared.error.StateError.TheVariants as errors
+use Rattle.mqtt5_held.specs.Held.{Held}
 
 -- the topics that the broker's aliases stand for (3.3.2.3.4)
 abbrev pub Topics : Type 0
 Topics = map.FinMap nat_cmp (List ℕ)
 
 -- what decides the ids and the deliveries (4.1): the limit on ids in use, the current maximum, the last id that was given,
--- the ids in use, the publish that waits for its id, the topics of aliases, the broker's maximum of them, and whether the
--- user sends the acks
+-- the ids in use, the publish that waits for its id, the topics of aliases, the broker's maximum of them, whether the
+-- user sends the acks, and the ids of publishes of QoS 2 that the broker hasn't released
 pub record Core : Type 0 where
   pub limit : ℕ
   pub current : ℕ
@@ -28,12 +28,12 @@ pub record Core : Type 0 where
   pub aliases : Topics
   pub alias_max : ℕ
   pub manual_acks : Bool
+  pub incoming : set.FinSet nat_cmp
 
--- the session (4.1): a core, the ids of publishes that the broker hasn't released, whether a ping isn't answered, how many
--- pings were asked for while a publish waits, what happened, and the moments of the last packet in and the last request out
+-- the session (4.1): a core, whether a ping isn't answered, how many pings were asked for while a publish waits, what
+-- happened, and the moments of the last packet in and the last request out
 pub record Session : Type 0 where
   pub core : Core
-  pub incoming : set.FinSet nat_cmp
   pub awaits_ping : Bool
   pub collision_pings : ℕ
   pub events : List Event
@@ -43,8 +43,7 @@ pub record Session : Type 0 where
 -- the session of a client that has sent nothing (4.1)
 abbrev pub fresh : ℕ → Bool → Session
 fresh limit manual = record {
-  core = record { limit = limit; current = limit; last = 0; held = map.empty; waiting = None; aliases = map.empty; alias_max = 0; manual_acks = manual };
-  incoming = set.empty;
+  core = record { limit = limit; current = limit; last = 0; held = map.empty; waiting = None; aliases = map.empty; alias_max = 0; manual_acks = manual; incoming = set.empty };
   awaits_ping = false;
   collision_pings = 0;
   events = [];

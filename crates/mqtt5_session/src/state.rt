@@ -1,15 +1,17 @@
 //! The session.
 
-ghost use Rattle.std.specs.Prelude.{◌≡◌, ◌+◌, ◌<◌, length, IfOk, IfErr, OnOk, OnErr, drop, slice_get, Ok};
+ghost use Rattle.std.specs.Prelude.{◌≡◌, ◌+◌, ◌<◌, length, IfOk, IfErr, OnOk, OnErr, drop, slice_get, Ok, ℕ};
 ghost use Rattle.std.specs.FinMap as map;
 ghost use Rattle.std.specs.FinSet as set;
 ghost use Rattle.std.specs.Option.{option_copied};
-ghost use Rattle.mqtt5_session.specs.Held.{IsWithin, awaiting_ack, is_released};
+ghost use Rattle.mqtt5_held.specs.Held.{IsWithin, awaiting_ack, is_released};
+ghost use Rattle.mqtt5_held.specs.Unacked.{requests_of};
 ghost use Rattle.mqtt5_session.specs.Session.{Sends, Hears, fresh, tells};
 ghost use Rattle.mqtt5_session.specs.Requests.{out, protocol_error};
 ghost use Rattle.mqtt5_session.specs.Packets.{inc};
-ghost use Rattle.mqtt5_session.specs.Cleaning.{requests_of, cleaned, resume_of, Resumes};
+ghost use Rattle.mqtt5_session.specs.Cleaning.{cleaned, resume_of, Resumes};
 ghost use Rattle.mqtt5_session.specs.Ledger.{owed, adds, ends, accepted};
+ghost use Rattle.mqtt5_session.specs.Once.{kept_id, notified, released};
 
 /// What each packet from the broker makes of the session.
 mod packets;
@@ -18,16 +20,12 @@ mod requests;
 /// What is sent again on a new connection.
 mod resuming;
 
-use crate::aliases::Aliases;
-use crate::error::StateError;
-use crate::event::{Event, Incoming, Outgoing, Request};
-use crate::ids::Ids;
 use crate::packed::as_disconnect;
-use crate::slots::Slots;
 use bytes::Bytes;
 use mqtt5_base::{Exact, copied};
 use mqtt5_codec::Packet;
 use mqtt5_flow::Publish;
+use mqtt5_held::{Aliases, Event, Ids, Incoming, Outgoing, Request, Slots, StateError};
 use mqtt5_link::DisconnectReasonCode;
 use std::alloc::{AllocError, Global};
 use std::collections::VecDeque;
@@ -57,8 +55,8 @@ impl Model for MqttState {
     ghost use Rattle.std.specs.Coded.{codes, coded_ℕ};
     ghost use Rattle.std.specs.FinSet as set;
     ghost use Rattle.mqtt5_flow.specs.contracts.publish.Publish as publish;
-    ghost use Rattle.mqtt5_session.specs.contracts.event.Event as event;
-    ghost use Rattle.mqtt5_session.specs.Codes.{coded_held, coded_aliases, coded_incoming};
+    ghost use Rattle.mqtt5_held.specs.contracts.event.Event as event;
+    ghost use Rattle.mqtt5_held.specs.Codes.{coded_held, coded_aliases, coded_incoming};
     ghost use Rattle.mqtt5_session.specs.Release.{IsCounted};
     ghost use Rattle.mqtt5_session.specs.Session.{Session};
 
@@ -76,8 +74,8 @@ impl Model for MqttState {
         aliases = a.aliases;
         alias_max = a.alias_max;
         manual_acks = a.manual_acks;
+        incoming = a.incoming;
       };
-      incoming = a.incoming;
       awaits_ping = a.awaits_ping;
       collision_pings = a.collision_pings;
       events = a.events.items;
@@ -216,7 +214,7 @@ impl MqttState {
 
     /// Whether a publish came under an id and isn't released. Takes no memory.
     pub fn incoming_pub(&self, id: u16) -> bool
-        ensures { result ≡ set.contains self.now.incoming id }
+        ensures { result ≡ set.contains self.now.core.incoming id }
     {
         self.incoming.contains(id)
     }
@@ -257,6 +255,7 @@ impl MqttState {
     ) -> Result<Option<Packet>, StateError>
         ensures step { Sends result self.old self.new (out self.old request at) }
         ensures ledger { owed self.new.core ≡ owed self.old.core + accepted result (adds self.old.core request) }
+        ensures once { (id : ℕ) → kept_id id self.new.core ≡ kept_id id self.old.core }
     {
         self.send(request, at)
     }
@@ -278,8 +277,9 @@ impl MqttState {
         }
     }
 
-    /// Takes a packet from the broker at a moment, tells of it, and answers what to send. S2: an ack or a
-    /// PubRel of an id that awaits none. S4: an Auth, or a packet that a broker never sends. S10: a
+    /// Takes a packet from the broker at a moment, tells of it, and answers what to send. A publish of QoS 2
+    /// under an id of one that the broker hasn't released is a duplicate: it is answered, and isn't told of
+    /// again. A PubRel of an id that isn't there is answered so. S2: an ack of an id that awaits none. S4: an Auth, or a packet that a broker never sends. S10: a
     /// Disconnect. S11: a ConnAck that refuses the connection. S12, which leaves the session unchanged; after
     /// another refusal the packet's event stands, and nothing else is changed.
     pub fn handle_incoming_packet(
@@ -289,6 +289,7 @@ impl MqttState {
     ) -> Result<Option<Packet>, StateError>
         ensures step { Hears result self.old self.new (inc self.old packet at) }
         ensures ledger { owed self.new.core + accepted result (ends packet) ≡ owed self.old.core }
+        ensures once { (id : ℕ) → kept_id id self.new.core + accepted result (released id self.old.core packet) ≡ kept_id id self.old.core + notified id self.old result self.new }
     {
         self.hear(packet, at)
     }
@@ -316,36 +317,38 @@ impl MqttState {
     pub fn handle_protocol_error(&mut self) -> Result<Option<Packet>, StateError>
         ensures step { Sends result self.old self.new (protocol_error self.old) }
         ensures ledger { owed self.new.core ≡ owed self.old.core }
+        ensures once { (id : ℕ) → kept_id id self.new.core ≡ kept_id id self.old.core }
     {
         self.tell(Outgoing::Disconnect)?;
         Ok(Some(as_disconnect(DisconnectReasonCode::ProtocolError)))
     }
 
     /// Answers what is to be sent again, the publishes that await an ack and then the releases, each by
-    /// rising id, and makes all ids free, those of the broker too; no ping is awaited then. S12; the session
-    /// is then unchanged.
+    /// rising id, and makes all ids free; no ping is awaited then. The ids of the broker's publishes stay. S12;
+    /// the session is then unchanged.
     pub fn clean(&mut self) -> Result<Vec<Request>, StateError>
         ensures ok { IfOk result (λ v. v.items ≡ requests_of self.old.core.limit self.old.core.held) }
         ensures cleaned { OnOk result (self.new ≡ cleaned self.old) }
         ensures ledger { IfOk result (λ v. owed self.new.core + length v.items ≡ owed self.old.core) }
+        ensures once { (id : ℕ) → kept_id id self.new.core ≡ kept_id id self.old.core }
         ensures err { IfErr result (λ e. e ≡ StateError.OutOfMemory) }
         ensures kept { OnErr result (self.new ≡ self.old) }
     {
         let requests = self.slots.requests()?;
         self.slots.clear();
-        self.incoming.clear();
         self.awaits_ping = false;
         self.collision_pings = 0;
         Ok(requests)
     }
 
     /// Answers what is to be sent on a new connection to the kept session, and tells of it: all that `clean`
-    /// would give, and it stays in use; the ids of the broker are free then, and no ping is awaited. S8 for
+    /// would give, and it stays in use, as do the ids of the broker's publishes; no ping is awaited then. S8 for
     /// the first publish, by rising id, whose topic alias is above the broker's maximum. S12. After a refusal
     /// the session is unchanged.
     pub fn resume(&mut self, at: u64) -> Result<Vec<Packet>, StateError>
         ensures sends { Resumes result self.old self.new (resume_of self.old at) }
         ensures ledger { owed self.new.core ≡ owed self.old.core }
+        ensures once { (id : ℕ) → kept_id id self.new.core ≡ kept_id id self.old.core }
     {
         self.send_again(at)
     }

@@ -1,41 +1,55 @@
-//! A trial of want of memory: the greatest session is made, and then asked for a ping, which is its first
-//! request for memory. The status is 0 where the ping is sent, 2 where memory for it is refused, and 1 where
-//! there is no session.
+//! Trials of want of memory, for a run in which a request for memory is refused. Without a word the program lists
+//! its trials, each behind `asks` or `none`: whether its call asks for memory. With a trial as its word it makes
+//! the call's state, makes the call, and prints a line `may` for each state that a refusal of the call may leave,
+//! the line `answer` and the line `after`. The status is 0; 2 for an unknown trial; 10 where memory was refused
+//! before the call, and 11 where it was refused after it.
 #![tactic(auto)]
 
-use mqtt5::{MqttState, Request, StateError};
-use mqtt5_codec::Packet;
+mod calls;
+mod frames;
+mod made;
+mod packets;
+mod parts;
+mod runs;
+mod settings;
+mod telling;
+mod trials;
+
+use crate::telling::Failure;
+use crate::trials::{list, run};
 use std::alloc::Global;
+use std::env::Env;
+use std::io::{BufWriter, Write};
 use std::process::ExitCode;
+use std::{env, io};
 
-/// What a ping was answered, as a status.
-fn status(answer: &Result<Option<Packet>, StateError>) -> u8 {
-    match answer {
-        Ok(Some(_)) => 0,
-        Err(StateError::OutOfMemory) => 2,
-        _ => 1,
+/// The words after the program's name.
+fn words(rt: &(impl Env + AllocGlobal)) -> io::Result<Vec<String>> {
+    Ok(env::args(rt)?.skip(1).collect(rt.alloc())?)
+}
+
+fn obey<W: Write>(alloc: Global, words: &[String], output: &mut W) -> Result<(), Failure> {
+    match words {
+        [] => list(output)?,
+        [trial] => run(alloc, trial.as_str(), output)?,
+        _ => return Err(Failure::Unknown),
     }
+    Ok(output.flush()?)
 }
 
-fn ping(session: &mut MqttState) -> u8 {
-    let answer = session.handle_outgoing_packet(Request::PingReq, 1);
-    let status = status(&answer);
-    drop(answer);
-    status
-}
-
-/// Makes a session for 65,535 identifiers, and sends a ping.
-fn new_then_ping(alloc: Global) -> u8 {
-    match MqttState::new(alloc, 65535, false) {
-        Ok(mut session) => {
-            let status = ping(&mut session);
-            drop(session);
-            status
-        }
-        Err(_) => 1,
+/// Prints through a buffer. That is made last before the trial, so that a trial whose state takes no memory has a
+/// request before its call.
+fn print_all(rt: &HostRuntime) -> Result<(), Failure> {
+    let words = words(rt).map_err(|_| Failure::Unprepared)?;
+    match BufWriter::new(rt.alloc(), io::writer(rt)) {
+        Ok(mut output) => obey(rt.alloc(), words.as_slice(), &mut output),
+        Err(_refused) => Err(Failure::Unprepared),
     }
 }
 
 fn main(rt: HostRuntime) -> ExitCode {
-    ExitCode::from(new_then_ping(rt.alloc()))
+    ExitCode::from(match print_all(&rt) {
+        Ok(()) => 0,
+        Err(failure) => failure.status(),
+    })
 }

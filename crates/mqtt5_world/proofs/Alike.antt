@@ -1,4 +1,4 @@
--- What is said to calls depends on the core alone, but for pings and releases; and a resume keeps the core.
+-- What is said to calls depends on the core alone, but for pings; and a resume keeps the core.
 use Rattle.std.proofs.Common.{◌≡◌, ℕ, Bool, true, false, cond, List, [], ◌∷◌, ◌==◌, Option, Some, None, Result, Ok, Err, refl, sym, ap, ◌∙◌, subst, length, nat_lt}
 use Rattle.std.specs.Prelude.{is_some, IsOk, IfOk}
 use Rattle.std.specs.Ordering.{nat_cmp}
@@ -16,21 +16,23 @@ use Rattle.mqtt5_link.specs.declared.connack.ConnAckProperties.{ConnAckPropertie
 use Rattle.mqtt5_subs.specs.declared.subscribe.Subscribe.{Subscribe}
 use Rattle.mqtt5_codec.specs.declared.packet.Packet.{Packet}
 use Rattle.mqtt5_codec.specs.declared.packet.Packet.TheVariants as packets
-use Rattle.mqtt5_session.specs.declared.slot.Slot.{Slot}
-use Rattle.mqtt5_session.specs.declared.slot.Slot.TheVariants.{Sent, Released}
-use Rattle.mqtt5_session.specs.declared.event.Request.{Request}
-use Rattle.mqtt5_session.specs.declared.event.Request.TheVariants as requests
-use Rattle.mqtt5_session.specs.declared.event.Outgoing.{Outgoing}
-use Rattle.mqtt5_session.specs.declared.error.StateError.{StateError}
-use Rattle.mqtt5_session.specs.declared.error.StateError.TheVariants as errors
+use Rattle.mqtt5_held.specs.declared.slot.Slot.{Slot}
+use Rattle.mqtt5_held.specs.declared.slot.Slot.TheVariants.{Sent, Released}
+use Rattle.mqtt5_held.specs.declared.event.Request.{Request}
+use Rattle.mqtt5_held.specs.declared.event.Request.TheVariants as requests
+use Rattle.mqtt5_held.specs.declared.event.Outgoing.{Outgoing}
+use Rattle.mqtt5_held.specs.declared.error.StateError.{StateError}
+use Rattle.mqtt5_held.specs.declared.error.StateError.TheVariants as errors
+use Rattle.mqtt5_held.specs.Aliases.{alias_of}
+use Rattle.mqtt5_held.specs.Resent.{packets_of}
+use Rattle.mqtt5_held.proofs.Within.{Fits, within_fits}
 use Rattle.mqtt5_session.specs.Session.{Core, Session, Answer, fresh}
-use Rattle.mqtt5_session.specs.Requests.{out, alias_of, unless, over_maximum, Verdict, Refuse, Wait, Store, out_acked, out_publish, out_release, out_known, out_subscribe, id_for, last_after, ping_fault, counts_ping}
-use Rattle.mqtt5_session.specs.Packets.{inc, heard, hears, told, freed_for, on_puback, on_received, on_pubrec, on_pubcomp, on_pubrel, on_released, on_publish, on_qos, answers, on_connack, is_taken, topic_of, topics_with, ids_with}
+use Rattle.mqtt5_session.specs.Requests.{out, unless, over_maximum, Verdict, Refuse, Wait, Store, out_acked, out_publish, out_release, out_known, out_subscribe, id_for, last_after, ping_fault, counts_ping}
+use Rattle.mqtt5_session.specs.Packets.{inc, heard, hears, notes, told, freed_for, on_puback, on_received, on_pubrec, on_pubcomp, on_pubrel, on_released, on_publish, on_qos, answers, on_connack, is_taken, topic_of, topics_with, ids_with}
 use Rattle.mqtt5_session.specs.Cleaning.{cleaned, resume_of}
-use Rattle.mqtt5_session.specs.Again.{sent_unless, packets_of}
+use Rattle.mqtt5_session.specs.Again.{sent_unless}
 use Rattle.mqtt5_session.specs.Ledger.{kept_by}
 use Rattle.mqtt5_session.specs.Ledger as ledger
-use Rattle.mqtt5_session.proofs.Within.{Fits, within_fits}
 use Rattle.mqtt5_session.proofs.Resume.{resumes}
 use Rattle.mqtt5_session.proofs.Keeps.{Sound, out_sound, inc_sound, after_sound, resume_core}
 use Rattle.mqtt5_world.specs.declared.calls.Call.{Call}
@@ -168,33 +170,37 @@ qos_alike ExactlyOnce c s t id at = answers_alike c.manual_acks _ _ c s t at
 
 heard_alike : (b : Bool) (c : Core) (s t : Session) (p : Publish) (at : ℕ) → Alike (on_publish b (with c s) p at) (on_publish b (with c t) p at)
 heard_alike true c s t p at =
-    qos_alike p.qos (record c { aliases = topics_with (alias_of p) p.topic c.aliases }) (record s { incoming = ids_with p.qos s.incoming p.pkid }) (record t { incoming = ids_with p.qos t.incoming p.pkid }) p.pkid at
+    qos_alike p.qos (record c { aliases = topics_with (alias_of p) p.topic c.aliases; incoming = ids_with p.qos c.incoming p.pkid }) s t p.pkid at
 heard_alike false c s t p at = (refl, refl)
 
 connack_alike : (code : ConnectReturnCode) (properties : Option ConnAckProperties) (c : Core) (s t : Session) (at : ℕ) → Alike (on_connack code properties (with c s) at) (on_connack code properties (with c t) at)
 connack_alike return_codes.Success properties c s t at = (refl, refl)
 connack_alike code properties c s t at = (refl, refl)
 
-released_core : (reason : PubRelReason) (s : Session) (id at : ℕ) → (on_released reason s id at).1.core ≡ s.core
-released_core pubrel_reasons.Success s id at = refl
-released_core reason s id at = refl
+released_alike : (reason : PubRelReason) (c : Core) (s t : Session) (id at : ℕ) → Alike (on_released reason (with c s) id at) (on_released reason (with c t) id at)
+released_alike pubrel_reasons.Success c s t id at = (refl, refl)
+released_alike reason c s t id at = (refl, refl)
 
-pubrel_core : (b : Bool) (s : Session) (reason : PubRelReason) (id at : ℕ) → (on_pubrel b s reason id at).1.core ≡ s.core
-pubrel_core true s reason id at = released_core reason (record s { incoming = set.remove s.incoming id }) id at
-pubrel_core false s reason id at = refl
+pubrel_alike : (b : Bool) (c : Core) (s t : Session) (reason : PubRelReason) (id at : ℕ) → Alike (on_pubrel b (with c s) reason id at) (on_pubrel b (with c t) reason id at)
+pubrel_alike true c s t reason id at = released_alike reason (record c { incoming = set.remove c.incoming id }) s t id at
+pubrel_alike false c s t reason id at = (refl, refl)
 
 heard_agrees : (c : Core) (s t : Session) (packet : Packet) (at : ℕ) → Agrees (calls.Incoming packet at) (heard (with c s) packet at) (heard (with c t) packet at)
 heard_agrees c s t (packets.PubAck p) at = puback_alike (get c.held p.pkid) c s t p.pkid at
 heard_agrees c s t (packets.PubRec p) at = pubrec_alike (get c.held p.pkid) c s t p.reason p.pkid at
 heard_agrees c s t (packets.PubComp p) at = pubcomp_alike (get c.held p.pkid) c s t p.pkid at
-heard_agrees c s t (packets.PubRel p) at = (tt {0}, pubrel_core (set.contains s.incoming p.pkid) (with c s) p.reason p.pkid at ∙ sym (pubrel_core (set.contains t.incoming p.pkid) (with c t) p.reason p.pkid at))
+heard_agrees c s t (packets.PubRel p) at = pubrel_alike (set.contains c.incoming p.pkid) c s t p.reason p.pkid at
 heard_agrees c s t (packets.Publish p) at = heard_alike (is_some (topic_of (with c s) p)) c s t p at
 heard_agrees c s t (packets.ConnAck p) at = connack_alike p.code p.properties c s t at
 heard_agrees c s t packet at = (refl, refl)
 
 inc_agrees : (c : Core) (s t : Session) (packet : Packet) (at : ℕ) → Agrees (calls.Incoming packet at) (inc (with c s) packet at) (inc (with c t) packet at)
 unfolding inc
-inc_agrees c s t packet at = heard_agrees c (hears s (told (with c s) packet)) (hears t (told (with c t) packet)) packet at
+inc_agrees c s t packet at = by (told (with c s) packet)
+  where
+    by : (o : Option Packet) → Agrees (calls.Incoming packet at) (heard (notes (with c s) o) packet at) (heard (notes (with c t) o) packet at)
+    by None = heard_agrees c s t packet at
+    by (Some x) = heard_agrees c (hears s x) (hears t x) packet at
 
 -- ---- any calls
 

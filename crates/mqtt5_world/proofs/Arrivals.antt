@@ -8,10 +8,10 @@ use Rattle.mqtt5_flow.specs.declared.publish.Publish.{Publish}
 use Rattle.mqtt5_flow.specs.declared.pubrel.PubRel.{PubRel}
 use Rattle.mqtt5_codec.specs.declared.packet.Packet.{Packet}
 use Rattle.mqtt5_codec.specs.declared.packet.Packet.TheVariants as packets
-use Rattle.mqtt5_session.specs.declared.slot.Slot.{Slot}
-use Rattle.mqtt5_session.specs.declared.slot.Slot.TheVariants.{Sent, Released}
+use Rattle.mqtt5_held.specs.declared.slot.Slot.{Slot}
+use Rattle.mqtt5_held.specs.declared.slot.Slot.TheVariants.{Sent, Released}
+use Rattle.mqtt5_held.proofs.Within.{Fits, IsUsed}
 use Rattle.mqtt5_session.specs.Packets.{puback_of, pubrec_of, pubcomp_of}
-use Rattle.mqtt5_session.proofs.Within.{Fits, IsUsed}
 use Rattle.mqtt5_world.specs.Broker.{serve, serve_publish, reason_for}
 use Rattle.mqtt5_world.specs.World.{World, served, arrives}
 use Rattle.mqtt5_world.specs.Delivery.{is_acked, is_token_up, is_token_down, PubAckDown, PubRecDown, PubCompDown}

@@ -6,10 +6,10 @@ use Rattle.mqtt5_base.specs.declared.quality.QoS.TheVariants.{AtMostOnce, AtLeas
 use Rattle.mqtt5_flow.specs.declared.publish.Publish.{Publish}
 use Rattle.mqtt5_codec.specs.declared.packet.Packet.{Packet}
 use Rattle.mqtt5_codec.specs.declared.packet.Packet.TheVariants as packets
-use Rattle.mqtt5_session.specs.declared.slot.Slot.TheVariants.{Sent}
-use Rattle.mqtt5_session.specs.declared.event.Request.TheVariants as requests
-use Rattle.mqtt5_session.specs.declared.event.Outgoing.TheVariants as outgoing
-use Rattle.mqtt5_session.specs.declared.error.StateError.{StateError}
+use Rattle.mqtt5_held.specs.declared.slot.Slot.TheVariants.{Sent}
+use Rattle.mqtt5_held.specs.declared.event.Request.TheVariants as requests
+use Rattle.mqtt5_held.specs.declared.event.Outgoing.TheVariants as outgoing
+use Rattle.mqtt5_held.specs.declared.error.StateError.{StateError}
 use Rattle.mqtt5_session.specs.Session.{Answer}
 use Rattle.mqtt5_session.specs.Requests.{out, Verdict, Refuse, Wait, Store, out_acked, out_once, out_publish, unless, over_maximum, alias_fault, id_for, last_after, tells_at}
 use Rattle.mqtt5_session.proofs.Owed.{Judges, judges}

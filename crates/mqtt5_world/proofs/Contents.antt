@@ -12,10 +12,10 @@ use Rattle.mqtt5_flow.specs.declared.publish.Publish.{Publish}
 use Rattle.mqtt5_flow.specs.contracts.publish.PublishPartialEq.TheImpl as publish
 use Rattle.mqtt5_flow.specs.contracts.publish.PublishEq.TheImpl.Laws as reflexive
 use Rattle.mqtt5_flow.specs.Sound.{publish_sound}
-use Rattle.mqtt5_session.specs.declared.slot.Slot.{Slot}
-use Rattle.mqtt5_session.specs.declared.slot.Slot.TheVariants.{Sent, Released}
-use Rattle.mqtt5_session.specs.Held.{Held, awaiting_ack}
-use Rattle.mqtt5_session.specs.Cleaning.{by_id}
+use Rattle.mqtt5_held.specs.declared.slot.Slot.{Slot}
+use Rattle.mqtt5_held.specs.declared.slot.Slot.TheVariants.{Sent, Released}
+use Rattle.mqtt5_held.specs.Held.{Held, awaiting_ack}
+use Rattle.mqtt5_held.specs.Unacked.{by_id}
 use Rattle.mqtt5_world.specs.declared.event.WorldEvent.{WorldEvent}
 use Rattle.mqtt5_world.specs.declared.event.Report.{Report}
 use Rattle.mqtt5_world.specs.World.{World, start, run, losses}

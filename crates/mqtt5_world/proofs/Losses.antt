@@ -11,16 +11,18 @@ use Rattle.mqtt5_base.specs.declared.quality.QoS.TheVariants.{AtMostOnce, AtLeas
 use Rattle.mqtt5_flow.specs.declared.publish.Publish.{Publish}
 use Rattle.mqtt5_codec.specs.declared.packet.Packet.{Packet}
 use Rattle.mqtt5_codec.specs.declared.packet.Packet.TheVariants as packets
-use Rattle.mqtt5_session.specs.declared.slot.Slot.{Slot}
-use Rattle.mqtt5_session.specs.declared.slot.Slot.TheVariants.{Sent, Released}
-use Rattle.mqtt5_session.specs.declared.event.Request.{Request}
-use Rattle.mqtt5_session.specs.Held.{Held}
+use Rattle.mqtt5_held.specs.declared.slot.Slot.{Slot}
+use Rattle.mqtt5_held.specs.declared.slot.Slot.TheVariants.{Sent, Released}
+use Rattle.mqtt5_held.specs.declared.event.Request.{Request}
+use Rattle.mqtt5_held.specs.Held.{Held}
+use Rattle.mqtt5_held.specs.Unacked.{alias_again, by_id, publish_again, release_again}
+use Rattle.mqtt5_held.specs.Resent.{packet_for, packets_of}
+use Rattle.mqtt5_held.proofs.Within.{Fits, within_fits}
 use Rattle.mqtt5_session.specs.Session.{Core, Session}
 use Rattle.mqtt5_session.specs.Requests.{release_of}
 use Rattle.mqtt5_session.specs.Packets.{inc}
-use Rattle.mqtt5_session.specs.Cleaning.{alias_again, by_id, publish_again, release_again, cleaned, resume_of}
-use Rattle.mqtt5_session.specs.Again.{packet_for, after_sent, sent_unless, packets_of}
-use Rattle.mqtt5_session.proofs.Within.{Fits, within_fits}
+use Rattle.mqtt5_session.specs.Cleaning.{cleaned, resume_of}
+use Rattle.mqtt5_session.specs.Again.{after_sent, sent_unless}
 use Rattle.mqtt5_session.proofs.Resume as session
 use Rattle.mqtt5_session.proofs.Keeps.{Sound}
 use Rattle.mqtt5_world.specs.World.{World, takes, taken_back, resumed, resumes}

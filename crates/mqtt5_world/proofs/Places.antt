@@ -10,9 +10,9 @@ use Rattle.std.specs.FinSet as set
 use Rattle.mqtt5_flow.specs.declared.publish.Publish.{Publish}
 use Rattle.mqtt5_codec.specs.declared.packet.Packet.{Packet}
 use Rattle.mqtt5_codec.specs.declared.packet.Packet.TheVariants as packets
-use Rattle.mqtt5_session.specs.declared.slot.Slot.{Slot}
-use Rattle.mqtt5_session.specs.Held.{Held}
-use Rattle.mqtt5_session.proofs.Within.{get_insert_same, get_insert_other}
+use Rattle.mqtt5_held.specs.declared.slot.Slot.{Slot}
+use Rattle.mqtt5_held.specs.Held.{Held}
+use Rattle.mqtt5_held.proofs.Within.{get_insert_same, get_insert_other}
 use Rattle.mqtt5_world.specs.World.{World}
 use Rattle.mqtt5_world.specs.Delivery.{is_acked, is_token_up, is_token_down, Token}
 

@@ -12,16 +12,16 @@ use Rattle.mqtt5_flow.specs.declared.pubrec.PubRec.{PubRec}
 use Rattle.mqtt5_flow.specs.declared.pubcomp.PubComp.{PubComp}
 use Rattle.mqtt5_codec.specs.declared.packet.Packet.{Packet}
 use Rattle.mqtt5_codec.specs.declared.packet.Packet.TheVariants as packets
-use Rattle.mqtt5_session.specs.declared.slot.Slot.{Slot}
-use Rattle.mqtt5_session.specs.declared.slot.Slot.TheVariants.{Sent, Released}
-use Rattle.mqtt5_session.specs.declared.event.Event.{Event}
-use Rattle.mqtt5_session.specs.declared.event.Outgoing.TheVariants as outgoing
+use Rattle.mqtt5_held.specs.declared.slot.Slot.{Slot}
+use Rattle.mqtt5_held.specs.declared.slot.Slot.TheVariants.{Sent, Released}
+use Rattle.mqtt5_held.specs.declared.event.Event.{Event}
+use Rattle.mqtt5_held.specs.declared.event.Outgoing.TheVariants as outgoing
+use Rattle.mqtt5_held.proofs.Within.{IsUsed}
 use Rattle.mqtt5_session.specs.Release.{IsCounted}
 use Rattle.mqtt5_session.specs.Session.{Session, Answer, tells}
 use Rattle.mqtt5_session.specs.Requests.{release_of}
 use Rattle.mqtt5_session.specs.Packets.{inc, hears, freed_for, on_puback, on_received, on_pubrec, on_pubcomp, is_taken}
 use Rattle.mqtt5_session.specs.Packets as session
-use Rattle.mqtt5_session.proofs.Within.{IsUsed}
 use Rattle.mqtt5_session.proofs.Owed.{choose}
 use Rattle.mqtt5_session.proofs.Keeps.{Sound, inc_sound}
 use Rattle.mqtt5_world.specs.World.{World, heard, takes, returns}

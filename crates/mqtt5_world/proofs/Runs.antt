@@ -6,7 +6,7 @@ use Rattle.std.specs.FinSet as set
 use Rattle.mqtt5_base.specs.declared.quality.QoS.{QoS}
 use Rattle.mqtt5_base.specs.declared.quality.QoS.TheVariants.{AtMostOnce, AtLeastOnce, ExactlyOnce}
 use Rattle.mqtt5_flow.specs.declared.publish.Publish.{Publish}
-use Rattle.mqtt5_session.proofs.Within.{no_ids, Fits}
+use Rattle.mqtt5_held.proofs.Within.{no_ids, Fits}
 use Rattle.mqtt5_world.specs.declared.event.WorldEvent.{WorldEvent}
 use Rattle.mqtt5_world.specs.declared.event.WorldEvent.TheVariants as events
 use Rattle.mqtt5_world.specs.World.{World, start, happens, run, losses}

@@ -11,13 +11,13 @@ use Rattle.mqtt5_flow.specs.declared.publish.Publish.{Publish}
 use Rattle.mqtt5_flow.specs.contracts.publish.PublishPartialEq.TheImpl as publish
 use Rattle.mqtt5_codec.specs.declared.packet.Packet.{Packet}
 use Rattle.mqtt5_codec.specs.declared.packet.Packet.TheVariants as packets
-use Rattle.mqtt5_session.specs.declared.slot.Slot.{Slot}
-use Rattle.mqtt5_session.specs.declared.slot.Slot.TheVariants.{Sent, Released}
-use Rattle.mqtt5_session.specs.Held.{awaiting_ack}
+use Rattle.mqtt5_held.specs.declared.slot.Slot.{Slot}
+use Rattle.mqtt5_held.specs.declared.slot.Slot.TheVariants.{Sent, Released}
+use Rattle.mqtt5_held.specs.Held.{awaiting_ack}
+use Rattle.mqtt5_held.specs.Unacked.{by_id}
 use Rattle.mqtt5_session.specs.Session.{Core}
 use Rattle.mqtt5_session.specs.Requests.{release_of}
 use Rattle.mqtt5_session.specs.Packets.{puback_of, pubrec_of, pubcomp_of}
-use Rattle.mqtt5_session.specs.Cleaning.{by_id}
 use Rattle.mqtt5_world.specs.Broker.{reason_for}
 use Rattle.mqtt5_world.specs.World.{World}
 

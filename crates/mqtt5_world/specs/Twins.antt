@@ -2,13 +2,14 @@
 use Rattle.std.specs.Prelude.{◌≡◌, ℕ, List, [], ◌∷◌, Option, Result, map}
 use Rattle.mqtt5_codec.specs.declared.packet.Packet.{Packet}
 use Rattle.mqtt5_codec.specs.declared.packet.Packet.TheVariants as packets
-use Rattle.mqtt5_session.specs.declared.event.Request.{Request}
-use Rattle.mqtt5_session.specs.declared.event.Request.TheVariants as requests
-use Rattle.mqtt5_session.specs.declared.error.StateError.{StateError}
+use Rattle.mqtt5_held.specs.declared.event.Request.{Request}
+use Rattle.mqtt5_held.specs.declared.event.Request.TheVariants as requests
+use Rattle.mqtt5_held.specs.declared.error.StateError.{StateError}
+use Rattle.mqtt5_held.specs.Unacked.{alias_again, by_id, requests_of}
 use Rattle.mqtt5_session.specs.Session.{Session}
 use Rattle.mqtt5_session.specs.Requests.{out, protocol_error}
 use Rattle.mqtt5_session.specs.Packets.{inc}
-use Rattle.mqtt5_session.specs.Cleaning.{alias_again, by_id, requests_of, cleaned, resume_of}
+use Rattle.mqtt5_session.specs.Cleaning.{cleaned, resume_of}
 use Rattle.mqtt5_session.specs.Ledger.{kept_by}
 use Rattle.mqtt5_world.specs.declared.calls.Call.{Call}
 use Rattle.mqtt5_world.specs.declared.calls.Call.TheVariants as calls
@@ -67,11 +68,9 @@ aliases_over s = by_id (alias_again s.core.alias_max) s.core.limit s.core.held
 
 -- ---- the same replies
 
--- the same is said to a call; what is said to a ping (3.12) and to a PubRel (3.6) may differ, since after a resume no ping is
--- awaited, and no id of the broker is known (4.4)
+-- the same is said to a call; what is said to a ping may differ, since after a resume no ping is awaited (3.12, 4.4)
 abbrev pub SameReply : Call → Said → Said → Type 0
 SameReply (calls.Outgoing requests.PingReq at) a b = Unit {0}
-SameReply (calls.Incoming (packets.PubRel p) at) a b = Unit {0}
 SameReply call a b = a ≡ b
 
 -- so it is with each of these calls, and no more is said

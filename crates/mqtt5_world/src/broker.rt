@@ -22,7 +22,7 @@ pub struct Broker {
 impl Model for Broker {
     ghost use Rattle.std.specs.Coded.{codes};
     ghost use Rattle.mqtt5_flow.specs.contracts.publish.Publish as publish;
-    ghost use Rattle.mqtt5_session.specs.Codes.{coded_incoming};
+    ghost use Rattle.mqtt5_held.specs.Codes.{coded_incoming};
     ghost use Rattle.mqtt5_world.specs.Broker as model;
 
     ghost Value = { model.Broker };

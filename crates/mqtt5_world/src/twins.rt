@@ -41,7 +41,7 @@ pub fn twin(
     ensures resumed { IfOk result (λ t. all_said t.resumed.items ≡ replies_of after.now (taken_up (after_calls before.now (fresh limit manual)) 0)) }
     // What is sent again is the resume's.
     ensures resent { IfOk result (λ t. resume_of (after_calls before.now (fresh limit manual)) 0 ≡ Ok (t.resent.items, taken_up (after_calls before.now (fresh limit manual)) 0)) }
-    // The replies are the same, but for those to pings and to releases of the broker's ids.
+    // The replies are the same, but for those to pings.
     ensures alike { IfOk result (λ t. SameReplies after.now (all_said t.plain.items) (all_said t.resumed.items)) }
     // Memory or the resume is refused.
     ensures err { IfErr result (λ e. (e ≡ StateError.OutOfMemory) ⊎ (resume_of (after_calls before.now (fresh limit manual)) 0 ≡ Err e)) }

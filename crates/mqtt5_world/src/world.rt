@@ -33,9 +33,9 @@ impl Model for World {
     ghost use Rattle.std.specs.Coded.{codes};
     ghost use Rattle.mqtt5_flow.specs.contracts.publish.Publish as publish;
     ghost use Rattle.mqtt5_codec.specs.contracts.packet.Packet as packet;
-    ghost use Rattle.mqtt5_session.specs.contracts.error.StateError as error;
-    ghost use Rattle.mqtt5_session.specs.Codes.{coded_held, coded_aliases, coded_incoming};
-    ghost use Rattle.mqtt5_session.specs.contracts.event.Event as event;
+    ghost use Rattle.mqtt5_held.specs.contracts.error.StateError as error;
+    ghost use Rattle.mqtt5_held.specs.Codes.{coded_held, coded_aliases, coded_incoming};
+    ghost use Rattle.mqtt5_held.specs.contracts.event.Event as event;
     ghost use Rattle.mqtt5_world.specs.World as model;
 
     ghost Value = { model.World };

@@ -4,7 +4,7 @@ use super::walk::course;
 use std::test::Fail;
 
 /// The greatest id of each session, the calls and their rows.
-const COURSES: [(u16, &str, &str); 36] = [
+const COURSES: [(u16, &str, &str); 39] = [
     (1, "*2 *w <r", FAILED),
     (1, "*B *B >P >P <A", PINGS_WHILE_ONE_WAITS),
     (2, "<x <y <z <R <C <L", UNASKED),
@@ -31,6 +31,9 @@ const COURSES: [(u16, &str, &str); 36] = [
     (10, ">P *B <A >P <p >P", PINGS),
     (10, "<j >9", ALIAS_ABOVE_THE_MAXIMUM),
     (10, "<Z >9 <j ~", ALIAS_ABOVE_A_NEW_MAXIMUM),
+    (10, "<& <& ^ <) <&", DUPLICATE),
+    (10, "<& <]", DUPLICATE_UNDER_AN_UNKNOWN_ALIAS),
+    (10, "+ <& <&", DUPLICATE_FOR_THE_USER),
     (65535, "<i <x ?", UNKNOWN_ACKS),
     (65535, ">0 *B *o <A <b", QUALITIES),
     (65535, "*B *o <W", RECEIVED),
@@ -66,7 +69,7 @@ const UNASKED: &str = "\
 <z S2(65535) z =
 <R S2(1) R =
 <C S2(1) C =
-<L S2(1) L =
+<L c L,PubComp(1) =
 ";
 
 /// Requests that a client never sends.
@@ -253,6 +256,28 @@ const ALIAS_ABOVE_A_NEW_MAXIMUM: &str = "\
 ~ S8(5,4) - =
 ";
 
+/// A publish of QoS 2 comes again, and after its release, with a clean between them.
+const DUPLICATE: &str = "\
+<& ( &,PubRec(7) ...../0i7
+<& ( PubRec(7) =
+^ - - =
+<) [ ),PubComp(7) ...../0
+<& ( &,PubRec(7) ...../0i7
+";
+
+/// A publish of QoS 2 comes again under an alias that nobody gave a topic.
+const DUPLICATE_UNDER_AN_UNKNOWN_ALIAS: &str = "\
+<& ( &,PubRec(7) ...../0i7
+<] O Disconnect =
+";
+
+/// A publish of QoS 2 comes again where the user acks.
+const DUPLICATE_FOR_THE_USER: &str = "\
++ - - ...../0u1
+<& - & ...../0i7u1
+<& - - =
+";
+
 /// Acks of ids that nothing was sent under.
 const UNKNOWN_ACKS: &str = "\
 <i S2(101) i =
@@ -296,7 +321,7 @@ const FROM_THE_BROKER: &str = "\
 const RELEASED_BY_THE_BROKER: &str = "\
 <2 R 2,PubRec(1) ...../0i1
 <L C L,PubComp(1) ...../0
-<L S2(1) L =
+<L c L,PubComp(1) =
 ";
 
 /// A release from the broker whose id it has lost.

@@ -1,7 +1,7 @@
 //! The packets of the worked rows.
 
 /// The packets by their names, each a letter, a digit or a sign.
-pub const FRAMES: [(u8, &[u8]); 64] = [
+pub const FRAMES: [(u8, &[u8]); 69] = [
     // Publishes to "a" with their name as payload: `0`, `1` and `2` of that QoS, `w` of QoS 2, and with id 2 `o`
     // of QoS 2 and `v` of QoS 1.
     (b'0', &[0x30, 0x05, 0x00, 0x01, 0x61, 0x00, 0x30]),
@@ -103,6 +103,15 @@ pub const FRAMES: [(u8, &[u8]); 64] = [
         b'f',
         &[0x34, 0x07, 0x00, 0x01, 0x61, 0x00, 0x03, 0x00, 0x66],
     ),
+    // Of QoS 2 with id 7: to "a", and to no topic under alias 9.
+    (
+        b'&',
+        &[0x34, 0x07, 0x00, 0x01, 0x61, 0x00, 0x07, 0x00, 0x78],
+    ),
+    (
+        b']',
+        &[0x34, 0x08, 0x00, 0x00, 0x00, 0x07, 0x03, 0x23, 0x00, 0x09],
+    ),
     // PubAck of the ids 0, 3 and 65,535, and of 1; with quota exceeded.
     (b'x', &[0x40, 0x02, 0x00, 0x00]),
     (b'y', &[0x40, 0x02, 0x00, 0x03]),
@@ -128,6 +137,10 @@ pub const FRAMES: [(u8, &[u8]); 64] = [
     (b'm', &[0x62, 0x02, 0x00, 0x02]),
     (b'e', &[0x62, 0x02, 0x00, 0x03]),
     (b'g', &[0x70, 0x02, 0x00, 0x03]),
+    // PubRec, PubRel and PubComp of id 7.
+    (b'(', &[0x50, 0x02, 0x00, 0x07]),
+    (b')', &[0x62, 0x02, 0x00, 0x07]),
+    (b'[', &[0x70, 0x02, 0x00, 0x07]),
     // Subscribe and SubAck, Unsubscribe, Unsubscribe without filters, UnsubAck.
     (
         b'S',

@@ -86,8 +86,8 @@ fn an_alias_above_the_maximum(rt: HostRuntime) {
 }
 
 #[test]
-fn an_id_of_the_broker_is_forgotten(rt: HostRuntime) -> Result<(), Fail> {
-    let came = runs(rt.alloc(), "<2", "<L ^")?;
-    assert_eq!(rt; came.as_str(), "C - ~ - ~ S2(1) - ");
+fn an_id_of_the_broker_is_kept(rt: HostRuntime) -> Result<(), Fail> {
+    let came = runs(rt.alloc(), "<&", "<) ^")?;
+    assert_eq!(rt; came.as_str(), "[ - ~ - ~ [ - ");
     Ok(())
 }

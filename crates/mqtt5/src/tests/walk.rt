@@ -356,9 +356,9 @@ fn add_number(
     write!(text, "{mark}{number}")
 }
 
-/// Adds the ids of the broker among the first three.
+/// Adds the ids of the broker among the first seven.
 fn add_incoming(state: &MqttState, text: &mut String) -> Result<(), AllocError> {
-    for id in 1..=3 {
+    for id in 1..=7 {
         if state.incoming_pub(id) {
             write!(text, "i{id}")?;
         }
@@ -390,7 +390,7 @@ fn add_ids(alloc: Global, state: &MqttState, text: &mut String) -> Result<(), St
 }
 
 /// What stands in a session: each id up to 5, the name of what waits, how many ids are in use, and then the last
-/// id (`@`), the ids of the broker up to 3 (`i`), whether a ping is awaited (`p`), the pings while a publish waits
+/// id (`@`), the ids of the broker up to 7 (`i`), whether a ping is awaited (`p`), the pings while a publish waits
 /// (`c`), the current maximum (`m`), the broker's greatest alias (`b`) and whether the user acks (`u`), each where
 /// a new session has another.
 pub(super) fn standing(alloc: Global, state: &MqttState) -> Result<String, StateError> {

@@ -1,27 +1,25 @@
 //! What each packet from the broker makes of the session.
 
-ghost use Rattle.std.specs.Prelude.{◌≡◌, ◌<◌, ◌≤◌, IfOk, OnOk, OnErr, Ok, Err, Some, None, is_some, true, false, unwrap_or};
+ghost use Rattle.std.specs.Prelude.{◌≡◌, ◌<◌, ◌≤◌, IfOk, OnOk, OnErr, Ok, Err, Some, None, is_some, true, false, unwrap_or, option_map, cond, ◌&&◌};
 ghost use Rattle.std.specs.FinSet as set;
+ghost use Rattle.mqtt5_held.specs.Aliases.{alias_of};
 ghost use Rattle.mqtt5_session.specs.Release.{sent_for, held_after, waiting_after, IsCounted};
 ghost use Rattle.mqtt5_session.specs.Session.{Session, Hears, tells};
-ghost use Rattle.mqtt5_session.specs.Requests.{alias_of, disconnect_of};
-ghost use Rattle.mqtt5_session.specs.Packets.{hears, takes, heard, told, freed_for, is_taken, on_received, on_released, topic_under, topics_with, ids_with, on_qos, aliases_allowed, current_allowed, on_connack, reason_in};
+ghost use Rattle.mqtt5_session.specs.Requests.{disconnect_of};
+ghost use Rattle.mqtt5_session.specs.Packets.{hears, notes, takes, heard, told, is_exactly_once, freed_for, is_taken, on_received, pubcomp_of, topic_under, topics_with, ids_with, on_qos, aliases_allowed, current_allowed, on_connack, reason_in};
 
 use super::MqttState;
-use crate::aliases::{Aliases, alias_of};
-use crate::error::StateError;
-use crate::event::{Event, Outgoing};
-use crate::ids::Ids;
 use crate::packed::{
     as_connack, as_disconnect, as_puback, as_pubcomp, as_publish, as_pubrec, as_pubrel, as_release,
     as_reply, disconnect_packet,
 };
-use crate::slot::Slot;
-use crate::slots::Slots;
 use bytes::Bytes;
 use mqtt5_base::{QoS, Text, copied};
 use mqtt5_codec::Packet;
-use mqtt5_flow::{PubAck, PubComp, PubRec, PubRecReason, PubRel, PubRelReason, Publish};
+use mqtt5_flow::{
+    PubAck, PubComp, PubCompReason, PubRec, PubRecReason, PubRel, PubRelReason, Publish,
+};
+use mqtt5_held::{Aliases, Event, Ids, Outgoing, Slot, Slots, StateError, alias_of};
 use mqtt5_link::{
     ConnAck, ConnAckProperties, ConnectReturnCode, Disconnect, DisconnectProperties,
     DisconnectReasonCode,
@@ -39,6 +37,21 @@ impl MqttState {
             return Err(refused);
         }
         self.events.push_back_reserved(Event::Incoming(packet));
+        Ok(())
+    }
+
+    /// Adds the event of a packet and that of its answer.
+    fn note_both(&mut self, packet: Packet, answer: Outgoing, at: u64) -> Result<(), AllocError>
+        ensures ok { OnOk result (self.new ≡ record (tells (hears self.old packet) answer) { last_incoming = at }) }
+        ensures err { OnErr result (self.new ≡ self.old) }
+    {
+        if let Err(refused) = self.events.reserve(2) {
+            drop(packet);
+            return Err(refused);
+        }
+        self.events.push_back_reserved(Event::Incoming(packet));
+        self.events.push_back_reserved(Event::Outgoing(answer));
+        self.last_incoming = at;
         Ok(())
     }
 
@@ -163,35 +176,44 @@ impl MqttState {
         ensures { Hears result self.old self.new (heard (hears self.old (Packet.PubRel release)) (Packet.PubRel release) at) }
     {
         let id = release.pkid;
-        let reason = release.reason;
         if !self.incoming.contains(id) {
-            self.note(as_pubrel(release))?;
-            return Err(StateError::Unsolicited(id));
+            return self.complete(release, PubCompReason::PacketIdentifierNotFound, at);
         }
-        self.complete(release, reason, id, at)
+        if release.reason != PubRelReason::Success {
+            return self.drop_id(release, at);
+        }
+        let answer = self.complete(release, PubCompReason::Success, at)?;
+        self.incoming.remove(id);
+        Ok(answer)
     }
 
-    /// Takes out the id of a publish that was released.
+    /// Answers a release.
     fn complete(
         &mut self,
         release: PubRel,
-        reason: PubRelReason,
-        id: u16,
+        reason: PubCompReason,
         at: u64,
     ) -> Result<Option<Packet>, StateError>
-        ensures { Hears result self.old self.new (on_released reason (record (hears self.old (Packet.PubRel release)) { incoming = set.remove self.old.incoming id }) id at) }
+        ensures { Hears result self.old self.new (Ok (Some (pubcomp_of release.pkid reason)), record (tells (hears self.old (Packet.PubRel release)) (Outgoing.PubComp release.pkid)) { last_incoming = at }) }
     {
-        self.events.reserve(2)?;
-        self.incoming.remove(id);
-        self.events
-            .push_back_reserved(Event::Incoming(as_pubrel(release)));
+        let pkid = release.pkid;
+        self.note_both(as_pubrel(release), Outgoing::PubComp(pkid), at)?;
+        Ok(Some(as_pubcomp(PubComp {
+            pkid,
+            reason,
+            properties: None,
+        })))
+    }
+
+    /// Takes out the id of a publish that the broker doesn't go on with.
+    fn drop_id(&mut self, release: PubRel, at: u64) -> Result<Option<Packet>, StateError>
+        ensures { Hears result self.old self.new (takes (record (hears self.old (Packet.PubRel release)) { core = record self.old.core { incoming = set.remove self.old.core.incoming release.pkid } }) at) }
+    {
+        let pkid = release.pkid;
+        self.note(as_pubrel(release))?;
+        self.incoming.remove(pkid);
         self.last_incoming = at;
-        if reason != PubRelReason::Success {
-            return Ok(None);
-        }
-        self.events
-            .push_back_reserved(Event::Outgoing(Outgoing::PubComp(id)));
-        Ok(Some(as_pubcomp(PubComp::new(id, None))))
+        Ok(None)
     }
 
     pub(super) fn hear_publish(
@@ -199,25 +221,29 @@ impl MqttState {
         mut publish: Publish,
         at: u64,
     ) -> Result<Option<Packet>, StateError>
-        ensures { Hears result self.old self.new (heard (hears self.old (told self.old (Packet.Publish publish))) (Packet.Publish publish) at) }
+        ensures { Hears result self.old self.new (heard (notes self.old (told self.old (Packet.Publish publish))) (Packet.Publish publish) at) }
     {
         let topic = copied(&publish.topic)?;
         let alias = alias_of(&publish);
         let id = publish.pkid;
         let qos = publish.qos;
-        if !name(&self.aliases, &mut publish)? {
-            return self.refuse_alias(publish, at);
+        let is_known = name(&self.aliases, &mut publish)?;
+        let told = unless_again(publish, self.incoming.contains(id));
+        if !is_known {
+            return self.refuse_alias(told, at);
         }
-        self.take_publish(publish, alias, topic, qos, id, at)
+        self.take_publish(told, alias, topic, qos, id, at)
     }
 
     /// Answers a publish under an alias that isn't known.
-    fn refuse_alias(&mut self, publish: Publish, at: u64) -> Result<Option<Packet>, StateError>
-        ensures { Hears result self.old self.new (Ok (Some (disconnect_of DisconnectReasonCode.ProtocolError)), record (tells (hears self.old (Packet.Publish publish)) Outgoing.Disconnect) { last_incoming = at }) }
+    fn refuse_alias(&mut self, told: Option<Publish>, at: u64) -> Result<Option<Packet>, StateError>
+        ensures { Hears result self.old self.new (Ok (Some (disconnect_of DisconnectReasonCode.ProtocolError)), record (tells (notes self.old (option_map Packet.Publish told)) Outgoing.Disconnect) { last_incoming = at }) }
     {
         self.events.reserve(2)?;
-        self.events
-            .push_back_reserved(Event::Incoming(as_publish(publish)));
+        if let Some(publish) = told {
+            self.events
+                .push_back_reserved(Event::Incoming(as_publish(publish)));
+        }
         self.events
             .push_back_reserved(Event::Outgoing(Outgoing::Disconnect));
         self.last_incoming = at;
@@ -227,19 +253,21 @@ impl MqttState {
     /// Keeps the alias and the id of a publish, and answers it.
     fn take_publish(
         &mut self,
-        publish: Publish,
+        told: Option<Publish>,
         alias: Option<u16>,
         topic: Bytes,
         qos: QoS,
         id: u16,
         at: u64,
     ) -> Result<Option<Packet>, StateError>
-        ensures { Hears result self.old self.new (on_qos qos (record (hears self.old (Packet.Publish publish)) { core = record self.old.core { aliases = topics_with alias topic self.old.core.aliases }; incoming = ids_with qos self.old.incoming id }) id at) }
+        ensures { Hears result self.old self.new (on_qos qos (record (notes self.old (option_map Packet.Publish told)) { core = record self.old.core { aliases = topics_with alias topic self.old.core.aliases; incoming = ids_with qos self.old.core.incoming id } }) id at) }
     {
         self.events.reserve(2)?;
         keep(&mut self.aliases, &mut self.incoming, alias, topic, qos, id)?;
-        self.events
-            .push_back_reserved(Event::Incoming(as_publish(publish)));
+        if let Some(publish) = told {
+            self.events
+                .push_back_reserved(Event::Incoming(as_publish(publish)));
+        }
         self.last_incoming = at;
         if qos == QoS::AtMostOnce || self.manual_acks {
             return Ok(None);
@@ -363,6 +391,17 @@ fn name(topics: &Aliases, publish: &mut Publish) -> Result<bool, AllocError>
             Ok(true)
         }
         None => Ok(false),
+    }
+}
+
+/// A publish, unless it is a duplicate.
+fn unless_again(publish: Publish, is_kept: bool) -> Option<Publish>
+    ensures { result ≡ cond (is_exactly_once publish.qos && is_kept) None (Some publish) }
+{
+    if publish.qos == QoS::ExactlyOnce && is_kept {
+        None
+    } else {
+        Some(publish)
     }
 }
 

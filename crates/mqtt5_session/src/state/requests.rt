@@ -6,17 +6,14 @@ ghost use Rattle.mqtt5_session.specs.Session.{Session, Sends};
 ghost use Rattle.mqtt5_session.specs.Requests.{id_for, last_after, tells_at, judged, Verdict, out_once, out_identified, out_publish, stored, awaits, out_release, out_subscribe, out_unsubscribe, pings_with, counts_ping, out_ping, disconnect_of};
 
 use super::MqttState;
-use crate::aliases::alias_over;
-use crate::error::StateError;
-use crate::event::{Event, Outgoing};
 use crate::packed::{
     as_disconnect, as_ping, as_puback, as_publish, as_pubrec, as_release, as_subscribe,
     as_unsubscribe,
 };
-use crate::slot::Slot;
 use mqtt5_base::{QoS, copied};
 use mqtt5_codec::Packet;
 use mqtt5_flow::{PubAck, PubRec, Publish};
+use mqtt5_held::{Event, Outgoing, Slot, StateError, alias_over};
 use mqtt5_link::DisconnectReasonCode;
 use mqtt5_subs::{Subscribe, Unsubscribe};
 use std::alloc::AllocError;

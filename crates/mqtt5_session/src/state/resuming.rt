@@ -3,14 +3,13 @@
 ghost use Rattle.std.specs.Prelude.{◌≡◌, ◌+◌, ◌≤◌, ◌++◌, IfOk, length};
 ghost use Rattle.std.specs.List.{filter_map};
 ghost use Rattle.std.specs.VecDeque.{deque_len, deque_capacity};
-ghost use Rattle.mqtt5_session.specs.Held.{IsWithin};
+ghost use Rattle.mqtt5_held.specs.Held.{IsWithin};
 ghost use Rattle.mqtt5_session.specs.Cleaning.{Resumes};
 ghost use Rattle.mqtt5_session.specs.Again.{event_for, moment_after, resumed};
 
 use super::MqttState;
-use crate::error::StateError;
-use crate::event::{Event, Outgoing};
 use mqtt5_codec::Packet;
+use mqtt5_held::{Event, Outgoing, StateError};
 use std::collections::VecDeque;
 
 impl MqttState {
@@ -28,7 +27,6 @@ impl MqttState {
         self.events.reserve(packets.len())?;
         tell_all(&mut self.events, &packets);
         self.last_outgoing = moment_after(&packets, self.last_outgoing, at);
-        self.incoming.clear();
         self.awaits_ping = false;
         self.collision_pings = 0;
         Ok(packets)

@@ -1,0 +1,77 @@
+-- How many ids are in use, and how many requests a clean gives.
+use Rattle.std.proofs.Common.{◌≡◌, ℕ, zero, suc, ◌+◌, ◌-◌, ◌<◌, Bool, true, false, cond, List, length, Option, Some, None, refl, sym, ap, ◌∙◌, subst, arith, inl, inr}
+use Rattle.std.proofs.lemmas.List.{length-append}
+use Rattle.std.proofs.lemmas.Bool.{false≢true}
+use Rattle.std.proofs.Math.Nat.{eq-zero-or-pos}
+use Rattle.std.specs.Prelude.{is_some}
+use Rattle.std.specs.Cmp.{nat_cmp_total}
+use Rattle.std.specs.FinMap.{get, len, insert, remove, contains_key, get-empty, empty_of_len, len-insert, len-remove, len-empty}
+use Rattle.std.specs.Ordering.{nat_cmp}
+use Rattle.mqtt5_held.specs.declared.slot.Slot.{Slot}
+use Rattle.mqtt5_held.specs.declared.slot.Slot.TheVariants.{Sent, Released}
+use Rattle.mqtt5_held.specs.declared.event.Request.{Request}
+use Rattle.mqtt5_held.specs.Held.{Held}
+use Rattle.mqtt5_held.specs.Unacked.{by_id, publish_again, release_again, requests_of}
+use Rattle.mqtt5_held.proofs.Within.{no_ids, Fits}
+use Rattle.mqtt5_held.proofs.Parts.{is_sent, is_kept, with_slot, map_to, above, FreeFor, free_first, free_then, whole_map}
+
+pub len_used : (m : Held) (id : ℕ) (x y : Slot) → get m id ≡ Some x → len (insert m id y) ≡ len m
+len_used m id x y e = len-insert nat_cmp_total m id y ∙ ap (λ b. cond b (len m) (len m + 1)) (ap is_some e)
+
+pub len_free : (m : Held) (id : ℕ) (y : Slot) → get m id ≡ None → len (insert m id y) ≡ len m + 1
+len_free m id y e = len-insert nat_cmp_total m id y ∙ ap (λ b. cond b (len m) (len m + 1)) (ap is_some e)
+
+-- an id in use is counted
+one_in_use : (m : Held) (i : ℕ) → contains_key m i ≡ true → 0 < len m
+one_in_use m i e = elim (eq-zero-or-pos (len m)) [
+  | inl z ↦ absurd (false≢true (ap is_some (sym (get-empty nat_cmp i)) ∙ ap (λ k. contains_key k i) (sym (empty_of_len m z)) ∙ e))
+  | inr p ↦ p
+]
+
+pub len_removed : (m : Held) (id : ℕ) (x : Slot) → get m id ≡ Some x → len (remove m id) + 1 ≡ len m
+len_removed m id x e =
+    let some : 0 < len m = one_in_use m id (ap is_some e) in
+    let less : len (remove m id) ≡ len m - 1 = len-remove nat_cmp_total m id ∙ ap (λ b. cond b (len m - 1) (len m)) (ap is_some e) in
+    omega arith
+
+-- ---- what a clean gives
+
+abbrev chosen : (Slot → Bool) → Option Slot → ℕ
+chosen ok None = 0
+chosen ok (Some x) = cond (ok x) 1 0
+
+len_with : (ok : Slot → Bool) (id : ℕ) (x : Option Slot) (b : Held) → FreeFor ok x (get b id) → len (with_slot ok id x b) ≡ len b + chosen ok x
+len_with ok id None b free = omega arith
+len_with ok id (Some x) b free = by (ok x) free
+  where
+    by : (t : Bool) → (t ≡ true → get b id ≡ None) → len (cond t (insert b id x) b) ≡ len b + cond t 1 0
+    by true free = len_free b id x (free refl)
+    by false free = omega arith
+
+len_to : (ok : Slot → Bool) (f : ℕ → Option Slot → List Request) → ((id : ℕ) (x : Option Slot) → length (f id x) ≡ chosen ok x) → (h b : Held) → ((k : ℕ) → FreeFor ok (get h k) (get b k)) → (n : ℕ) → len (map_to ok n h b) ≡ len b + length (by_id f n h)
+len_to ok f one h b free zero = omega arith
+len_to ok f one h b free (suc n) =
+    let here = len_with ok (suc n) (get h (suc n)) (map_to ok n h b) (subst (FreeFor ok (get h (suc n))) (sym (above ok h b n (suc n) (omega arith))) (free (suc n))) in
+    let rest = len_to ok f one h b free n in
+    let some = one (suc n) (get h (suc n)) in
+    let both = length-append (by_id f n h) (f (suc n) (get h (suc n))) in
+    omega arith
+
+one_sent : (id : ℕ) (x : Option Slot) → length (publish_again id x) ≡ chosen is_sent x
+one_sent id None = refl
+one_sent id (Some (Sent p)) = refl
+one_sent id (Some Released) = refl
+
+one_kept : (id : ℕ) (x : Option Slot) → length (release_again id x) ≡ chosen is_kept x
+one_kept id None = refl
+one_kept id (Some (Sent p)) = refl
+one_kept id (Some Released) = refl
+
+pub requests_len : (limit : ℕ) (h : Held) → ((k : ℕ) → Fits limit k (get h k)) → length (requests_of limit h) ≡ len h
+requests_len n h fit =
+    let sent = len_to is_sent publish_again one_sent h no_ids (free_first h) n in
+    let kept = len_to is_kept release_again one_kept h (map_to is_sent n h no_ids) (λ k. free_then n h k (fit k)) n in
+    let none : len no_ids ≡ 0 = len-empty nat_cmp _ in
+    let whole = ap len (whole_map n h fit) in
+    let both = length-append (by_id publish_again n h) (by_id release_again n h) in
+    omega arith

@@ -1,0 +1,7 @@
+pub mod Errors
+pub mod Held
+pub mod Codes
+pub mod Aliases
+pub mod Unacked
+pub mod Resent
+pub mod Sound
