@@ -11,8 +11,9 @@ use Rattle.mqtt5_held.specs.declared.slot.Slot.{Slot}
 use Rattle.mqtt5_held.specs.declared.slot.Slot.TheVariants.{Sent, Released}
 use Rattle.mqtt5_held.specs.declared.event.Request.{Request}
 use Rattle.mqtt5_held.specs.Held.{Held}
-use Rattle.mqtt5_held.specs.Unacked.{by_id, publish_again, release_again, requests_of}
+use Rattle.mqtt5_held.specs.Unacked.{by_id, publish_again, release_again, requests_of, slot_again}
 use Rattle.mqtt5_held.proofs.Within.{no_ids, Fits}
+use Rattle.mqtt5_held.proofs.Marked.{len_again}
 use Rattle.mqtt5_held.proofs.Parts.{is_sent, is_kept, with_slot, map_to, above, FreeFor, free_first, free_then, whole_map}
 
 pub len_used : (m : Held) (id : ℕ) (x y : Slot) → get m id ≡ Some x → len (insert m id y) ≡ len m
@@ -44,8 +45,8 @@ len_with : (ok : Slot → Bool) (id : ℕ) (x : Option Slot) (b : Held) → Free
 len_with ok id None b free = omega arith
 len_with ok id (Some x) b free = by (ok x) free
   where
-    by : (t : Bool) → (t ≡ true → get b id ≡ None) → len (cond t (insert b id x) b) ≡ len b + cond t 1 0
-    by true free = len_free b id x (free refl)
+    by : (t : Bool) → (t ≡ true → get b id ≡ None) → len (cond t (insert b id (slot_again x)) b) ≡ len b + cond t 1 0
+    by true free = len_free b id (slot_again x) (free refl)
     by false free = omega arith
 
 len_to : (ok : Slot → Bool) (f : ℕ → Option Slot → List Request) → ((id : ℕ) (x : Option Slot) → length (f id x) ≡ chosen ok x) → (h b : Held) → ((k : ℕ) → FreeFor ok (get h k) (get b k)) → (n : ℕ) → len (map_to ok n h b) ≡ len b + length (by_id f n h)
@@ -72,6 +73,6 @@ requests_len n h fit =
     let sent = len_to is_sent publish_again one_sent h no_ids (free_first h) n in
     let kept = len_to is_kept release_again one_kept h (map_to is_sent n h no_ids) (λ k. free_then n h k (fit k)) n in
     let none : len no_ids ≡ 0 = len-empty nat_cmp _ in
-    let whole = ap len (whole_map n h fit) in
+    let whole = ap len (whole_map n h fit) ∙ len_again h in
     let both = length-append (by_id publish_again n h) (by_id release_again n h) in
     omega arith

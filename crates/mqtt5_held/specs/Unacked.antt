@@ -1,7 +1,8 @@
 -- What awaits an ack and is sent again when a kept session is taken up (MQTT 5.0 section 4.4).
-use Rattle.std.specs.Prelude.{ℕ, zero, suc, List, [], ◌∷◌, ◌++◌, Option, Some, None}
+use Rattle.std.specs.Prelude.{ℕ, zero, suc, true, List, [], ◌∷◌, ◌++◌, Option, Some, None, map}
 use Rattle.std.specs.Option.{option_to_list}
-use Rattle.std.specs.FinMap as map
+use Rattle.std.specs.FinMap.{get, entries, from_entries}
+use Rattle.mqtt5_flow.specs.declared.publish.Publish.{Publish}
 use Rattle.mqtt5_flow.specs.declared.pubrel.PubRelReason.TheVariants as pubrel_reasons
 use Rattle.mqtt5_held.specs.declared.slot.Slot.{Slot}
 use Rattle.mqtt5_held.specs.declared.slot.Slot.TheVariants.{Sent, Released}
@@ -13,11 +14,15 @@ use Rattle.mqtt5_held.specs.Aliases.{alias_of, alias_over}
 -- what the ids from 1 to n give, by rising id
 abbrev pub by_id : {A : Type 0} → (ℕ → Option Slot → List A) → ℕ → Held → List A
 by_id f zero held = []
-by_id f (suc n) held = by_id f n held ++ f (suc n) (map.get held (suc n))
+by_id f (suc n) held = by_id f n held ++ f (suc n) (get held (suc n))
+
+-- a publish that is sent again says so (3.3.1.1)
+abbrev pub again : Publish → Publish
+again p = record p { dup = true }
 
 -- a publish that awaits its ack is sent again (4.4)
 abbrev pub publish_again : ℕ → Option Slot → List Request
-publish_again id (Some (Sent p)) = requests.Publish p ∷ []
+publish_again id (Some (Sent p)) = requests.Publish (again p) ∷ []
 publish_again id slot = []
 
 -- so is the release of an id (4.4)
@@ -33,3 +38,12 @@ requests_of limit held = by_id publish_again limit held ++ by_id release_again l
 abbrev pub alias_again : ℕ → ℕ → Option Slot → List ℕ
 alias_again max id (Some (Sent p)) = option_to_list (alias_over max (alias_of p))
 alias_again max id slot = []
+
+-- what is known of an id once it is sent again: the publish has dup (3.3.1.1)
+abbrev pub slot_again : Slot → Slot
+slot_again (Sent p) = Sent (again p)
+slot_again Released = Released
+
+-- the ids in use once all are sent again
+unfoldable pub held_again : Held → Held
+held_again held = from_entries (map (λ e. (e.0, slot_again e.1)) (entries held))

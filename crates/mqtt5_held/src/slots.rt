@@ -7,7 +7,7 @@ ghost use Rattle.std.specs.FinMap as map;
 ghost use Rattle.std.specs.List.{flat_map};
 ghost use Rattle.std.specs.Option.{option_copied, option_to_list};
 ghost use Rattle.mqtt5_held.specs.Held.{HasId, IsWithin, awaiting_ack, is_released};
-ghost use Rattle.mqtt5_held.specs.Unacked.{alias_again, by_id, publish_again, release_again, requests_of};
+ghost use Rattle.mqtt5_held.specs.Unacked.{again, alias_again, by_id, held_again, publish_again, release_again, requests_of, slot_again};
 ghost use Rattle.mqtt5_held.specs.Resent.{packet_for, packets_of};
 
 use crate::aliases::alias_over;
@@ -110,7 +110,7 @@ impl Slots {
         matches!(self.get(id), Some(Slot::Released))
     }
 
-    /// What is to be sent again: the publishes, then the releases, each by rising id.
+    /// What is to be sent again: the publishes, with `dup`, then the releases, each by rising id.
     pub fn requests(&self) -> Result<Vec<Request>, AllocError>
         ensures items { IfOk result (λ v. v.items ≡ requests_of self.now.limit self.now.held) }
         ensures count { IfOk result (λ v. length v.items ≡ map.len self.now.held) }
@@ -156,6 +156,16 @@ impl Slots {
         Ok(())
     }
 
+    /// Sets `dup` of each publish, as it is when that is sent again.
+    pub fn mark_again(&mut self)
+        ensures { self.new ≡ record self.old { held = held_again self.old.held } }
+    {
+        self.held.retain(|_, slot| {
+            mark_again(slot);
+            true
+        });
+    }
+
     /// Makes each id free.
     pub fn clear(&mut self)
         ensures { self.new ≡ record self.old { held = map.empty } }
@@ -196,10 +206,28 @@ fn push_sent(requests: &mut Vec<Request>, held: &BTreeMap<u16, Slot>) -> Result<
 {
     for (_, slot) in held {
         if let Slot::Sent(publish) = slot {
-            requests.push(Request::Publish(copied(publish)?))?;
+            requests.push(sent_again(publish)?)?;
         }
     }
     Ok(())
+}
+
+/// The request that sends a publish again.
+fn sent_again(publish: &Publish) -> Result<Request, AllocError>
+    ensures { IfOk result (λ r. r ≡ Request.Publish (again publish.now)) }
+{
+    let mut copy = copied(publish)?;
+    copy.dup = true;
+    Ok(Request::Publish(copy))
+}
+
+/// Sets `dup` of a publish that awaits an ack.
+fn mark_again(slot: &mut Slot)
+    ensures { slot.new ≡ slot_again slot.old }
+{
+    if let Slot::Sent(publish) = slot {
+        publish.dup = true;
+    }
 }
 
 /// Adds the releases.

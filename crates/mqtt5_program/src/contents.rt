@@ -1,4 +1,4 @@
-//! The lines that tell of a world: what came of each content, which is a publish but for its id. Printing
+//! The lines that tell of a world: what came of each content, which is a publish but for its id and dup. Printing
 //! takes no memory.
 
 use crate::report::write_message;
@@ -76,10 +76,9 @@ fn is_waiting(state: &MqttState, content: &Publish) -> bool {
     }
 }
 
-/// Whether two publishes are the same but for their ids.
+/// Whether two publishes are the same but for their ids and `dup`.
 fn has_content(publish: &Publish, content: &Publish) -> bool {
-    publish.dup == content.dup
-        && publish.qos == content.qos
+    publish.qos == content.qos
         && publish.retain == content.retain
         && publish.topic == content.topic
         && publish.payload == content.payload

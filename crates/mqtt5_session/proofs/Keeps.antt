@@ -1,5 +1,5 @@
 -- Each call keeps the ids in use within the limit and publishes under their own ids; so what is owed adds up.
-use Rattle.std.proofs.Common.{◌≡◌, ◌≢◌, ℕ, zero, suc, ◌+◌, ◌<◌, ◌≤◌, Bool, true, false, cond, List, [], ◌∷◌, ◌==◌, length, Option, Some, None, refl, sym, ap, ◌∙◌, subst, arith, nat_lt, ne_eqb}
+use Rattle.std.proofs.Common.{◌≡◌, ◌≢◌, ℕ, zero, suc, ◌+◌, ◌<◌, ◌≤◌, Bool, true, false, cond, List, [], ◌∷◌, ◌==◌, length, Option, Some, None, refl, sym, ap, subst, arith, nat_lt, ne_eqb}
 use Rattle.std.proofs.lemmas.Bool.{ltb-false, eqb-true}
 use Rattle.std.specs.Prelude.{is_some}
 use Rattle.std.specs.FinMap.{get, len, len-empty}
@@ -23,17 +23,18 @@ use Rattle.mqtt5_held.specs.declared.event.Request.TheVariants as requests
 use Rattle.mqtt5_held.specs.declared.event.Outgoing.{Outgoing}
 use Rattle.mqtt5_held.specs.declared.error.StateError.{StateError}
 use Rattle.mqtt5_held.specs.Held.{Held}
-use Rattle.mqtt5_held.specs.Unacked.{alias_again, by_id}
+use Rattle.mqtt5_held.specs.Unacked.{alias_again, by_id, held_again}
 use Rattle.mqtt5_held.specs.Resent.{packets_of}
 use Rattle.mqtt5_held.proofs.Within.{no_ids, Fits, IsUsed, with_used, without, none_used, within_fits}
+use Rattle.mqtt5_held.proofs.Marked.{again_twice, fits_again, len_again}
 use Rattle.mqtt5_held.proofs.Counts.{requests_len}
 use Rattle.mqtt5_session.specs.Release.{IsCounted}
 use Rattle.mqtt5_session.specs.Session.{Core, Session, Answer, fresh}
 use Rattle.mqtt5_session.specs.Requests.{out, next_id, unless, over_maximum, Verdict, Refuse, Wait, Store, out_acked, out_publish, out_release, out_known, id_for, last_after, ping_fault, counts_ping}
 use Rattle.mqtt5_session.specs.Packets.{inc, heard, hears, notes, told, freed_for, on_puback, on_received, on_pubrec, on_pubcomp, on_pubrel, on_publish, on_qos, answers, on_connack, is_taken, topic_of}
-use Rattle.mqtt5_session.specs.Cleaning.{cleaned, resume_of}
+use Rattle.mqtt5_session.specs.Cleaning.{cleaned, marked, resume_of}
 use Rattle.mqtt5_session.specs.Again.{sent_unless}
-use Rattle.mqtt5_session.specs.Ledger.{owed, Call, Ask, Hear, Error, Clean, Resume, kept_by, after, added, taken, after_all, added_by, taken_by, IsLedger}
+use Rattle.mqtt5_session.specs.Ledger.{owed, one_of, Call, Ask, Hear, Error, Clean, Resume, kept_by, after, added, taken, after_all, added_by, taken_by, IsLedger}
 use Rattle.mqtt5_session.proofs.Resume.{resumes}
 use Rattle.mqtt5_session.proofs.Owed.{choose, Judges, judges, out_adds, inc_takes}
 
@@ -163,28 +164,38 @@ inc_sound s packet at i = noted (told s packet)
 
 -- ---- any call
 
--- a resume keeps all that decides ids and deliveries
-pub resume_core : (s : Session) (at : ℕ) → Sound s.core → (kept_by s (resume_of s at)).core ≡ s.core
-resume_core s at i =
-    ap (λ r. (kept_by s r).core) (resumes s at (within_fits s.core.limit s.core.held i.0)) ∙ by (by_id (alias_again s.core.alias_max) s.core.limit s.core.held)
+-- a resume sets dup of the publishes that await their acks, or changes nothing
+resume_either : (P : Core → Type 0) (s : Session) (at : ℕ) → Sound s.core → P (marked s.core) → P s.core → P (kept_by s (resume_of s at)).core
+resume_either P s at i sent kept =
+    subst (λ r. P (kept_by s r).core) (sym (resumes s at (within_fits s.core.limit s.core.held i.0))) (by (by_id (alias_again s.core.alias_max) s.core.limit s.core.held))
   where
-    by : (xs : List ℕ) → (kept_by s (sent_unless xs (packets_of s.core.limit s.core.held) s.core.held (cleaned s) at)).core ≡ s.core
-    by [] = refl
-    by (x ∷ xs) = refl
+    by : (xs : List ℕ) → P (kept_by s (sent_unless xs (packets_of s.core.limit s.core.held) (held_again s.core.held) (cleaned s) at)).core
+    by [] = sent
+    by (x ∷ xs) = kept
+
+-- it keeps all else that decides ids and deliveries
+pub resume_core : (s : Session) (at : ℕ) → Sound s.core → marked (kept_by s (resume_of s at)).core ≡ marked s.core
+resume_core s at i = resume_either (λ c. marked c ≡ marked s.core) s at i (ap (λ h. record s.core { held = h }) (again_twice s.core.held)) refl
+
+pub marked_sound : (c : Core) → Sound c → Sound (marked c)
+marked_sound c i = (fits_again c.limit c.held i.0, i.1)
+
+pub owed_marked : (c : Core) → owed (marked c) ≡ owed c
+owed_marked c = ap (λ n. n + one_of c.waiting) (len_again c.held)
 
 pub after_sound : (s : Session) (call : Call) → Sound s.core → Sound (after s call).core
 after_sound s (Ask request at) i = out_sound s request at i
 after_sound s (Hear packet at) i = inc_sound s packet at i
 after_sound s Error i = i
 after_sound s Clean i = (none_used s.core.limit, i.1)
-after_sound s (Resume at) i = subst Sound (sym (resume_core s at i)) i
+after_sound s (Resume at) i = resume_either Sound s at i (marked_sound s.core i) i
 
 one_call : (s : Session) (call : Call) → Sound s.core → owed (after s call).core + taken s call ≡ owed s.core + added s call
 one_call s (Ask request at) i = let e = out_adds s request at in omega arith
 one_call s (Hear packet at) i = let e = inc_takes s packet at in omega arith
 one_call s Error i = omega arith
 one_call s Clean i = let e = requests_len s.core.limit s.core.held i.0 in let none : len no_ids ≡ 0 = len-empty nat_cmp _ in omega arith
-one_call s (Resume at) i = let e = ap owed (resume_core s at i) in omega arith
+one_call s (Resume at) i = let e = resume_either (λ c. owed c ≡ owed s.core) s at i (owed_marked s.core) refl in omega arith
 
 adds_up : (s : Session) (calls : List Call) → Sound s.core → owed (after_all s calls).core + taken_by s calls ≡ owed s.core + added_by s calls
 adds_up s [] i = omega arith

@@ -1,9 +1,8 @@
 -- What each call does to the ids of the broker, and what it hands on.
-use Rattle.std.proofs.Common.{◌≡◌, ℕ, ◌+◌, ◌-◌, ◌≤◌, Bool, true, false, cond, ◌&&◌, ◌==◌, List, [], ◌∷◌, ◌++◌, length, Option, Some, None, Result, Ok, Err, refl, sym, ap, ◌∙◌, subst, arith, rules, nat_lt, inl, inr, eq-eqb, ne_eqb}
-use Rattle.std.proofs.lemmas.Bool.{cases_eq, false≢true}
+use Rattle.std.proofs.Common.{◌≡◌, ℕ, ◌+◌, ◌≤◌, Bool, true, false, cond, ◌&&◌, ◌==◌, List, [], ◌∷◌, ◌++◌, length, Option, Some, None, Result, Ok, Err, refl, sym, ap, ◌∙◌, subst, arith, rules, nat_lt, inl, inr, eq-eqb, ne_eqb}
+use Rattle.std.proofs.lemmas.Bool.{cases_eq}
 use Rattle.std.proofs.lemmas.List.Sums.{sum_by-append}
 use Rattle.std.specs.Prelude.{is_some, ◌||◌, not, unwrap_or}
-use Rattle.std.specs.List.{count_by}
 use Rattle.std.specs.Cmp.{nat_cmp_total, unsigned_tied}
 use Rattle.std.specs.Ordering.{nat_cmp, eq_by_cmp}
 use Rattle.std.specs.FinMap.{get}
@@ -33,12 +32,12 @@ use Rattle.mqtt5_held.specs.declared.event.Outgoing.TheVariants as outgoing
 use Rattle.mqtt5_held.specs.declared.error.StateError.{StateError}
 use Rattle.mqtt5_held.specs.declared.error.StateError.TheVariants as errors
 use Rattle.mqtt5_held.specs.Aliases.{alias_of}
-use Rattle.mqtt5_session.specs.Session.{Core, Session, Answer, Hears, Sends, tells}
-use Rattle.mqtt5_session.specs.Requests.{out, unless, over_maximum, Verdict, Refuse, Wait, Store, out_acked, out_publish, out_release, out_known, id_for, last_after, counts_ping, ping_fault, disconnect_of}
+use Rattle.mqtt5_session.specs.Session.{Session, Answer, Hears, Sends, tells}
+use Rattle.mqtt5_session.specs.Requests.{out, unless, over_maximum, Verdict, Refuse, Wait, Store, out_acked, out_publish, out_known, id_for, last_after, counts_ping, ping_fault, disconnect_of}
 use Rattle.mqtt5_session.specs.Packets.{inc, heard, hears, notes, told, is_exactly_once, pubrec_of, pubcomp_of, topics_with, freed_for, on_puback, on_received, on_pubrec, on_pubcomp, on_pubrel, on_released, on_publish, on_qos, answers, on_connack, is_taken, topic_of, ids_with}
 use Rattle.mqtt5_session.specs.Cleaning.{cleaned, Sendings, with_reply, send_all, resume_of}
 use Rattle.mqtt5_session.specs.Ledger.{Call, Ask, Hear, Error, Clean, Resume, kept_by, accepted, after, after_all}
-use Rattle.mqtt5_session.specs.Once.{one_if, kept_id, is_notice, notices, notified, released, notified_in, released_in, notified_by, released_by, IsOnce}
+use Rattle.mqtt5_session.specs.Once.{one_if, kept_id, is_notice, notices, notified, released, notified_in, released_in, notified_by, released_by}
 use Rattle.mqtt5_session.proofs.Owed.{choose}
 use Rattle.mqtt5_session.proofs.Sets.{insert-again}
 

@@ -1,4 +1,4 @@
--- To resume sends the packets of what is held, in one piece, and keeps what is held.
+-- To resume sends the packets of what is held, in one piece, and keeps what is held, with dup.
 use Rattle.std.proofs.Common.{◌≡◌, ◌≢◌, ℕ, zero, suc, ◌<◌, ◌≤◌, Bool, false, cond, List, [], ◌∷◌, ◌++◌, ◌==◌, Option, Some, None, Result, Ok, Err, refl, sym, ap, ◌∙◌, subst, arith, le-ltb, ne_eqb, append_assoc, append-nil}
 use Rattle.std.specs.List.{filter_map}
 use Rattle.std.specs.Option.{option_to_list}
@@ -17,7 +17,7 @@ use Rattle.mqtt5_held.specs.declared.error.StateError.{StateError}
 use Rattle.mqtt5_held.specs.declared.error.StateError.TheVariants as errors
 use Rattle.mqtt5_held.specs.Held.{Held, IsWithin}
 use Rattle.mqtt5_held.specs.Aliases.{alias_of, alias_over}
-use Rattle.mqtt5_held.specs.Unacked.{alias_again, by_id, publish_again, release_again}
+use Rattle.mqtt5_held.specs.Unacked.{again, alias_again, by_id, publish_again, release_again}
 use Rattle.mqtt5_held.specs.Resent.{packet_for, packets_of}
 use Rattle.mqtt5_held.proofs.Within.{Fits, fits}
 use Rattle.mqtt5_held.proofs.Parts.{is_sent, is_kept, with_slot, map_to, above, FreeFor, free_first, free_then, whole_map}
@@ -134,10 +134,10 @@ resent_by ExactlyOnce s p at counted pos within free = resent_as s p at pos with
 nothing : (ps : List Packet) (m : Held) (s : Session) (at : ℕ) → ◌≡◌ {A = Sendings} (Ok ([], after_sent ps m s at)) (Ok ([], after_sent [] m (after_sent ps m s at) at))
 nothing ps m s at = ap (λ t. Ok ([], t)) (sym (none_after (after_sent ps m s at) at))
 
-resent : (s : Session) (p : Publish) (id at : ℕ) → Fits s.core.limit id (Some (Sent p)) → get s.core.held id ≡ None → out s (requests.Publish p) at ≡ sent_by (alias_over s.core.alias_max (alias_of p)) s p at
+resent : (s : Session) (p : Publish) (id at : ℕ) → Fits s.core.limit id (Some (Sent p)) → get s.core.held id ≡ None → out s (requests.Publish (again p)) at ≡ sent_by (alias_over s.core.alias_max (alias_of p)) s (again p) at
 unfolding out
 resent s p id at f free =
-    resent_by p.qos s p at f.own.1 (subst (λ i. 0 < i) (sym f.own.0) f.low) (subst (λ i. i ≤ s.core.limit) (sym f.own.0) f.high) (ap (get s.core.held) f.own.0 ∙ free)
+    resent_by p.qos s (again p) at f.own.1 (subst (λ i. 0 < i) (sym f.own.0) f.low) (subst (λ i. i ≤ s.core.limit) (sym f.own.0) f.high) (ap (get s.core.held) f.own.0 ∙ free)
 
 sent_step : (s : Session) (at : ℕ) → Steps is_sent publish_again (alias_again s.core.alias_max) s at
 sent_step s at ps m id None f free = nothing ps m s at
@@ -145,9 +145,9 @@ sent_step s at ps m id (Some Released) f free = nothing ps m s at
 sent_step s at ps m id (Some (Sent p)) f free =
     ap (λ a. with_reply a.0 (Ok ([], a.1))) (resent (after_sent ps m s at) p id at f (free refl)) ∙ by (alias_over s.core.alias_max (alias_of p))
   where
-    by : (o : Option ℕ) → with_reply (sent_by o (after_sent ps m s at) p at).0 (Ok ([], (sent_by o (after_sent ps m s at) p at).1)) ≡ sent_unless (option_to_list o) (packets.Publish p ∷ []) (insert m id (Sent p)) (after_sent ps m s at) at
+    by : (o : Option ℕ) → with_reply (sent_by o (after_sent ps m s at) (again p) at).0 (Ok ([], (sent_by o (after_sent ps m s at) (again p) at).1)) ≡ sent_unless (option_to_list o) (packets.Publish (again p) ∷ []) (insert m id (Sent (again p))) (after_sent ps m s at) at
     by (Some alias) = refl
-    by None = ap (λ i. Ok (packets.Publish p ∷ [], after_sent (packets.Publish p ∷ []) (insert m i (Sent p)) (after_sent ps m s at) at)) f.own.0
+    by None = ap (λ i. Ok (packets.Publish (again p) ∷ [], after_sent (packets.Publish (again p) ∷ []) (insert m i (Sent (again p))) (after_sent ps m s at) at)) f.own.0
 
 -- an id that is released again
 rereleased : (s : Session) (id at : ℕ) → 0 < id → id ≤ s.core.limit → get s.core.held id ≡ None → out_release s (id_for s.core id) (last_after s.core id) at ≡ out_known None s id s.core.last at
@@ -170,7 +170,7 @@ no_aliases : (n : ℕ) (h : Held) → by_id no_alias n h ≡ []
 no_aliases zero h = refl
 no_aliases (suc n) h = append-nil (by_id no_alias n h) ∙ no_aliases n h
 
--- to resume sends all in one piece, and keeps the ids in use
+-- to resume sends all in one piece, and keeps the ids in use, with dup of their publishes
 pub resumes : (s : Session) (at : ℕ) → IsWithin s.core.limit s.core.held → resume_of s at ≡ resumed s at
 unfolding resume_of
 resumes s at is =

@@ -8,7 +8,7 @@ use Rattle.mqtt5_held.specs.declared.event.Event.{Event}
 use Rattle.mqtt5_held.specs.declared.event.Event.TheVariants as events
 use Rattle.mqtt5_held.specs.declared.error.StateError.TheVariants as errors
 use Rattle.mqtt5_held.specs.Held.{Held}
-use Rattle.mqtt5_held.specs.Unacked.{by_id, alias_again}
+use Rattle.mqtt5_held.specs.Unacked.{by_id, alias_again, held_again}
 use Rattle.mqtt5_held.specs.Resent.{packets_of}
 use Rattle.mqtt5_session.specs.Session.{Session}
 use Rattle.mqtt5_session.specs.Cleaning.{cleaned, Sendings}
@@ -37,6 +37,6 @@ abbrev pub sent_unless : List ℕ → List Packet → Held → Session → ℕ �
 sent_unless [] ps held s at = Ok (ps, after_sent ps held s at)
 sent_unless (alias ∷ others) ps held s at = Err (errors.InvalidAlias alias s.core.alias_max)
 
--- what a resume does: the ids in use stay
+-- what a resume does: the ids in use stay, and their publishes have dup
 abbrev pub resumed : Session → ℕ → Sendings
-resumed s at = sent_unless (by_id (alias_again s.core.alias_max) s.core.limit s.core.held) (packets_of s.core.limit s.core.held) s.core.held (cleaned s) at
+resumed s at = sent_unless (by_id (alias_again s.core.alias_max) s.core.limit s.core.held) (packets_of s.core.limit s.core.held) (held_again s.core.held) (cleaned s) at

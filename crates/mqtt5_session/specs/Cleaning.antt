@@ -3,18 +3,21 @@ use Rattle.std.specs.Prelude.{◌≡◌, ℕ, false, List, [], ◌∷◌, ◌++�
 use Rattle.std.specs.Option.{option_to_list}
 use Rattle.std.specs.Global.{Vec}
 use Rattle.std.specs.FinMap as map
-use Rattle.std.specs.FinSet as set
 use Rattle.mqtt5_codec.specs.declared.packet.Packet.{Packet}
 use Rattle.mqtt5_held.specs.declared.event.Request.{Request}
 use Rattle.mqtt5_held.specs.declared.error.StateError.{StateError}
 use Rattle.mqtt5_held.specs.declared.error.StateError.TheVariants as errors
-use Rattle.mqtt5_held.specs.Unacked.{requests_of}
-use Rattle.mqtt5_session.specs.Session.{Session}
+use Rattle.mqtt5_held.specs.Unacked.{held_again, requests_of}
+use Rattle.mqtt5_session.specs.Session.{Core, Session}
 use Rattle.mqtt5_session.specs.Requests.{out}
 
 -- the session without it: no id is in use, and no ping is awaited
 abbrev pub cleaned : Session → Session
 cleaned s = record s { core = record s.core { held = map.empty }; awaits_ping = false; collision_pings = 0 }
+
+-- the core with dup of each publish that awaits its ack (3.3.1.1)
+abbrev pub marked : Core → Core
+marked c = record c { held = held_again c.held }
 
 -- packets to send and the session after them, or a refusal
 abbrev pub Sendings : Type 0

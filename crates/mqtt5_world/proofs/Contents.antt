@@ -132,10 +132,10 @@ module _ (test : Publish → Bool) (limit : ℕ) (es : List WorldEvent) where
 -- ---- contents
 
 pub content_class : (c : Publish) → IsClass c.qos (has_content c)
-content_class c = record { of_qos = λ p h. ap (λ (x : Publish). x.qos) (publish_sound (record p { pkid = 0 }) c h); blind = λ p id. refl }
+content_class c = record { of_qos = λ p h. ap (λ (x : Publish). x.qos) (publish_sound (record p { pkid = 0; dup = false }) c h); blind = λ p id. refl; blind_again = λ p. refl }
 
-pub content_decides : (c p : Publish) → Decides (has_content c p) (record p { pkid = 0 } ≡ c)
-content_decides c p = (publish_sound (record p { pkid = 0 }) c, λ e. subst (λ x. publish.eq-value.it x c ≡ true) (sym e) (reflexive.laws-law.refl c))
+pub content_decides : (c p : Publish) → Decides (has_content c p) (record p { pkid = 0; dup = false } ≡ c)
+content_decides c p = (publish_sound (record p { pkid = 0; dup = false }) c, λ e. subst (λ x. publish.eq-value.it x c ≡ true) (sym e) (reflexive.laws-law.refl c))
 
 class_of : (c : Publish) (q : QoS) → c.qos ≡ q → IsClass q (has_content c)
 class_of c q e = subst (λ q. IsClass q (has_content c)) e (content_class c)

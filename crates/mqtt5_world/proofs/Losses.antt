@@ -2,6 +2,7 @@
 use Rattle.std.proofs.Common.{◌≡◌, ◌≢◌, ℕ, zero, suc, ◌<◌, ◌≤◌, Bool, true, false, ◌&&◌, List, [], ◌++◌, filter, Option, Some, None, Ok, refl, sym, ap, ap₂, ◌∙◌, subst, ⊎_elim, arith, append-nil, eq-eqb, ◌⊎◌, inl, inr}
 use Rattle.std.proofs.lemmas.Bool.{cases_eq}
 use Rattle.std.proofs.lemmas.List.Elements.{filter-append, filter_map-append}
+use Rattle.std.specs.Prelude.{option_map, not}
 use Rattle.std.specs.List.{filter_map}
 use Rattle.std.specs.Option.{option_to_list}
 use Rattle.std.specs.FinMap.{get}
@@ -15,20 +16,21 @@ use Rattle.mqtt5_held.specs.declared.slot.Slot.{Slot}
 use Rattle.mqtt5_held.specs.declared.slot.Slot.TheVariants.{Sent, Released}
 use Rattle.mqtt5_held.specs.declared.event.Request.{Request}
 use Rattle.mqtt5_held.specs.Held.{Held}
-use Rattle.mqtt5_held.specs.Unacked.{alias_again, by_id, publish_again, release_again}
+use Rattle.mqtt5_held.specs.Unacked.{again, slot_again, held_again, alias_again, by_id, publish_again, release_again}
 use Rattle.mqtt5_held.specs.Resent.{packet_for, packets_of}
 use Rattle.mqtt5_held.proofs.Within.{Fits, within_fits}
+use Rattle.mqtt5_held.proofs.Marked.{get_again}
 use Rattle.mqtt5_session.specs.Session.{Core, Session}
 use Rattle.mqtt5_session.specs.Requests.{release_of}
 use Rattle.mqtt5_session.specs.Packets.{inc}
-use Rattle.mqtt5_session.specs.Cleaning.{cleaned, resume_of}
+use Rattle.mqtt5_session.specs.Cleaning.{cleaned, marked, resume_of}
 use Rattle.mqtt5_session.specs.Again.{after_sent, sent_unless}
 use Rattle.mqtt5_session.proofs.Resume as session
-use Rattle.mqtt5_session.proofs.Keeps.{Sound}
+use Rattle.mqtt5_session.proofs.Keeps.{Sound, marked_sound}
 use Rattle.mqtt5_world.specs.World.{World, takes, taken_back, resumed, resumes}
 use Rattle.mqtt5_world.specs.Delivery.{is_token_up, Token, Free, PublishUp, PubAckDown, PublishTwiceUp, PubRecDown, PubRelUp, PubCompDown, IsClass}
 use Rattle.mqtt5_world.proofs.Places.{token_here, token_other, front_here, front_none, publish_token}
-use Rattle.mqtt5_world.proofs.Step.{Inv, SlotAllowed, sum_less, one, is_sent, is_due, accepted, handed, waiting, stored, due, on_way, way_append, of_acked}
+use Rattle.mqtt5_world.proofs.Step.{Inv, SlotAllowed, sum_same, sum_less, one, is_sent, is_due, accepted, handed, waiting, stored, due, on_way, way_append, of_acked}
 use Rattle.mqtt5_world.proofs.Returns.{counted_acked}
 
 -- ---- a list of packets built id by id
@@ -62,12 +64,12 @@ module _ (f : ℕ → Option Slot → List Request) (h : Held) (own : (id : ℕ)
 sent_own : (limit id : ℕ) (slot : Option Slot) → Fits limit id slot → filter (is_token_up id) (part publish_again id slot) ≡ part publish_again id slot
 sent_own limit id None k = refl
 sent_own limit id (Some Released) k = refl
-sent_own limit id (Some (Sent p)) k = front_here is_token_up id (packets.Publish p) [] (subst (λ j. is_token_up j (packets.Publish p) ≡ true) k.own.0 (token_here is_token_up p.pkid (packets.Publish p) (publish_token p (counted_acked p.qos k.own.1))))
+sent_own limit id (Some (Sent p)) k = front_here is_token_up id (packets.Publish (again p)) [] (subst (λ j. is_token_up j (packets.Publish (again p)) ≡ true) k.own.0 (token_here is_token_up p.pkid (packets.Publish (again p)) (publish_token (again p) (counted_acked p.qos k.own.1))))
 
 sent_none : (limit id : ℕ) (slot : Option Slot) → Fits limit id slot → (j : ℕ) → j ≢ id → filter (is_token_up j) (part publish_again id slot) ≡ []
 sent_none limit id None k j ne = refl
 sent_none limit id (Some Released) k j ne = refl
-sent_none limit id (Some (Sent p)) k j ne = front_none is_token_up j (packets.Publish p) [] (token_other is_token_up p.pkid (packets.Publish p) (publish_token p (counted_acked p.qos k.own.1)) j (λ e. ne (e ∙ k.own.0)))
+sent_none limit id (Some (Sent p)) k j ne = front_none is_token_up j (packets.Publish (again p)) [] (token_other is_token_up p.pkid (packets.Publish (again p)) (publish_token (again p) (counted_acked p.qos k.own.1)) j (λ e. ne (e ∙ k.own.0)))
 
 release_own : (id : ℕ) (slot : Option Slot) → filter (is_token_up id) (part release_again id slot) ≡ part release_again id slot
 release_own id None = refl
@@ -118,12 +120,12 @@ tokens_again c i k =
     none' : (id j : ℕ) → j ≢ id → filter (is_token_up j) (part release_again id (get c.held id)) ≡ []
     none' id j ne = release_none id (get c.held id) j ne
 
-token_again : {k : ℕ} {x : Option Slot} {b : Bool} {us ds : List Packet} → Token k x b us ds → Token k x b (again_of k x) []
+token_again : {k : ℕ} {x : Option Slot} {b : Bool} {us ds : List Packet} → Token k x b us ds → Token k (option_map slot_again x) b (again_of k x) []
 token_again Free = Free
-token_again (PublishUp p q) = PublishUp p q
-token_again (PubAckDown p q) = PublishUp p q
-token_again (PublishTwiceUp p b q) = PublishTwiceUp p b q
-token_again (PubRecDown p q) = PublishTwiceUp p true q
+token_again (PublishUp p q) = PublishUp (again p) q
+token_again (PubAckDown p q) = PublishUp (again p) q
+token_again (PublishTwiceUp p b q) = PublishTwiceUp (again p) b q
+token_again (PubRecDown p q) = PublishTwiceUp (again p) true q
 token_again (PubRelUp b) = PubRelUp b
 token_again (PubCompDown g) = PubRelUp false
 
@@ -138,10 +140,10 @@ none_over max h allowed (suc n) = ap₂ (λ x y. x ++ y) (none_over max h allowe
     by id (Some Released) a = refl
     by id (Some (Sent p)) a = ap option_to_list a
 
-pub sends_again : (s : Session) → Sound s.core → ((id : ℕ) → SlotAllowed s.core.alias_max (get s.core.held id)) → resume_of s 0 ≡ Ok (packets_of s.core.limit s.core.held, after_sent (packets_of s.core.limit s.core.held) s.core.held (cleaned s) 0)
+pub sends_again : (s : Session) → Sound s.core → ((id : ℕ) → SlotAllowed s.core.alias_max (get s.core.held id)) → resume_of s 0 ≡ Ok (packets_of s.core.limit s.core.held, after_sent (packets_of s.core.limit s.core.held) (held_again s.core.held) (cleaned s) 0)
 sends_again s i allowed =
     session.resumes s 0 (within_fits s.core.limit s.core.held i.0)
-    ∙ ap (λ xs. sent_unless xs (packets_of s.core.limit s.core.held) s.core.held (cleaned s) 0) (none_over s.core.alias_max s.core.held allowed s.core.limit)
+    ∙ ap (λ xs. sent_unless xs (packets_of s.core.limit s.core.held) (held_again s.core.held) (cleaned s) 0) (none_over s.core.alias_max s.core.held allowed s.core.limit)
 
 -- ---- the counts over a loss
 
@@ -158,7 +160,7 @@ none_acked test c limit h fit (suc n) =
     by : (id : ℕ) (x : Option Slot) → Fits limit id x → on_way test (part publish_again id x) ≡ 0
     by id None f = refl
     by id (Some Released) f = refl
-    by id (Some (Sent p)) f = let z = ap one (of_acked c p (counted_acked p.qos f.own.1)) in omega (arith, z)
+    by id (Some (Sent p)) f = let z = ap one (of_acked c (again p) (counted_acked p.qos f.own.1)) in omega (arith, z)
 
 none_released : (test : Publish → Bool) (h : Held) (n : ℕ) → on_way test (packets_to release_again n h) ≡ 0
 none_released test h zero = refl
@@ -174,15 +176,29 @@ none_released test h (suc n) =
     by id (Some Released) = refl
     by id (Some (Sent p)) = refl
 
+still_allowed : (max : ℕ) (x : Option Slot) → SlotAllowed max x → SlotAllowed max (option_map slot_again x)
+still_allowed max None a = a
+still_allowed max (Some Released) a = a
+still_allowed max (Some (Sent p)) a = a
+
 pub record Again (w w' : World) : Type 0 where
   pub inv : Inv w'
   pub handed : w'.broker.handed ≡ w.broker.handed
   pub accepted : w'.accepted ≡ w.accepted
   pub waiting : (test : Publish → Bool) → waiting test w' ≡ waiting test w
-  pub stored : (test : Publish → Bool) → stored test w' ≡ stored test w
-  pub due_twice : (test : Publish → Bool) → due ExactlyOnce test w' ≡ due ExactlyOnce test w
-  pub due_once : (test : Publish → Bool) → due AtLeastOnce test w ≤ due AtLeastOnce test w'
+  pub stored : (q : QoS) (test : Publish → Bool) → IsClass q test → stored test w' ≡ stored test w
+  pub due_twice : (test : Publish → Bool) → IsClass ExactlyOnce test → due ExactlyOnce test w' ≡ due ExactlyOnce test w
+  pub due_once : (test : Publish → Bool) → IsClass AtLeastOnce test → due AtLeastOnce test w ≤ due AtLeastOnce test w'
   pub none_light : (test : Publish → Bool) → IsClass AtMostOnce test → on_way test w'.up ≡ 0
+
+-- a publish with dup is of the same class
+passes_again : {q : QoS} (test : Publish → Bool) → IsClass q test → (x : Option Slot) → is_sent test (option_map slot_again x) ≡ is_sent test x
+passes_again test c None = refl
+passes_again test c (Some Released) = refl
+passes_again test c (Some (Sent p)) = c.blind_again p
+
+still_sent : {q : QoS} (test : Publish → Bool) → IsClass q test → (h : Held) (k : ℕ) → is_sent test (get (held_again h) k) ≡ is_sent test (get h k)
+still_sent test c h k = ap (is_sent test) (get_again h k) ∙ passes_again test c (get h k)
 
 -- a publish of QoS 1 that is kept is sent again
 more_due : (test : Publish → Bool) (k : ℕ) (x : Option Slot) (b : Bool) (us vs : List Packet) → vs ≡ again_of k x → one (is_sent test x && is_due AtLeastOnce b us) ≤ one (is_sent test x && is_due AtLeastOnce b vs)
@@ -195,24 +211,31 @@ more_due test k (Some (Sent p)) b us vs e = subst (λ vs. one (test p && is_due 
     by true false = omega arith
     by false c = omega arith
 
--- the session is the same but for its current maximum and what isn't of the core
-again : (w : World) (s : Session) (m : ℕ) → s.core ≡ record w.session.core { current = m } → Inv w → Again w (record w { session = s; up = packets_of w.session.core.limit w.session.core.held; down = [] })
-again w s m e i =
+still_due : (test : Publish → Bool) (k : ℕ) (x : Option Slot) (s b : Bool) (us vs : List Packet) → s ≡ is_sent test x → vs ≡ again_of k x → one (is_sent test x && is_due AtLeastOnce b us) ≤ one (s && is_due AtLeastOnce b vs)
+still_due test k x s b us vs same e = subst (λ y. one (is_sent test x && is_due AtLeastOnce b us) ≤ one (y && is_due AtLeastOnce b vs)) (sym same) (more_due test k x b us vs e)
+
+-- the session is the same but for its current maximum, dup of what awaits an ack, and what isn't of the core
+sent_on : (w : World) (s : Session) (m : ℕ) → s.core ≡ record (marked w.session.core) { current = m } → Inv w → Again w (record w { session = s; up = packets_of w.session.core.limit w.session.core.held; down = [] })
+sent_on w s m e i =
     subst (λ c. Again w (record w { session = record s { core = c }; up = packets_of w.session.core.limit w.session.core.held; down = [] })) (sym e)
     (record {
       inv = record {
-        sound = i.sound;
-        allowed = i.allowed;
+        sound = marked_sound w.session.core i.sound;
+        allowed = λ k. subst (SlotAllowed w.session.core.alias_max) (sym (get_again w.session.core.held k)) (still_allowed w.session.core.alias_max (get w.session.core.held k) (i.allowed k));
         waits = i.waits;
-        tokens = λ k. subst (λ us. Token k (get w.session.core.held k) (set.contains w.broker.ids k) us []) (sym (tokens_again w.session.core i.sound k)) (token_again (i.tokens k));
+        tokens = λ k.
+            subst (λ x. Token k x (set.contains w.broker.ids k) (filter (is_token_up k) (packets_of w.session.core.limit w.session.core.held)) []) (sym (get_again w.session.core.held k))
+            (subst (λ us. Token k (option_map slot_again (get w.session.core.held k)) (set.contains w.broker.ids k) us []) (sym (tokens_again w.session.core i.sound k)) (token_again (i.tokens k)));
         none = i.none;
       };
       handed = refl;
       accepted = refl;
       waiting = λ test. refl;
-      stored = λ test. refl;
-      due_twice = λ test. refl;
-      due_once = λ test. sum_less w.session.core.limit _ _ (λ k. more_due test k (get w.session.core.held k) (set.contains w.broker.ids k) _ _ (tokens_again w.session.core i.sound k));
+      stored = λ q test c. sum_same w.session.core.limit _ _ (λ k _ _. ap one (still_sent test c w.session.core.held k));
+      due_twice = λ test c. sum_same w.session.core.limit _ _ (λ k _ _. ap (λ b. one (b && not (set.contains w.broker.ids k))) (still_sent test c w.session.core.held k));
+      due_once = λ test c. sum_less w.session.core.limit _ _ (λ k.
+          still_due test k (get w.session.core.held k) (is_sent test (get (held_again w.session.core.held) k)) (set.contains w.broker.ids k)
+          (filter (is_token_up k) w.up) (filter (is_token_up k) (packets_of w.session.core.limit w.session.core.held)) (still_sent test c w.session.core.held k) (tokens_again w.session.core i.sound k));
       none_light = λ test c.
           let e = ap (on_way test) (filter_map-append packet_for (by_id publish_again w.session.core.limit w.session.core.held) (by_id release_again w.session.core.limit w.session.core.held)) in
           let a = way_append test (packets_to publish_again w.session.core.limit w.session.core.held) (packets_to release_again w.session.core.limit w.session.core.held) in
@@ -228,7 +251,7 @@ back_step w s m e i =
     let allowed : (id : ℕ) → SlotAllowed s.core.alias_max (get s.core.held id) = subst (λ (c : Core). (id : ℕ) → SlotAllowed c.alias_max (get c.held id)) (sym e) i.allowed in
     let same : packets_of s.core.limit s.core.held ≡ packets_of w.session.core.limit w.session.core.held = ap (λ (c : Core). packets_of c.limit c.held) e in
     subst (λ r. Again w (resumed (record w { session = s; up = []; down = [] }) r)) (sym (sends_again s sound allowed))
-    (subst (λ ps. Again w (record w { session = after_sent (packets_of s.core.limit s.core.held) s.core.held (cleaned s) 0; up = ps; down = [] })) (sym same) (again w (after_sent (packets_of s.core.limit s.core.held) s.core.held (cleaned s) 0) m e i))
+    (subst (λ ps. Again w (record w { session = after_sent (packets_of s.core.limit s.core.held) (held_again s.core.held) (cleaned s) 0; up = ps; down = [] })) (sym same) (sent_on w (after_sent (packets_of s.core.limit s.core.held) (held_again s.core.held) (cleaned s) 0) m (ap marked e) i))
 
 pub loss_step : (w : World) (m : Option ℕ) → Inv w → Again w (resumes (takes (record w { up = []; down = [] }) (taken_back m)))
 unfolding inc

@@ -65,7 +65,7 @@ twice_next test c w (events.Loss m) i t =
     let h = ap (count_by test) a.handed in
     let g = ap (count_by test) a.accepted in
     let v = a.waiting test in
-    let d = a.due_twice test in
+    let d = a.due_twice test c.class in
     omega (arith, h, g, v, d, t)
 
 twice_run : (test : Publish → Bool) → AckedClass ExactlyOnce test → (es : List WorldEvent) (w : World) → Inv w → Twice test w → Twice test (run es w)
@@ -101,15 +101,15 @@ one_and false b = omega arith
 due_stored : (q : QoS) (test : Publish → Bool) (w : World) → due q test w ≤ stored test w
 due_stored q test w = sum_less w.session.core.limit _ _ (λ j. one_and (is_sent test (get w.session.core.held j)) _)
 
-once_loss : (n : ℕ) (test : Publish → Bool) (w w' : World) → Again w w' → Once n test w → Once (n + 1) test w'
-once_loss n test w w' a o =
+once_loss : (n : ℕ) (test : Publish → Bool) → IsClass AtLeastOnce test → (w w' : World) → Again w w' → Once n test w → Once (n + 1) test w'
+once_loss n test c w w' a o =
     let h = ap (count_by test) a.handed in
     let g = ap (count_by test) a.accepted in
     let d = due_stored AtLeastOnce test w' in
     let v = a.waiting test in
-    let s = a.stored test in
+    let s = a.stored AtLeastOnce test c in
     let u = upper_loss n _ _ _ _ (stored test w) (due AtLeastOnce test w') (omega (arith, d, s)) o.bounded o.upper in
-    let m = a.due_once test in
+    let m = a.due_once test c in
     record {
       lower = omega (arith, h, g, v, m, o.lower);
       upper = rw (h, g, v) u;
@@ -123,7 +123,7 @@ once_run n test c (events.Up ∷ es) w i o = once_run n test c es _ (inv_next w 
 once_run n test c (events.Down ∷ es) w i o = once_run n test c es _ (inv_next w events.Down i) (once_step n test w _ ((down_step w w.down refl i).balance AtLeastOnce test c) o)
 once_run n test c (events.Loss m ∷ es) w i o =
     subst (λ k. Once k test (run es (happens w (events.Loss m)))) (omega arith)
-    (once_run (n + 1) test c es _ (inv_next w (events.Loss m) i) (once_loss n test w _ (loss_step w m i) o))
+    (once_run (n + 1) test c es _ (inv_next w (events.Loss m) i) (once_loss n test c.class w _ (loss_step w m i) o))
 
 -- ---- QoS 0
 

@@ -14,7 +14,7 @@ use Rattle.mqtt5_codec.specs.declared.packet.Packet.TheVariants as packets
 use Rattle.mqtt5_held.specs.declared.slot.Slot.{Slot}
 use Rattle.mqtt5_held.specs.declared.slot.Slot.TheVariants.{Sent, Released}
 use Rattle.mqtt5_held.specs.Held.{awaiting_ack}
-use Rattle.mqtt5_held.specs.Unacked.{by_id}
+use Rattle.mqtt5_held.specs.Unacked.{again, by_id}
 use Rattle.mqtt5_session.specs.Session.{Core}
 use Rattle.mqtt5_session.specs.Requests.{release_of}
 use Rattle.mqtt5_session.specs.Packets.{puback_of, pubrec_of, pubcomp_of}
@@ -71,15 +71,16 @@ stored_without ids c = by_id (λ id slot. if set.contains ids id then [] else op
 abbrev pub waiting_in : Core → List Publish
 waiting_in c = option_to_list c.waiting
 
--- whether a publish has this content: with id 0 it is the same
+-- whether a publish has this content: with id 0 and without dup it is the same (2.2.1, 3.3.1.1)
 abbrev pub has_content : Publish → Publish → Bool
-has_content c p = publish.eq-value.it (record p { pkid = 0 }) c
+has_content c p = publish.eq-value.it (record p { pkid = 0; dup = false }) c
 
 -- how many of these publishes have it
 abbrev pub times : Publish → List Publish → ℕ
 times c ps = count_by (has_content c) ps
 
--- a class of publishes, of one QoS, whatever their ids; a content is one
+-- a class of publishes, of one QoS, whatever their ids and dup; a content is one
 pub record IsClass (qos : QoS) (test : Publish → Bool) : Type 0 where
   pub of_qos : (p : Publish) → test p ≡ true → p.qos ≡ qos
   pub blind : (p : Publish) (id : ℕ) → test (record p { pkid = id }) ≡ test p
+  pub blind_again : (p : Publish) → test (again p) ≡ test p

@@ -1,6 +1,6 @@
 //! What holds of every run of a world.
 
-ghost use Rattle.std.specs.Prelude.{◌≡◌, ◌≢◌, ◌≤◌, ◌+◌, ◌*◌, ℕ, Bool, true, List, [], count_by};
+ghost use Rattle.std.specs.Prelude.{◌≡◌, ◌≢◌, ◌≤◌, ◌+◌, ◌*◌, ℕ, Bool, true, false, List, [], count_by};
 ghost use Rattle.std.specs.Bool.{Decides};
 ghost use Rattle.mqtt5_base.specs.declared.quality.QoS.{QoS};
 ghost use Rattle.mqtt5_base.specs.declared.quality.QoS.TheVariants.{AtMostOnce, AtLeastOnce, ExactlyOnce};
@@ -31,5 +31,5 @@ pub fn delivery_law()
         ≡ count_by test (run events (start limit)).accepted }
     // A content is a class, and its test decides.
     ensures contents { (c : Publish) → IsClass c.qos (has_content c) }
-    ensures decides { (c p : Publish) → Decides (has_content c p) (record p { pkid = 0 } ≡ c) }
+    ensures decides { (c p : Publish) → Decides (has_content c p) (record p { pkid = 0; dup = false } ≡ c) }
 {}

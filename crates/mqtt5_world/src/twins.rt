@@ -2,7 +2,7 @@
 
 ghost use Rattle.std.specs.Prelude.{◌≡◌, ◌≢◌, ◌<◌, ◌⊎◌, ℕ, Bool, List, [], ◌∷◌, ◌++◌, IfOk, IfErr, OnOk, IsOk};
 ghost use Rattle.mqtt5_session.specs.Session.{Session, fresh};
-ghost use Rattle.mqtt5_session.specs.Cleaning.{resume_of};
+ghost use Rattle.mqtt5_session.specs.Cleaning.{marked, resume_of};
 ghost use Rattle.mqtt5_world.specs.declared.calls.Call.{Call};
 ghost use Rattle.mqtt5_world.specs.Twins.{Answered, said, all_said, reply_of, after_call, after_calls, replies_of, taken_up, aliases_over, SameReplies};
 
@@ -19,10 +19,10 @@ pub fn twin_law()
     // Else the first such alias is why it is refused.
     ensures over { (limit at alias : ℕ) (manual : Bool) (calls : List Call) (others : List ℕ) → aliases_over (after_calls calls (fresh limit manual)) ≡ alias ∷ others
         → resume_of (after_calls calls (fresh limit manual)) at ≡ Err (StateError.InvalidAlias alias (after_calls calls (fresh limit manual)).core.alias_max) }
-    // It keeps the core.
-    ensures core { (limit at : ℕ) (manual : Bool) (calls : List Call) → (taken_up (after_calls calls (fresh limit manual)) at).core ≡ (after_calls calls (fresh limit manual)).core }
-    // Sessions of one core reply the same to any calls.
-    ensures alike { (calls : List Call) (s t : Session) → s.core ≡ t.core → SameReplies calls (replies_of calls s) (replies_of calls t) }
+    // It keeps the core, but for dup of the publishes that await their acks.
+    ensures core { (limit at : ℕ) (manual : Bool) (calls : List Call) → marked (taken_up (after_calls calls (fresh limit manual)) at).core ≡ marked (after_calls calls (fresh limit manual)).core }
+    // Sessions of one core, but for that, reply the same to any calls.
+    ensures alike { (calls : List Call) (s t : Session) → marked s.core ≡ marked t.core → SameReplies calls (replies_of calls s) (replies_of calls t) }
 {}
 
 /// Runs calls on a new session and then others, without a resume between them and with one at moment 0. `limit`, at

@@ -4,9 +4,10 @@ use super::walk::course;
 use std::test::Fail;
 
 /// The greatest id of each session, the calls and their rows.
-const COURSES: [(u16, &str, &str); 39] = [
+const COURSES: [(u16, &str, &str); 42] = [
     (1, "*2 *w <r", FAILED),
     (1, "*B *B >P >P <A", PINGS_WHILE_ONE_WAITS),
+    (1, "*B *Q ~ <A", WAITING_OVER_A_RESUME),
     (2, "<x <y <z <R <C <L", UNASKED),
     (2, ">C >p >s >u ?", UNSENT),
     (2, ">3 >4", REFUSED),
@@ -17,6 +18,7 @@ const COURSES: [(u16, &str, &str); 39] = [
     (2, "*2 *o *w *B <A <b *o", BOTH_IN_USE),
     (2, "*2 *o *w <R <C", RELEASED_AND_IN_USE),
     (2, "*L >L >e", RELEASES),
+    (2, "*{ ~", SENT_AGAIN),
     (2, "*2 >L", RELEASE_OF_A_SENT_ID),
     (3, ">S >U >S *S >U", SUBSCRIPTIONS),
     (3, "<s <u ?", ACKS_OF_SUBSCRIPTIONS),
@@ -26,6 +28,7 @@ const COURSES: [(u16, &str, &str); 39] = [
     (3, "! ? >D ?", DISCONNECTS),
     (3, "*2 *F <R ^ ^", CLEANED),
     (3, "*B *o <W ~", RESUMED),
+    (3, "*B *o ~ <W ~ ^", RESUMED_AGAIN),
     (5, "*B *F *G *I <M *J *Q *T <A *V", FIVE_IDS),
     (10, "*B ? <A ? . . .", AN_ID_IS_FREED),
     (10, ">P *B <A >P <p >P", PINGS),
@@ -60,6 +63,14 @@ const PINGS_WHILE_ONE_WAITS: &str = "\
 >P P PingReq B+B/1p1c1
 >P S5 - B+B/1p1c2
 <A B A,Publish(1) B/1p1
+";
+
+/// A publish that waits over a resume isn't sent by it, and goes without `dup` later.
+const WAITING_OVER_A_RESUME: &str = "\
+*B B Publish(1) B/1
+*Q - AwaitAck(1) B+Q/1
+~ B' Publish(1) B'+Q/1
+<A Q A,Publish(1) Q/1
 ";
 
 /// Acks and a release that nothing asked for.
@@ -195,7 +206,7 @@ const CLEANED: &str = "\
 *2 2 Publish(1) 2../1@1
 *F F Publish(2) 2F./2@2
 <R L R,PubRel(1) rF./2@2
-^ F,L - .../0@2
+^ F',L - .../0@2
 ^ - - =
 ";
 
@@ -204,7 +215,23 @@ const RESUMED: &str = "\
 *B B Publish(1) B../1@1
 *o o Publish(2) Bo./2@2
 <W m W,PubRel(2) Br./2@2
-~ B,m Publish(1),PubRel(2) =
+~ B',m Publish(1),PubRel(2) B'r./2@2
+";
+
+/// A publish that is sent again has `dup`.
+const SENT_AGAIN: &str = "\
+*{ { Publish(1) {./1@1
+~ } Publish(1) }./1@1
+";
+
+/// A publish of QoS 2 that is taken before the second resume is released then.
+const RESUMED_AGAIN: &str = "\
+*B B Publish(1) B../1@1
+*o o Publish(2) Bo./2@2
+~ B',o' Publish(1),Publish(2) B'o'./2@2
+<W m W,PubRel(2) B'r./2@2
+~ B',m Publish(1),PubRel(2) =
+^ B',m - .../0@2
 ";
 
 /// Four publishes, a receive maximum below them, three publishes, an ack, and one more publish.

@@ -66,6 +66,15 @@ fn are_named(publishes: &[Publish], names: &[u8]) -> bool {
     same
 }
 
+/// Whether the publishes with `dup` are those after the first.
+fn first_lacks_dup(publishes: &[Publish]) -> bool {
+    let mut right = true;
+    for (i, publish) in publishes.iter().enumerate() {
+        right = right && publish.dup == (i > 0);
+    }
+    right
+}
+
 /// The name of the first publish that was refused in state S1.
 fn refused_name(report: &Report) -> Option<u8> {
     match report.refused.first() {
@@ -127,6 +136,7 @@ fn handed_on_once_over_two_losses(rt: HostRuntime) -> Result<(), Fail> {
 fn ids_over_a_smaller_maximum(rt: HostRuntime) -> Result<(), Fail> {
     let report = plays(rt.alloc(), 5, b"ABCD^2E^", QoS::AtLeastOnce)?;
     assert!(rt; are_named(report.handed.as_slice(), b"AA"));
+    assert!(rt; first_lacks_dup(report.handed.as_slice()));
     for id in 1..=5 {
         assert_eq!(rt; id_under(&report.state, id), id);
     }

@@ -1,7 +1,7 @@
 //! The packets of the worked rows.
 
 /// The packets by their names, each a letter, a digit or a sign.
-pub const FRAMES: [(u8, &[u8]); 69] = [
+pub const FRAMES: [(u8, &[u8]); 71] = [
     // Publishes to "a" with their name as payload: `0`, `1` and `2` of that QoS, `w` of QoS 2, and with id 2 `o`
     // of QoS 2 and `v` of QoS 1.
     (b'0', &[0x30, 0x05, 0x00, 0x01, 0x61, 0x00, 0x30]),
@@ -96,6 +96,19 @@ pub const FRAMES: [(u8, &[u8]); 69] = [
         b'9',
         &[
             0x32, 0x0B, 0x00, 0x03, 0x61, 0x2F, 0x62, 0x00, 0x07, 0x03, 0x23, 0x00, 0x05,
+        ],
+    ),
+    // Of QoS 1 with id 1, "hi" to "a/b": with `dup`, and without.
+    (
+        b'}',
+        &[
+            0x3A, 0x0A, 0x00, 0x03, 0x61, 0x2F, 0x62, 0x00, 0x01, 0x00, 0x68, 0x69,
+        ],
+    ),
+    (
+        b'{',
+        &[
+            0x32, 0x0A, 0x00, 0x03, 0x61, 0x2F, 0x62, 0x00, 0x01, 0x00, 0x68, 0x69,
         ],
     ),
     // Of QoS 2 with id 3.

@@ -6,7 +6,8 @@
 //! topic of alias 9 is (`#`).
 //!
 //! A row is a call, its answer, the events that it adds, and what stands after it. An answer is the packet that is
-//! sent, `-` for none, or a fault. An event is the name of a packet that came, or what was sent. What stands is
+//! sent, `-` for none, or a fault. An event is the name of a packet that came, or what was sent. A publish with `dup`
+//! has a `'` behind its name. What stands is
 //! told as by `standing`, and `=` is what stood before.
 
 use super::frames::FRAMES;
@@ -25,26 +26,39 @@ fn frame(name: u8) -> &'static [u8] {
     &[]
 }
 
-/// The name of a frame; `?` where it has none.
-fn name(frame: &[u8]) -> char {
+/// Whether a frame is that of a publish, but with `dup`.
+fn is_again(frame: &[u8], publish: &[u8]) -> bool {
+    match (frame.split_first(), publish.split_first()) {
+        (Some((first, rest)), Some((other, others))) => {
+            *first >= 0x38 && *first == *other | 0x08 && rest == others
+        }
+        _other => false,
+    }
+}
+
+/// Adds the name of a frame, `?` where it has none; a publish with `dup` has its name and then `'`.
+fn add_name(frame: &[u8], text: &mut String) -> Result<(), AllocError> {
     for (name, other) in FRAMES {
         if other == frame {
-            return char::from(name);
+            return text.push(char::from(name));
+        }
+        if is_again(frame, other) {
+            return write!(text, "{}'", char::from(name));
         }
     }
-    '?'
+    text.push('?')
 }
 
-fn packet_name(alloc: Global, packet: &Packet) -> Result<char, StateError> {
+fn add_packet(alloc: Global, packet: &Packet, text: &mut String) -> Result<(), StateError> {
     let mut frame = BytesMut::new(alloc);
     packet.write(&mut frame, None)?;
-    Ok(name(frame.as_slice()))
+    Ok(add_name(frame.as_slice(), text)?)
 }
 
-fn publish_name(alloc: Global, publish: &Publish) -> Result<char, StateError> {
+fn add_publish(alloc: Global, publish: &Publish, text: &mut String) -> Result<(), StateError> {
     let mut frame = BytesMut::new(alloc);
     publish.write(&mut frame)?;
-    Ok(name(frame.as_slice()))
+    Ok(add_name(frame.as_slice(), text)?)
 }
 
 pub(super) fn packet(alloc: Global, name: u8) -> Result<Packet, StateError> {
@@ -119,7 +133,7 @@ pub(super) fn add_answer(
     text: &mut String,
 ) -> Result<(), StateError> {
     match answer {
-        Ok(Some(reply)) => text.push(packet_name(alloc, reply)?)?,
+        Ok(Some(reply)) => add_packet(alloc, reply, text)?,
         Ok(None) => text.push('-')?,
         Err(fault) => add_fault(fault, text)?,
     }
@@ -153,15 +167,15 @@ fn asks(
     added
 }
 
-/// The name of a request that a clean gives.
-fn request_name(alloc: Global, request: &Request) -> Result<char, StateError> {
+/// Adds the name of a request that a clean gives.
+fn add_request(alloc: Global, request: &Request, text: &mut String) -> Result<(), StateError> {
     let mut frame = BytesMut::new(alloc);
     match request {
         Request::Publish(publish) => publish.write(&mut frame)?,
         Request::PubRel(release) => release.write(&mut frame)?,
         _other => 0,
     };
-    Ok(name(frame.as_slice()))
+    Ok(add_name(frame.as_slice(), text)?)
 }
 
 /// Adds the names of what a clean gives; `-` where it gives nothing.
@@ -177,7 +191,7 @@ pub(super) fn add_requests(
         if i > 0 {
             text.push(',')?;
         }
-        text.push(request_name(alloc, request)?)?;
+        add_request(alloc, request, text)?;
     }
     Ok(())
 }
@@ -202,7 +216,7 @@ pub(super) fn add_packets(
         if i > 0 {
             text.push(',')?;
         }
-        text.push(packet_name(alloc, packet)?)?;
+        add_packet(alloc, packet, text)?;
     }
     Ok(())
 }
@@ -309,7 +323,7 @@ pub(super) fn after_calls(alloc: Global, calls: &str) -> Result<MqttState, State
 
 fn add_event(alloc: Global, event: &Event, text: &mut String) -> Result<(), StateError> {
     match event {
-        Event::Incoming(packet) => text.push(packet_name(alloc, packet)?)?,
+        Event::Incoming(packet) => add_packet(alloc, packet, text)?,
         Event::Outgoing(outgoing) => write!(text, "{outgoing:?}")?,
     }
     Ok(())
@@ -334,12 +348,17 @@ fn add_events(
     Ok(())
 }
 
-/// An id: `.` where it is free, `r` where it is released, and else the name of its publish.
-fn id_mark(alloc: Global, state: &MqttState, id: u16) -> Result<char, StateError> {
+/// Adds an id: `.` where it is free, `r` where it is released, and else the name of its publish.
+fn add_id(
+    alloc: Global,
+    state: &MqttState,
+    id: u16,
+    text: &mut String,
+) -> Result<(), StateError> {
     match state.outgoing_pub(id) {
-        Some(publish) => publish_name(alloc, publish),
-        None if state.outgoing_rel(id) => Ok('r'),
-        None => Ok('.'),
+        Some(publish) => add_publish(alloc, publish, text),
+        None if state.outgoing_rel(id) => Ok(text.push('r')?),
+        None => Ok(text.push('.')?),
     }
 }
 
@@ -384,7 +403,7 @@ fn add_numbers(state: &MqttState, text: &mut String) -> Result<(), AllocError> {
 
 fn add_ids(alloc: Global, state: &MqttState, text: &mut String) -> Result<(), StateError> {
     for id in 1..=state.max_outgoing_inflight_upper_limit().min(5) {
-        text.push(id_mark(alloc, state, id)?)?;
+        add_id(alloc, state, id, text)?;
     }
     Ok(())
 }
@@ -398,7 +417,7 @@ pub(super) fn standing(alloc: Global, state: &MqttState) -> Result<String, State
     add_ids(alloc, state, &mut text)?;
     if let Some(publish) = state.collision() {
         text.push('+')?;
-        text.push(publish_name(alloc, publish)?)?;
+        add_publish(alloc, publish, &mut text)?;
     }
     write!(text, "/{}", state.inflight())?;
     add_numbers(state, &mut text)?;

@@ -1,10 +1,10 @@
 //! What is sent again on a new connection.
 
-ghost use Rattle.std.specs.Prelude.{◌≡◌, ◌+◌, ◌≤◌, ◌++◌, IfOk, length};
+ghost use Rattle.std.specs.Prelude.{◌≡◌, ◌+◌, ◌≤◌, ◌++◌, IfOk, OnErr, OnOk, length};
 ghost use Rattle.std.specs.List.{filter_map};
 ghost use Rattle.std.specs.VecDeque.{deque_len, deque_capacity};
 ghost use Rattle.mqtt5_held.specs.Held.{IsWithin};
-ghost use Rattle.mqtt5_session.specs.Cleaning.{Resumes};
+ghost use Rattle.mqtt5_session.specs.Cleaning.{marked, Resumes};
 ghost use Rattle.mqtt5_session.specs.Again.{event_for, moment_after, resumed};
 
 use super::MqttState;
@@ -13,10 +13,11 @@ use mqtt5_held::{Event, Outgoing, StateError};
 use std::collections::VecDeque;
 
 impl MqttState {
-    /// Sends again what a clean would give, and leaves it in place.
+    /// Sends again what a clean would give, and leaves it in place as it was sent.
     pub(super) fn send_again(&mut self, at: u64) -> Result<Vec<Packet>, StateError>
         ensures sends { Resumes result self.old self.new (resumed self.old at) }
-        ensures core { self.new.core ≡ self.old.core }
+        ensures core { OnOk result (self.new.core ≡ marked self.old.core) }
+        ensures kept { OnErr result (self.new.core ≡ self.old.core) }
         ensures within { IsWithin self.old.core.limit self.old.core.held }
     {
         let max = self.alias_max;
@@ -26,6 +27,7 @@ impl MqttState {
         let packets = self.slots.packets()?;
         self.events.reserve(packets.len())?;
         tell_all(&mut self.events, &packets);
+        self.slots.mark_again();
         self.last_outgoing = moment_after(&packets, self.last_outgoing, at);
         self.awaits_ping = false;
         self.collision_pings = 0;
