@@ -349,12 +349,7 @@ fn add_events(
 }
 
 /// Adds an id: `.` where it is free, `r` where it is released, and else the name of its publish.
-fn add_id(
-    alloc: Global,
-    state: &MqttState,
-    id: u16,
-    text: &mut String,
-) -> Result<(), StateError> {
+fn add_id(alloc: Global, state: &MqttState, id: u16, text: &mut String) -> Result<(), StateError> {
     match state.outgoing_pub(id) {
         Some(publish) => add_publish(alloc, publish, text),
         None if state.outgoing_rel(id) => Ok(text.push('r')?),
