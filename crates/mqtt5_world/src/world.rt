@@ -205,8 +205,8 @@ fn send(way: &mut VecDeque<Packet>, reply: Option<Packet>) -> Result<(), AllocEr
     }
 }
 
-/// The broker takes the client back, with its session.
-fn taken_back(alloc: Global, receive_max: Option<u16>) -> Packet
+/// The ConnAck by which the broker takes the client back, with its session.
+pub fn taken_back(alloc: Global, receive_max: Option<u16>) -> Packet
     ensures { result ≡ taken_back receive_max }
 {
     Packet::ConnAck(ConnAck {

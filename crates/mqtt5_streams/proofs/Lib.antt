@@ -1,0 +1,6 @@
+pub mod Wire
+pub mod Cuts
+pub mod Closed
+pub mod Steps
+pub mod Runs
+pub mod Answered

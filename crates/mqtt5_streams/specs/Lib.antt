@@ -1,0 +1,6 @@
+pub mod Wire
+pub mod Buffers
+pub mod ByteWorld
+pub mod Reduction
+pub mod Counts
+pub mod Does
