@@ -4,3 +4,4 @@ pub mod Closed
 pub mod Steps
 pub mod Runs
 pub mod Answered
+pub mod Played

@@ -3,6 +3,12 @@
 
 mod event;
 mod laws;
+mod player;
+#[cfg(test)]
+mod tests;
+mod way;
+mod world;
 
 pub use event::ByteEvent;
 pub use laws::{answers_law, counts_law, reduction_law, wire_law};
+pub use player::play_bytes;
