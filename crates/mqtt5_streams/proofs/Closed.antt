@@ -2,6 +2,7 @@
 use Rattle.std.proofs.Common.{◌≡◌, ◌≢◌, ℕ, zero, suc, ◌≤◌, Bool, true, false, cond, nat_lt, ◌==◌, List, [], ◌∷◌, ◌++◌, Option, Some, None, Result, Ok, Err, refl, sym, ap, ◌∙◌, subst, ⊎_elim}
 use Rattle.std.specs.List.{filter_map}
 use Rattle.std.specs.Option.{option_to_list}
+use Rattle.std.specs.Prelude.{option_map}
 use Rattle.std.proofs.lemmas.Bool.{cases_eq, ltb-false}
 use Rattle.std.proofs.lemmas.List.Elements.{filter_map-append}
 use Rattle.std.specs.Ordering.{nat_cmp, eq_by_cmp}
@@ -23,8 +24,9 @@ use Rattle.mqtt5_held.specs.declared.event.Outgoing.TheVariants as outgoing
 use Rattle.mqtt5_held.specs.declared.error.StateError.{StateError}
 use Rattle.mqtt5_held.specs.declared.error.StateError.TheVariants as errors
 use Rattle.mqtt5_held.specs.Held.{Held}
-use Rattle.mqtt5_held.specs.Unacked.{by_id, publish_again, release_again}
+use Rattle.mqtt5_held.specs.Unacked.{again, slot_again, held_again, by_id, publish_again, release_again}
 use Rattle.mqtt5_held.specs.Resent.{packet_for, packets_of}
+use Rattle.mqtt5_held.proofs.Marked.{get_again}
 use Rattle.mqtt5_held.proofs.Within.{no_ids, get_insert_same, get_insert_other}
 use Rattle.mqtt5_session.specs.Session.{Core, Session, Answer}
 use Rattle.mqtt5_session.specs.Requests.{out, unless, over_maximum, Verdict, Refuse, Wait, Store, by_alias, by_use, judged, out_acked, out_once, out_publish, id_for, last_after, release_of, tells_at}
@@ -53,7 +55,7 @@ pub record Closed (Q : Packet → Type 0) : Type 0 where
   pub first : (p : Publish) → Q (packets.Publish p) → Q (pubrec_of p.pkid)
   pub release : (id : ℕ) → Q (pubrec_of id) → Q (release_of id)
   pub complete : (id : ℕ) (reason : PubRelReason) → Q (release_of id) → Q (pubcomp_of id reason)
-  pub again : (p : Publish) → Q (packets.Publish p) → Q (packets.Publish (record p { dup = true }))
+  pub again : (p : Publish) → Q (packets.Publish p) → Q (packets.Publish (again p))
 
 -- what a client sends
 pub data IsSent : Packet → Type 0 where
@@ -114,7 +116,7 @@ unfolding inc
 taken_reply s m = refl
 
 abbrev pub again_of : Session → List Packet × Session
-again_of s = (packets_of s.core.limit s.core.held, after_sent (packets_of s.core.limit s.core.held) s.core.held (cleaned s) 0)
+again_of s = (packets_of s.core.limit s.core.held, after_sent (packets_of s.core.limit s.core.held) (held_again s.core.held) (cleaned s) 0)
 
 pub resumes_taken : (w : World) (m : Option ℕ) → Inv w → resume_of (inc w.session (taken_back m) 0).1 0 ≡ Ok (again_of (inc w.session (taken_back m) 0).1)
 resumes_taken w m i =
@@ -216,26 +218,34 @@ module _ (Q : Packet → Type 0) (limit : ℕ) where
       subst (Every (GoesUp Q)) (sym (filter_map-append packet_for (by_id f n h) (f (suc n) (get h (suc n)))))
       (every_append (GoesUp Q) (filter_map packet_for (by_id f n h)) (filter_map packet_for (f (suc n) (get h (suc n)))) (every_part f h each n) (each (suc n)))
 
-  publish_part : (id : ℕ) (x : Option Slot) → HoldsSlot Q id x → Every (GoesUp Q) (filter_map packet_for (publish_again id x))
-  publish_part id None h = tt {0}
-  publish_part id (Some Released) h = tt {0}
-  publish_part id (Some (Sent p)) h = ((h, APublish p), tt {0})
+  publish_part : Closed Q → (id : ℕ) (x : Option Slot) → HoldsSlot Q id x → Every (GoesUp Q) (filter_map packet_for (publish_again id x))
+  publish_part c id None h = tt {0}
+  publish_part c id (Some Released) h = tt {0}
+  publish_part c id (Some (Sent p)) h = ((c.again p h, APublish (again p)), tt {0})
 
   release_part : (id : ℕ) (x : Option Slot) → HoldsSlot Q id x → Every (GoesUp Q) (filter_map packet_for (release_again id x))
   release_part id None h = tt {0}
   release_part id (Some Released) h = ((h, ARelease id), tt {0})
   release_part id (Some (Sent p)) h = tt {0}
 
-  every_again : (c : Core) → HoldsCore Q limit c → Every (GoesUp Q) (packets_of c.limit c.held)
-  every_again c h =
+  every_again : Closed Q → (c : Core) → HoldsCore Q limit c → Every (GoesUp Q) (packets_of c.limit c.held)
+  every_again closed c h =
       subst (Every (GoesUp Q)) (sym (filter_map-append packet_for (by_id publish_again c.limit c.held) (by_id release_again c.limit c.held)))
       (every_append (GoesUp Q) (filter_map packet_for (by_id publish_again c.limit c.held)) (filter_map packet_for (by_id release_again c.limit c.held))
-      (every_part publish_again c.held (λ id. publish_part id (get c.held id) (h.held id)) c.limit)
+      (every_part publish_again c.held (λ id. publish_part closed id (get c.held id) (h.held id)) c.limit)
       (every_part release_again c.held (λ id. release_part id (get c.held id) (h.held id)) c.limit))
+
+  slot_part : Closed Q → (id : ℕ) (x : Option Slot) → HoldsSlot Q id x → HoldsSlot Q id (option_map slot_again x)
+  slot_part c id None h = h
+  slot_part c id (Some Released) h = h
+  slot_part c id (Some (Sent p)) h = c.again p h
 
   -- what a resume sends, and the session after it
   pub keeps_again : Closed Q → (s : Session) → HoldsCore Q limit s.core → Every (GoesUp Q) (again_of s).0 × HoldsCore Q limit (again_of s).1.core
-  keeps_again c s h = (every_again s.core h, record { limited = h.limited; held = h.held; waits = h.waits })
+  keeps_again c s h = (
+    every_again c s.core h,
+    record { limited = h.limited; held = λ id. subst (HoldsSlot Q id) (sym (get_again s.core.held id)) (slot_part c id (get s.core.held id) (h.held id)); waits = h.waits },
+  )
 
   pub taken_holds : (s : Session) (m : Option ℕ) → HoldsCore Q limit s.core → HoldsCore Q limit (inc s (taken_back m) 0).1.core
   taken_holds s m h = subst (HoldsCore Q limit) (sym (taken_core s m).1) (record { limited = h.limited; held = h.held; waits = h.waits })

@@ -161,7 +161,7 @@ abbrev after_norm : Publish → Publish → Bool
 after_norm c p = has_content c (publish_norm p)
 
 norm_class : (c : Publish) (q : QoS) → c.qos ≡ q → IsClass q (after_norm c)
-norm_class c q e = record { of_qos = λ p h. (content_class c).of_qos (publish_norm p) h ∙ e; blind = λ p id. refl }
+norm_class c q e = record { of_qos = λ p h. (content_class c).of_qos (publish_norm p) h ∙ e; blind = λ p id. refl; blind_again = λ p. refl }
 
 pub counts : (codec : Codec) (limit : ℕ) → limit < 65536 → (es : List ByteEvent) (b : ByteWorld) (c : Publish) → Every IsTypedEvent es → run_bytes codec es (start_bytes limit) ≡ Ok b → Counts c (byte_losses es) b
 counts codec limit small es b c f e =

@@ -1,4 +1,4 @@
--- This file serves the logic alone: what a function that plays events over bytes answers, and what a report is of.
+-- What a function that plays events over bytes answers, and what a report is of (MQTT 5.0 section 4.3).
 use Rattle.std.specs.Prelude.{◌≡◌, ℕ, List, Option, Result, Ok, Err, ◌⊎◌}
 use Rattle.mqtt5_base.specs.declared.error.Error.{Error}
 use Rattle.mqtt5_codec.specs.declared.codec.Codec.{Codec}

@@ -1,5 +1,5 @@
 -- The frames of packets, and what the codec says of them (MQTT 5.0 sections 2.1 and 3).
-use Rattle.std.specs.Prelude.{◌≡◌, ℕ, ◌<◌, ◌≤◌, List, [], ◌++◌, length, true, Option, Some, None, Result, Ok, option_map}
+use Rattle.std.specs.Prelude.{◌≡◌, ℕ, ◌<◌, ◌≤◌, List, [], ◌++◌, length, Option, Some, None, Result, Ok, option_map}
 use Rattle.mqtt5_base.specs.declared.error.Error.{Error}
 use Rattle.mqtt5_base.specs.Front.{IsFront, Admits, More, Whole}
 use Rattle.mqtt5_base.specs.FrontAt.{front}
@@ -15,6 +15,7 @@ use Rattle.mqtt5_codec.specs.declared.packet.Packet.TheVariants as packets
 use Rattle.mqtt5_codec.specs.Packets.{packet_row, written_packet, writing_under}
 use Rattle.mqtt5_codec.specs.PacketsIn.{packet_in}
 use Rattle.mqtt5_codec.specs.Norms.{norm}
+use Rattle.mqtt5_held.specs.Unacked.{again}
 use Rattle.mqtt5_session.specs.Requests.{release_of}
 use Rattle.mqtt5_session.specs.Packets.{puback_of, pubrec_of, pubcomp_of}
 
@@ -58,7 +59,7 @@ pub data IsAck : Packet → Type 0 where
 -- A stream of no bytes needs two, and what is decided of a front stays so. What is written is the packet's frame, and such a
 -- packet can be written under no limit. A frame that can be written stands at the front whatever follows, under a limit that
 -- admits it, and is read as the packet's norm. An ack can be written, and has a remaining length of at most four. A release
--- can be written where a publish can, and so can a publish with dup where it can without (3.3.1.1).
+-- can be written where a publish can, and so can the publish that is sent again (3.3.1.1).
 pub record IsWire : Type 0 where
   pub empty : (limit : Option ℕ) → front limit [] ≡ More 2
   pub stays : (limit : Option ℕ) → IsFront (front limit)
@@ -67,4 +68,4 @@ pub record IsWire : Type 0 where
   pub read : (p : Packet) → IsTyped p → IsWritable None p → packet_in (frame_of p) ≡ Ok (norm p)
   pub acks : (p : Packet) → IsAck p → IsWritable None p × (remaining p ≤ 4)
   pub releases : (limit : Option ℕ) (p : Publish) (id : ℕ) → IsWritable limit (packets.Publish p) → IsWritable limit (release_of id)
-  pub again : (limit : Option ℕ) (p : Publish) → IsWritable limit (packets.Publish p) → IsWritable limit (packets.Publish (record p { dup = true }))
+  pub again : (limit : Option ℕ) (p : Publish) → IsWritable limit (packets.Publish p) → IsWritable limit (packets.Publish (again p))

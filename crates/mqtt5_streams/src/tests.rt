@@ -42,8 +42,16 @@ fn cut_frame(alloc: Global) -> Result<(usize, u16), StateError> {
     counts(alloc, 1, None, &events)
 }
 
+/// Whether the first publish that was handed on has dup.
+fn has_dup(publishes: &[Publish]) -> bool {
+    match publishes.first() {
+        Some(publish) => publish.dup,
+        None => false,
+    }
+}
+
 /// The last byte comes, and then each ack, one of them in two pieces.
-fn whole_frame(alloc: Global) -> Result<(usize, u16), StateError> {
+fn whole_frame(alloc: Global) -> Result<(usize, bool, u16), StateError> {
     let events = [
         publish(alloc, QoS::ExactlyOnce)?,
         ByteEvent::Up(8),
@@ -55,7 +63,9 @@ fn whole_frame(alloc: Global) -> Result<(usize, u16), StateError> {
         ByteEvent::Up(100),
         ByteEvent::Down(100),
     ];
-    counts(alloc, 1, None, &events)
+    let report = play_bytes(alloc, 1, None, None, &events)?;
+    let inflight = report.state.inflight();
+    Ok((report.handed.len(), has_dup(&report.handed), inflight))
 }
 
 /// Two frames come at once, each way.
@@ -99,7 +109,7 @@ fn delivers_over_cut_frames(rt: HostRuntime) -> Result<(), Fail> {
     counts_law();
     answers_law();
     assert_eq!(rt; cut_frame(rt.alloc()), Ok((0, 1)));
-    assert_eq!(rt; whole_frame(rt.alloc()), Ok((1, 0)));
+    assert_eq!(rt; whole_frame(rt.alloc()), Ok((1, true, 0)));
     assert_eq!(rt; two_frames(rt.alloc()), Ok((2, 0)));
     Ok(())
 }
