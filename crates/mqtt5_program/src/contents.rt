@@ -2,20 +2,44 @@
 //! takes no memory.
 
 use crate::report::write_message;
-use mqtt5::{MqttState, Report, WorldEvent};
+use mqtt5::{ByteEvent, MqttState, Report, WorldEvent};
 use mqtt5_flow::Publish;
 use std::io;
 use std::io::Write;
 
+/// What may ask for a publish.
+pub trait Asks {
+    /// The publish that is asked for.
+    fn publish(&self) -> Option<&Publish>;
+}
+
+impl Asks for WorldEvent {
+    fn publish(&self) -> Option<&Publish> {
+        match self {
+            WorldEvent::Publish(publish) => Some(publish),
+            _ => None,
+        }
+    }
+}
+
+impl Asks for ByteEvent {
+    fn publish(&self) -> Option<&Publish> {
+        match self {
+            ByteEvent::Publish(publish) => Some(publish),
+            _ => None,
+        }
+    }
+}
+
 /// Prints the contents in order of their first publish, how many publishes were refused, and how many ids
 /// are in use.
-pub fn write_contents<W: Write>(
+pub fn write_contents<W: Write, E: Asks>(
     output: &mut W,
-    events: &[WorldEvent],
+    events: &[E],
     report: &Report,
 ) -> io::Result<()> {
     for (place, event) in events.iter().enumerate() {
-        if let WorldEvent::Publish(content) = event
+        if let Some(content) = event.publish()
             && !asks_for(&events[..place], content)
         {
             write_content(output, content, report)?;
@@ -26,10 +50,10 @@ pub fn write_contents<W: Write>(
 }
 
 /// Whether one of the events asks for this content.
-fn asks_for(events: &[WorldEvent], content: &Publish) -> bool {
-    events.iter().any(|event| match event {
-        WorldEvent::Publish(publish) => has_content(publish, content),
-        _ => false,
+fn asks_for<E: Asks>(events: &[E], content: &Publish) -> bool {
+    events.iter().any(|event| match event.publish() {
+        Some(publish) => has_content(publish, content),
+        None => false,
     })
 }
 

@@ -8,7 +8,7 @@ use crate::contents::write_contents;
 use crate::outcome::run_steps;
 use crate::report::{write_fault, write_outcome};
 use crate::script::{ScriptError, parse_number, read_script};
-use mqtt5::{StateError, Step, WorldEvent, play};
+use mqtt5::{ByteEvent, StateError, Step, WorldEvent, play, play_bytes};
 use std::alloc::Global;
 use std::io;
 use std::io::{ErrorKind, Read, Write};
@@ -28,6 +28,7 @@ enum Task {
     Bench,
     Drive(NonZeroU16),
     World(NonZeroU16),
+    Bytes(NonZeroU16),
 }
 
 /// Runs the program on the words after its name, and answers its exit status: 0; 1 after a fault or a
@@ -41,6 +42,7 @@ pub fn run<R: Read, W: Write>(alloc: Global, words: &[String], input: &mut R, ou
         Some(Task::Bench) => run_bench(alloc, output),
         Some(Task::Drive(limit)) => run_drive(alloc, limit, input, output),
         Some(Task::World(limit)) => run_world(alloc, limit, input, output),
+        Some(Task::Bytes(limit)) => run_bytes(alloc, limit, input, output),
         None => write_usage(output),
     };
     printed.unwrap_or(Status::Fault) as u8
@@ -73,6 +75,7 @@ fn limited_task(word: &str, limit: NonZeroU16) -> Option<Task> {
     match word {
         "drive" => Some(Task::Drive(limit)),
         "world" => Some(Task::World(limit)),
+        "bytes" => Some(Task::Bytes(limit)),
         _ => None,
     }
 }
@@ -146,6 +149,31 @@ fn play_all<W: Write>(
     }
 }
 
+fn run_bytes<R: Read, W: Write>(
+    alloc: Global,
+    limit: NonZeroU16,
+    input: &mut R,
+    output: &mut W,
+) -> io::Result<Status> {
+    match read_script(alloc, input) {
+        Ok(events) => play_all_bytes(alloc, limit, events.as_slice(), output),
+        Err(error) => write_refusal(output, &error),
+    }
+}
+
+/// Plays without limits on packets.
+fn play_all_bytes<W: Write>(
+    alloc: Global,
+    limit: NonZeroU16,
+    events: &[ByteEvent],
+    output: &mut W,
+) -> io::Result<Status> {
+    match play_bytes(alloc, limit.get(), None, None, events) {
+        Ok(report) => write_contents(output, events, &report).map(|()| Status::Done),
+        Err(fault) => write_ending(output, &fault),
+    }
+}
+
 fn write_refusal<W: Write>(output: &mut W, error: &ScriptError) -> io::Result<Status> {
     match error {
         ScriptError::Bad(number) => {
@@ -177,6 +205,8 @@ fn write_ending<W: Write>(output: &mut W, fault: &StateError) -> io::Result<Stat
 fn write_usage<W: Write>(output: &mut W) -> io::Result<Status>
     ensures { IfOk result (λ s. s ≡ Refused) }
 {
-    output.write_all(b"usage: mqtt5 drive LIMIT | mqtt5 world LIMIT | mqtt5 bench\n")?;
+    output.write_all(
+        b"usage: mqtt5 drive LIMIT | mqtt5 world LIMIT | mqtt5 bytes LIMIT | mqtt5 bench\n",
+    )?;
     Ok(Status::Refused)
 }

@@ -1,4 +1,4 @@
-//! A script, with what it says on each line: a step of `drive`, or what happens in a `world`.
+//! A script, with what it says on each line: a step of `drive`, or what happens in a `world` or over `bytes`.
 
 ghost use Rattle.std.specs.Prelude.{◌≡◌, ◌↔◌, Some, codes};
 ghost use Rattle.hex.specs.declared.error.FromHexError.TheVariants as hex_errors;
@@ -9,7 +9,7 @@ ghost use Rattle.mqtt5_program.specs.declared.script.LineError.TheVariants as li
 
 use bytes::Bytes;
 use hex::FromHexError;
-use mqtt5::{Input, Request, Step, WorldEvent};
+use mqtt5::{ByteEvent, Input, Request, Step, WorldEvent};
 use mqtt5_base::{Error, QoS, qos};
 use mqtt5_flow::{PubAck, PubRec, PubRel, Publish};
 use mqtt5_subs::{Filter, Subscribe, Unsubscribe};
@@ -18,6 +18,9 @@ use std::io::{ErrorKind, Read};
 
 /// How many bytes a script may have.
 const LONGEST: usize = 1_000_000;
+
+/// How many bytes may move at once.
+const MOST_MOVED: u64 = 1_000_000;
 
 /// Why a script isn't run.
 #[derive(Debug, PartialEq, Eq, Drop)]
@@ -136,6 +139,17 @@ impl Line for WorldEvent {
     }
 }
 
+impl Line for ByteEvent {
+    /// A word and its fields, with one space between any two.
+    fn parse(alloc: Global, line: &str) -> Result<ByteEvent, LineError> {
+        match split_word(line) {
+            (word, Some(fields)) => parse_byte_event(alloc, word, fields),
+            ("loss", None) => Ok(ByteEvent::Loss(None)),
+            _ => Err(LineError::Bad),
+        }
+    }
+}
+
 /// The text up to the first space, and what is behind that.
 fn split_word(text: &str) -> (&str, Option<&str>) {
     match text.split_once(' ') {
@@ -159,6 +173,17 @@ fn parse_event(alloc: Global, word: &str, fields: &str) -> Result<WorldEvent, Li
     match word {
         "pub" => Ok(WorldEvent::Publish(parse_publish(alloc, fields)?)),
         "loss" => Ok(WorldEvent::Loss(Some(parse_u16(fields)?))),
+        _ => Err(LineError::Bad),
+    }
+}
+
+/// The event over streams of bytes of a word with fields.
+fn parse_byte_event(alloc: Global, word: &str, fields: &str) -> Result<ByteEvent, LineError> {
+    match word {
+        "pub" => Ok(ByteEvent::Publish(parse_publish(alloc, fields)?)),
+        "loss" => Ok(ByteEvent::Loss(Some(parse_u16(fields)?))),
+        "up" => Ok(ByteEvent::Up(parse_moved(fields)?)),
+        "down" => Ok(ByteEvent::Down(parse_moved(fields)?)),
         _ => Err(LineError::Bad),
     }
 }
@@ -224,6 +249,14 @@ fn parse_unsubscribe(alloc: Global, field: &str) -> Result<Request, LineError> {
 fn parse_u16(field: &str) -> Result<u16, LineError> {
     let number = parse_number(field).ok_or(LineError::Bad)?;
     u16::try_from(number).map_err(|_| LineError::Bad)
+}
+
+/// A number of bytes that move.
+fn parse_moved(field: &str) -> Result<usize, LineError> {
+    match parse_number(field) {
+        Some(number) if number <= MOST_MOVED => Ok(number as usize),
+        _ => Err(LineError::Bad),
+    }
 }
 
 fn parse_quality(field: &str) -> Result<QoS, LineError> {

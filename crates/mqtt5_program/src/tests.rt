@@ -16,7 +16,8 @@ const VECTORS: &str = "V1 ok\nV2 ok\nV3 ok\nV4 ok\nV5 ok\nV6 ok\nV7 ok\nV8 ok\nV
     V21 ok\nV22 ok\nV23 ok\nV24 ok\nV25 ok\nV26 ok\nV27 ok\nV28 ok\nV29 ok\nV30 ok\n\
     V31 ok\nV32 ok\nV33 ok\nV34 ok\nV35 ok\nV36 ok\n";
 
-const USAGE: &str = "usage: mqtt5 drive LIMIT | mqtt5 world LIMIT | mqtt5 bench\n";
+const USAGE: &str =
+    "usage: mqtt5 drive LIMIT | mqtt5 world LIMIT | mqtt5 bytes LIMIT | mqtt5 bench\n";
 
 /// A script, what `drive 10` prints of it, and the status.
 const SCRIPTS: &[(&str, &str, u8)] = &[
@@ -202,7 +203,7 @@ const SCRIPTS_OF_FEW: &[(&str, &str, &str, u8)] = &[
 ];
 
 /// The words, a script, and what they print of it; the status is 0.
-const WORLDS: [(&str, &str, &str); 6] = [
+const WORLDS: [(&str, &str, &str); 9] = [
     (
         "world 2",
         "pub 0 61 78\nloss\npub 1 62 79\nup\nloss 1\nup\ndown\n",
@@ -229,23 +230,45 @@ const WORLDS: [(&str, &str, &str); 6] = [
         "content 2 61 78 accepted 1 handed 1 stored 0 waiting 0\ncontent 1 61 78 accepted 1 handed 1 stored 1 waiting 0\nrefused 0\ninflight 2\n",
     ),
     ("world 00001", "", "refused 0\ninflight 0\n"),
+    (
+        "bytes 1",
+        "pub 2 61 78\nup 8\nloss\nup 8\n",
+        "content 2 61 78 accepted 1 handed 0 stored 1 waiting 0\nrefused 0\ninflight 1\n",
+    ),
+    (
+        "bytes 1",
+        "pub 2 61 78\nup 8\nloss\nup 8\nup 1\ndown 3\ndown 1\nup 100\ndown 100\n",
+        "content 2 61 78 accepted 1 handed 1 stored 0 waiting 0\nrefused 0\ninflight 0\n",
+    ),
+    (
+        "bytes 2",
+        "pub 1 61 78\npub 1 61 78\nup 18\ndown 8",
+        "content 1 61 78 accepted 2 handed 2 stored 0 waiting 0\nrefused 0\ninflight 0\n",
+    ),
 ];
 
-/// Lines that say nothing in a world.
-const BAD_EVENTS: &[&str] = &[
-    "up 1",
-    "up ",
-    "down 0",
-    "loss x",
-    "loss 65536",
-    "loss ",
-    "loss 1 2",
-    "pub 3 61 78",
-    "pub 1 6 78",
-    "pub 1 ff 78",
-    "pub",
-    "bye 1",
-    "Up",
+/// Lines that say nothing in a world, and then over bytes.
+const BAD_EVENTS: &[(&str, &str)] = &[
+    ("world 10", "up 1"),
+    ("world 10", "up "),
+    ("world 10", "down 0"),
+    ("world 10", "loss x"),
+    ("world 10", "loss 65536"),
+    ("world 10", "loss "),
+    ("world 10", "loss 1 2"),
+    ("world 10", "pub 3 61 78"),
+    ("world 10", "pub 1 6 78"),
+    ("world 10", "pub 1 ff 78"),
+    ("world 10", "pub"),
+    ("world 10", "bye 1"),
+    ("world 10", "Up"),
+    ("bytes 10", "up"),
+    ("bytes 10", "down "),
+    ("bytes 10", "up 1000001"),
+    ("bytes 10", "down x"),
+    ("bytes 10", "loss 65536"),
+    ("bytes 10", "pub 3 61 78"),
+    ("bytes 10", "bye"),
 ];
 
 /// Lines that say nothing.
@@ -412,9 +435,9 @@ fn worlds(rt: HostRuntime) -> Result<(), Fail> {
 
 #[test]
 fn bad_events(rt: HostRuntime) -> Result<(), Fail> {
-    for line in BAD_EVENTS {
+    for (words, line) in BAD_EVENTS {
         let mut input = line.as_bytes();
-        let (text, status) = printed(rt.alloc(), "world 10", &mut input)?;
+        let (text, status) = printed(rt.alloc(), words, &mut input)?;
         assert_eq!(rt; text.as_str(), "line 1: bad\n", "of {line:?}");
         assert_eq!(rt; status, 2, "of {line:?}");
     }
