@@ -12,6 +12,7 @@ mod packets;
 mod parts;
 mod runs;
 mod settings;
+mod streams;
 mod telling;
 mod trials;
 

@@ -1,7 +1,7 @@
 //! The trials by their names.
 
 use crate::telling::Failure;
-use crate::{calls, made, packets, parts, runs, settings};
+use crate::{calls, made, packets, parts, runs, settings, streams};
 use std::alloc::Global;
 use std::io;
 use std::io::Write;
@@ -153,6 +153,12 @@ const ASKS: &[&str] = &[
     "play 1 2 A^vBC^v^v^v",
     "play 1 2 A^!^v^!^v",
     "play 5 1 ABCD^2E^",
+    "bytes 1 0 0 2 A up:8 loss up:8",
+    "bytes 1 0 0 2 A up:8 loss up:8 up:1 down:3 down:1 up:100 down:100",
+    "bytes 2 0 0 1 A A up:18 down:8",
+    "bytes 1 3 0 2 A up:9 loss up:9 down:4 up:4 loss up:4 down:2",
+    "bytes 1 4 0 2 A up:9 loss up:9 down:4 up:4 loss up:4 down:6",
+    "bytes 1 0 8 2 A",
     "twin >P / >P",
     "twin *2 <R / <C *F",
     "twin <Z >9 <j / ^",
@@ -215,6 +221,7 @@ pub fn run<W: Write>(alloc: Global, trial: &str, output: &mut W) -> Result<(), F
         "session" => calls::copy(alloc, name, output),
         "drive" => runs::run_loop(alloc, name, output),
         "play" => runs::run_world(alloc, name, output),
+        "bytes" => streams::run_streams(alloc, name, output),
         "twin" => runs::run_twins(alloc, name, output),
         _ => Err(Failure::Unknown),
     }
