@@ -1,10 +1,8 @@
 -- When a run over bytes has no fault.
-use Rattle.std.proofs.Common.{◌≡◌, ℕ, ◌<◌, ◌≤◌, List, [], ◌∷◌, ◌++◌, Option, Some, None, IfSome, Result, Ok, Err, inr, refl, sym, ap, ◌∙◌, subst, arith}
+use Rattle.std.proofs.Common.{◌≡◌, ℕ, ◌<◌, ◌≤◌, List, [], ◌∷◌, ◌++◌, Option, Some, None, IfSome, Result, Ok, Err, inr, refl, ap, ◌∙◌, subst, arith}
 use Rattle.std.specs.Option.{option_to_list}
 use Rattle.std.specs.FinSet as set
-use Rattle.mqtt5_base.specs.declared.error.Error.{Error}
 use Rattle.mqtt5_base.specs.Front.{Admits}
-use Rattle.mqtt5_base.specs.FrontAt.{front}
 use Rattle.mqtt5_base.specs.declared.quality.QoS.{QoS}
 use Rattle.mqtt5_base.specs.declared.quality.QoS.TheVariants.{AtMostOnce, AtLeastOnce, ExactlyOnce}
 use Rattle.mqtt5_flow.specs.declared.publish.Publish.{Publish}
@@ -15,10 +13,9 @@ use Rattle.mqtt5_codec.specs.PacketsIn.{packet_in}
 use Rattle.mqtt5_codec.specs.Norms.{norm}
 use Rattle.mqtt5_held.specs.declared.event.Request.TheVariants as requests
 use Rattle.mqtt5_held.specs.declared.error.StateError.{StateError}
-use Rattle.mqtt5_session.specs.Session.{Session, Answer}
+use Rattle.mqtt5_session.specs.Session.{Session}
 use Rattle.mqtt5_session.specs.Requests.{out, release_of}
 use Rattle.mqtt5_session.specs.Packets.{inc}
-use Rattle.mqtt5_session.specs.Cleaning.{resume_of}
 use Rattle.mqtt5_world.specs.declared.event.WorldEvent.TheVariants as plain
 use Rattle.mqtt5_world.specs.Broker.{Broker, serve, serve_publish, reason_for}
 use Rattle.mqtt5_world.specs.World.{World, start, heard, takes, returns, taken_back, run}
@@ -26,14 +23,14 @@ use Rattle.mqtt5_world.proofs.Step.{Inv}
 use Rattle.mqtt5_world.proofs.Runs.{inv_start, inv_next, inv_run}
 use Rattle.mqtt5_streams.specs.declared.event.ByteEvent.{ByteEvent}
 use Rattle.mqtt5_streams.specs.declared.event.ByteEvent.TheVariants as events
-use Rattle.mqtt5_streams.specs.Wire.{frame_of, remaining, bytes_of, IsWritable, IsTyped, IsAck, OfPublish, OfFirst, OfRelease}
+use Rattle.mqtt5_streams.specs.Wire.{frame_of, remaining, IsWritable, IsTyped, IsAck, OfPublish, OfFirst, OfRelease}
 use Rattle.mqtt5_streams.specs.Buffers.{Frames, Waits, Breaks, Takes}
-use Rattle.mqtt5_streams.specs.ByteWorld.{Way, moved, sent, reply_bytes, before, all_bytes, ByteWorld, Outcome, and_then, sends_up, sends_down, asked_bytes, arrived, go_up, heard_bytes, takes_bytes, returned, come_down, emptied, resumed_bytes, resumes_bytes, happens_bytes, run_bytes, start_bytes}
+use Rattle.mqtt5_streams.specs.ByteWorld.{moved, sent, reply_bytes, before, all_bytes, ByteWorld, Outcome, and_then, sends_up, sends_down, asked_bytes, arrived, go_up, heard_bytes, takes_bytes, returned, come_down, emptied, resumed_bytes, resumes_bytes, happens_bytes, run_bytes, start_bytes}
 use Rattle.mqtt5_streams.specs.Reduction.{Every, as_events, unless_fault, IsTypedEvent, numbered, if_accepted, taken_on, all_taken_on, AllWritable, AdmitsAcks}
 use Rattle.mqtt5_streams.proofs.Wire.{wire}
 use Rattle.mqtt5_streams.proofs.Cuts.{AreCut, cuts}
-use Rattle.mqtt5_streams.proofs.Closed.{every_append, Closed, IsSent, APublish, ARelease, GoesUp, ComesDown, HoldsCore, Holds, HoldsReply, IfAccepted, Keeps, keeps_out, keeps_inc, keeps_again, taken_holds, taken_reply, resumes_taken, again_of, holds_next, holds_start}
-use Rattle.mqtt5_streams.proofs.Steps.{Tied, IsWritten, not_ok, every_both, every_map, norm_ack, moved_whole}
+use Rattle.mqtt5_streams.proofs.Closed.{Closed, IsSent, APublish, ARelease, GoesUp, ComesDown, Holds, HoldsReply, IfAccepted, keeps_out, keeps_inc, keeps_again, taken_holds, taken_reply, resumes_taken, again_of, holds_next, holds_start}
+use Rattle.mqtt5_streams.proofs.Steps.{Tied, IsWritten, every_both, every_map, norm_ack, moved_whole}
 use Rattle.mqtt5_streams.proofs.Runs.{OwesByte, holds_as, closed_typed, owes_typed, on_up, on_down, event_tied, tied_start}
 
 abbrev Answers : Outcome → Type 0

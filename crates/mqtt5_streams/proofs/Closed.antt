@@ -1,5 +1,5 @@
 -- What is said of the publishes that are accepted, with their ids, is said of every packet of a run.
-use Rattle.std.proofs.Common.{◌≡◌, ◌≢◌, ℕ, zero, suc, ◌≤◌, Bool, true, false, cond, nat_lt, ◌==◌, List, [], ◌∷◌, ◌++◌, Option, Some, None, Result, Ok, Err, refl, sym, ap, ◌∙◌, subst, ⊎_elim}
+use Rattle.std.proofs.Common.{◌≡◌, ◌≢◌, ℕ, zero, suc, ◌≤◌, Bool, true, false, cond, nat_lt, ◌==◌, List, [], ◌∷◌, ◌++◌, Option, Some, None, Result, Ok, Err, refl, sym, ap, subst, ⊎_elim}
 use Rattle.std.specs.List.{filter_map}
 use Rattle.std.specs.Option.{option_to_list}
 use Rattle.std.specs.Prelude.{option_map}
@@ -29,8 +29,8 @@ use Rattle.mqtt5_held.specs.Resent.{packet_for, packets_of}
 use Rattle.mqtt5_held.proofs.Marked.{get_again}
 use Rattle.mqtt5_held.proofs.Within.{no_ids, get_insert_same, get_insert_other}
 use Rattle.mqtt5_session.specs.Session.{Core, Session, Answer}
-use Rattle.mqtt5_session.specs.Requests.{out, unless, over_maximum, Verdict, Refuse, Wait, Store, by_alias, by_use, judged, out_acked, out_once, out_publish, id_for, last_after, release_of, tells_at}
-use Rattle.mqtt5_session.specs.Packets.{puback_of, pubrec_of, pubcomp_of, inc, hears, freed_for, on_puback, on_received, on_pubrec, on_pubcomp}
+use Rattle.mqtt5_session.specs.Requests.{out, unless, over_maximum, Verdict, Refuse, Wait, Store, by_alias, by_use, judged, out_acked, out_publish, id_for, last_after, release_of, tells_at}
+use Rattle.mqtt5_session.specs.Packets.{puback_of, pubrec_of, pubcomp_of, inc, hears, freed_for, on_puback, on_pubrec, on_pubcomp}
 use Rattle.mqtt5_session.specs.Packets as session
 use Rattle.mqtt5_session.specs.Cleaning.{cleaned, resume_of}
 use Rattle.mqtt5_session.specs.Again.{after_sent}
@@ -39,7 +39,7 @@ use Rattle.mqtt5_session.proofs.Keeps.{Sound}
 use Rattle.mqtt5_world.specs.declared.event.WorldEvent.{WorldEvent}
 use Rattle.mqtt5_world.specs.declared.event.WorldEvent.TheVariants as events
 use Rattle.mqtt5_world.specs.Broker.{Broker, serve, serve_publish, reason_for}
-use Rattle.mqtt5_world.specs.World.{World, start, asked, served, arrives, heard, takes, returns, taken_back, resumed, resumes, happens}
+use Rattle.mqtt5_world.specs.World.{World, start, asked, arrives, heard, takes, returns, taken_back, resumed, resumes, happens}
 use Rattle.mqtt5_world.proofs.Step.{Inv, SlotAllowed}
 use Rattle.mqtt5_world.proofs.Losses.{sends_again}
 use Rattle.mqtt5_streams.specs.Wire.{IsAck, OfPublish, OfFirst, OfRelease}

@@ -1,14 +1,10 @@
 -- What the parts of a run do is what its definitions say.
-use Rattle.std.proofs.Common.{◌≡◌, ◌≢◌, ℕ, suc, ◌+◌, ◌*◌, ◌<◌, ◌≤◌, List, ◌∷◌, Option, Some, None, Result, Ok, Err, ◌⊎◌, inl, inr, refl, sym, ap, ◌∙◌, subst, length, drop, slice_index_or, arith}
-use Rattle.std.proofs.Math.Seq.{drop-cons}
+use Rattle.std.proofs.Common.{◌≡◌, ◌≢◌, ℕ, suc, ◌+◌, ◌*◌, ◌<◌, ◌≤◌, List, Some, None, Ok, Err, ◌⊎◌, inl, inr, sym, ap, ◌∙◌, subst, arith}
 use Rattle.mqtt5_base.specs.declared.error.Error.{Error}
 use Rattle.mqtt5_base.specs.declared.quality.QoS.TheVariants.{AtMostOnce, AtLeastOnce, ExactlyOnce}
-use Rattle.mqtt5_base.specs.Front.{Bad, Whole}
-use Rattle.mqtt5_base.specs.FrontAt.{front}
 use Rattle.mqtt5_flow.specs.declared.publish.Publish.{Publish}
 use Rattle.mqtt5_codec.specs.declared.packet.Packet.{Packet}
 use Rattle.mqtt5_codec.specs.declared.codec.Codec.{Codec}
-use Rattle.mqtt5_codec.specs.PacketsIn.{packet_in}
 use Rattle.mqtt5_codec.specs.Codecs.{Decodes}
 use Rattle.mqtt5_codec.proofs.CodecLemmas.{taken_packet, taken_fault}
 use Rattle.mqtt5_held.specs.declared.error.StateError.{StateError}
@@ -18,10 +14,10 @@ use Rattle.mqtt5_world.specs.declared.event.Report.{Report}
 use Rattle.mqtt5_world.specs.Delivery.{times, stored_in, waiting_in}
 use Rattle.mqtt5_streams.specs.declared.event.ByteEvent.{ByteEvent}
 use Rattle.mqtt5_streams.specs.Buffers.{frames}
-use Rattle.mqtt5_streams.specs.ByteWorld.{Way, sent, ByteWorld, Outcome, and_then, sends_up, sends_down, arrived, go_up, drain_up, returned, come_down, drain_down, happens_bytes, run_bytes, start_bytes, byte_losses}
+use Rattle.mqtt5_streams.specs.ByteWorld.{Way, ByteWorld, Outcome, and_then, arrived, go_up, drain_up, returned, come_down, drain_down, run_bytes, start_bytes, byte_losses}
 use Rattle.mqtt5_streams.specs.Reduction.{Every, IsTypedEvent, norms, AdmitsAcks, AllWritable, all_taken_on}
 use Rattle.mqtt5_streams.specs.Counts.{Counts}
-use Rattle.mqtt5_streams.specs.Does.{codec_of, Does, Sends, IsReport}
+use Rattle.mqtt5_streams.specs.Does.{Does, IsReport}
 use Rattle.mqtt5_streams.proofs.Cuts.{frames_whole, frames_more, frames_bad}
 use Rattle.mqtt5_streams.proofs.Runs.{counts}
 use Rattle.mqtt5_streams.proofs.Answered.{answers}

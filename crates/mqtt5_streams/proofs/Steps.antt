@@ -1,5 +1,5 @@
 -- An event of the world of bytes is events of the world of packets.
-use Rattle.std.proofs.Common.{◌≡◌, ℕ, Bool, true, false, cond, ◌==◌, List, [], ◌∷◌, ◌++◌, map, length, take, drop, Option, Some, None, Result, Ok, Err, inl, refl, sym, ap, ◌∙◌, subst, append-nil, append_assoc}
+use Rattle.std.proofs.Common.{◌≡◌, ℕ, Bool, true, false, cond, List, [], ◌∷◌, ◌++◌, take, drop, Option, Some, None, Result, Ok, Err, inl, refl, sym, ap, ◌∙◌, subst, append-nil, append_assoc}
 use Rattle.std.proofs.lemmas.List.{map-append, take-append-drop}
 use Rattle.std.specs.Option.{option_to_list}
 use Rattle.std.specs.FinSet as set
@@ -17,13 +17,13 @@ use Rattle.mqtt5_codec.specs.Norms.{norm}
 use Rattle.mqtt5_held.specs.declared.event.Request.TheVariants as requests
 use Rattle.mqtt5_held.specs.declared.error.StateError.{StateError}
 use Rattle.mqtt5_session.specs.Session.{Session}
-use Rattle.mqtt5_session.specs.Requests.{out, release_of}
+use Rattle.mqtt5_session.specs.Requests.{out}
 use Rattle.mqtt5_session.specs.Packets.{puback_of, pubrec_of, inc}
 use Rattle.mqtt5_session.specs.Cleaning.{Sendings, resume_of}
 use Rattle.mqtt5_world.specs.declared.event.WorldEvent.{WorldEvent}
 use Rattle.mqtt5_world.specs.declared.event.WorldEvent.TheVariants as plain
 use Rattle.mqtt5_world.specs.Broker.{Broker, Served, serve, serve_publish}
-use Rattle.mqtt5_world.specs.World.{World, asked, served, arrives, heard, takes, returns, taken_back, resumed, resumes, happens, run}
+use Rattle.mqtt5_world.specs.World.{World, asked, served, arrives, heard, takes, returns, taken_back, resumed, happens, run}
 use Rattle.mqtt5_streams.specs.declared.event.ByteEvent.{ByteEvent}
 use Rattle.mqtt5_streams.specs.declared.event.ByteEvent.TheVariants as events
 use Rattle.mqtt5_streams.specs.Wire.{frame_of, bytes_of, IsWritable, IsTyped, IsAck, OfPublish, OfFirst, OfRelease}
@@ -31,7 +31,7 @@ use Rattle.mqtt5_streams.specs.Buffers.{Frames, Waits, Breaks, Takes, count}
 use Rattle.mqtt5_streams.specs.ByteWorld.{Way, clear, moved, sent, reply_bytes, before, all_bytes, ByteWorld, Outcome, and_then, sends_up, sends_down, asked_bytes, served_bytes, arrived, go_up, heard_bytes, takes_bytes, returned, come_down, emptied, resumed_bytes, resumes_bytes, happens_bytes}
 use Rattle.mqtt5_streams.specs.Reduction.{Every, times, as_events, norms, normed, frames_of, IsMore, Reduces}
 use Rattle.mqtt5_streams.proofs.Wire.{wire}
-use Rattle.mqtt5_streams.proofs.Cuts.{IsSound, AreCut, cuts}
+use Rattle.mqtt5_streams.proofs.Cuts.{AreCut, cuts}
 use Rattle.mqtt5_streams.proofs.Closed.{every_append, IsSent, APublish, ARelease}
 
 -- ---- results

@@ -1,11 +1,11 @@
 -- The codec keeps the laws of frames.
-use Rattle.std.proofs.Common.{◌≡◌, ℕ, ◌+◌, ◌<◌, ◌≤◌, ◌/◌, ◌%◌, Bool, true, false, cond, nat_lt, min, List, [], ◌∷◌, ◌++◌, length, Option, Some, None, Result, Ok, Err, refl, sym, ap, ◌∙◌, arith, le-ltb}
+use Rattle.std.proofs.Common.{◌≡◌, ℕ, ◌+◌, ◌≤◌, ◌/◌, ◌%◌, Bool, true, false, cond, nat_lt, min, List, [], ◌∷◌, ◌++◌, length, Option, Some, None, Result, Ok, Err, refl, sym, ap, ◌∙◌, arith, le-ltb}
 use Rattle.std.proofs.lemmas.Bool.{ltb-false}
 use Rattle.std.proofs.lemmas.List.{length-append}
 use Rattle.mqtt5_base.specs.declared.error.Error.{Error}
 use Rattle.mqtt5_base.specs.declared.error.Error.TheVariants.{OutgoingPacketTooLarge, PayloadTooLong}
 use Rattle.mqtt5_base.specs.VarInt.{var_int, var_int_in}
-use Rattle.mqtt5_base.specs.Front.{Front, More, Whole, IsFront, Admits}
+use Rattle.mqtt5_base.specs.Front.{Whole, Admits}
 use Rattle.mqtt5_base.specs.FrontAt.{front}
 use Rattle.mqtt5_base.specs.Grammar.{number, passes, fault_of, is_qos, bad_qos, not_zero, zero_id}
 use Rattle.mqtt5_base.specs.Views.{qos_number}
@@ -16,7 +16,6 @@ use Rattle.mqtt5_base.proofs.FramesAgain.{is_written}
 use Rattle.mqtt5_flow.specs.declared.publish.Publish.{Publish}
 use Rattle.mqtt5_flow.specs.Rows.{publish_row}
 use Rattle.mqtt5_flow.specs.Publishes.{publish_packet}
-use Rattle.mqtt5_flow.specs.declared.pubrel.PubRelReason.{PubRelReason}
 use Rattle.mqtt5_flow.specs.declared.pubrel.PubRelReason.TheVariants as releases
 use Rattle.mqtt5_codec.specs.declared.packet.Packet.{Packet}
 use Rattle.mqtt5_codec.specs.declared.packet.Packet.TheVariants as packets

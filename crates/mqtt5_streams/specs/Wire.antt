@@ -1,5 +1,5 @@
 -- The frames of packets, and what the codec says of them (MQTT 5.0 sections 2.1 and 3).
-use Rattle.std.specs.Prelude.{◌≡◌, ℕ, ◌<◌, ◌≤◌, List, [], ◌++◌, length, Option, Some, None, Result, Ok, option_map}
+use Rattle.std.specs.Prelude.{◌≡◌, ℕ, ◌<◌, ◌≤◌, List, [], ◌++◌, length, Option, None, Result, Ok, option_map}
 use Rattle.mqtt5_base.specs.declared.error.Error.{Error}
 use Rattle.mqtt5_base.specs.Front.{IsFront, Admits, More, Whole}
 use Rattle.mqtt5_base.specs.FrontAt.{front}
