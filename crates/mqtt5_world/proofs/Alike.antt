@@ -29,7 +29,7 @@ use Rattle.mqtt5_held.specs.Aliases.{alias_of}
 use Rattle.mqtt5_held.specs.Unacked.{slot_again, held_again, publish_again, release_again, requests_of}
 use Rattle.mqtt5_held.specs.Resent.{packets_of}
 use Rattle.mqtt5_held.proofs.Within.{Fits, within_fits}
-use Rattle.mqtt5_held.proofs.Marked.{slot_twice, get_again, again_twice, again_insert, again_remove, by_id_again}
+use Rattle.mqtt5_held.proofs.Marked.{get_again, again_twice, again_insert, again_remove, by_id_again}
 use Rattle.mqtt5_session.specs.Session.{Core, Session, Answer, fresh}
 use Rattle.mqtt5_session.specs.Requests.{out, gives_id, unless, over_maximum, Verdict, Refuse, Wait, Store, by_alias, by_use, judged, out_acked, out_identified, out_publish, out_release, out_known, out_subscribe, id_for, last_after, ping_fault, counts_ping}
 use Rattle.mqtt5_session.specs.Packets.{inc, heard, hears, notes, told, freed_for, on_puback, on_received, on_pubrec, on_pubcomp, on_pubrel, on_released, on_publish, on_qos, answers, on_connack, is_taken, topic_of, topics_with, ids_with}

@@ -18,7 +18,7 @@ use Rattle.mqtt5_world.specs.World.{World, asked, asks}
 use Rattle.mqtt5_world.specs.Delivery.{is_acked, is_token_up}
 use Rattle.mqtt5_world.proofs.Places.{View, view_of, place, TokenAt, then_turn, set_slot, push_up, publish_token, back_none}
 use Rattle.mqtt5_world.proofs.Tokens.{none_free, stored_token}
-use Rattle.mqtt5_world.proofs.Step.{Inv, Step, change_step, quiet_step, AckedClass, one, passes, is_due, accepted, on_way, way_push, count_push, of_other, of_acked, and_yes}
+use Rattle.mqtt5_world.proofs.Step.{Inv, Step, change_step, quiet_step, AckedClass, one, passes, is_due, on_way, way_push, count_push, of_other, of_acked, and_yes}
 
 -- nothing but the refusals changes
 pub refused_step : (w : World) (rs : List (Publish × StateError)) → Inv w → Step w (record w { refused = rs })

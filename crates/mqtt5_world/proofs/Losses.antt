@@ -30,7 +30,7 @@ use Rattle.mqtt5_session.proofs.Keeps.{Sound, marked_sound}
 use Rattle.mqtt5_world.specs.World.{World, takes, taken_back, resumed, resumes}
 use Rattle.mqtt5_world.specs.Delivery.{is_token_up, Token, Free, PublishUp, PubAckDown, PublishTwiceUp, PubRecDown, PubRelUp, PubCompDown, IsClass}
 use Rattle.mqtt5_world.proofs.Places.{token_here, token_other, front_here, front_none, publish_token}
-use Rattle.mqtt5_world.proofs.Step.{Inv, SlotAllowed, sum_same, sum_less, one, is_sent, is_due, accepted, handed, waiting, stored, due, on_way, way_append, of_acked}
+use Rattle.mqtt5_world.proofs.Step.{Inv, SlotAllowed, sum_same, sum_less, one, is_sent, is_due, waiting, stored, due, on_way, way_append, of_acked}
 use Rattle.mqtt5_world.proofs.Returns.{counted_acked}
 
 -- ---- a list of packets built id by id

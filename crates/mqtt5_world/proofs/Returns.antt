@@ -24,11 +24,11 @@ use Rattle.mqtt5_session.specs.Packets.{inc, hears, freed_for, on_puback, on_rec
 use Rattle.mqtt5_session.specs.Packets as session
 use Rattle.mqtt5_session.proofs.Owed.{choose}
 use Rattle.mqtt5_session.proofs.Keeps.{Sound, inc_sound}
-use Rattle.mqtt5_world.specs.World.{World, heard, takes, returns}
+use Rattle.mqtt5_world.specs.World.{World, heard, returns}
 use Rattle.mqtt5_world.specs.Delivery.{is_acked, is_token_up, is_token_down, Free, PubRelUp}
 use Rattle.mqtt5_world.proofs.Places.{view_of, Place, place, TokenAt, IsTokenOf, then_turn, set_slot, unset_slot, push_up, pop_down, publish_token, more_up}
 use Rattle.mqtt5_world.proofs.Tokens.{ack_down, rec_down, comp_down, comes_down, place_down, stored_token}
-use Rattle.mqtt5_world.proofs.Step.{Inv, Step, change_step, AckedClass, WaitsAllowed, one, is_sent, is_due, passes, waiting, on_way, way_push, of_other, of_acked, and_no}
+use Rattle.mqtt5_world.proofs.Step.{Inv, Step, change_step, AckedClass, WaitsAllowed, one, is_sent, is_due, passes, on_way, way_push, of_other, of_acked, and_no}
 use Rattle.mqtt5_world.proofs.Asks.{refused_step, due_new}
 use Rattle.mqtt5_world.proofs.Arrivals.{used}
 

@@ -1,7 +1,6 @@
 -- Two runs of the same calls, of which one takes up its session between them (MQTT 5.0 section 4.4).
 use Rattle.std.specs.Prelude.{◌≡◌, ℕ, List, [], ◌∷◌, Option, Result, map}
 use Rattle.mqtt5_codec.specs.declared.packet.Packet.{Packet}
-use Rattle.mqtt5_codec.specs.declared.packet.Packet.TheVariants as packets
 use Rattle.mqtt5_held.specs.declared.event.Request.{Request}
 use Rattle.mqtt5_held.specs.declared.event.Request.TheVariants as requests
 use Rattle.mqtt5_held.specs.declared.error.StateError.{StateError}
