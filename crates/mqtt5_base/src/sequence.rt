@@ -1,12 +1,14 @@
 //! A list that contracts see as its items.
 
-ghost use Rattle.std.specs.Prelude.{◌≡◌, ◌==◌, [], ◌∷◌, ◌++◌, length, OnOk, OnErr, IfErr};
+ghost use Rattle.std.specs.Prelude.{◌≡◌, ◌==◌, ◌<◌, ◌^◌, [], ◌∷◌, ◌++◌, length, slice_get, option_copied, OnOk, OnErr, IfErr};
+ghost use Rattle.std.specs.Iterator.Adapters.{IterYieldsInOrder};
+ghost use Rattle.std.specs.Slice.Iter.{iter_rest};
 ghost use Rattle.std.specs.Cmp.Lexicographic.{pointwise, lists_per, lists_equiv};
 
 use crate::exact::Exact;
 use std::alloc::{AllocError, AllocFailed, Global};
-use std::fmt;
 use std::marker::Model;
+use std::{fmt, slice};
 
 /// A list. Contracts see its items.
 #[derive(Drop)]
@@ -39,11 +41,33 @@ impl<T> Sequence<T> {
         self.items.as_slice()
     }
 
+    /// How many items there are.
+    pub fn len(&self) -> usize
+        ensures { result ≡ length self.now }
+    {
+        self.items.len()
+    }
+
     /// Whether there are no items.
     pub fn is_empty(&self) -> bool
         ensures { result ≡ (length self.now == 0) }
     {
         self.items.is_empty()
+    }
+
+    /// The item at a place, the first at 0, or None past the end.
+    pub fn get(&self, index: usize) -> Option<&T>
+        ensures { option_copied result ≡ slice_get self.now index }
+    {
+        self.as_slice().get(index)
+    }
+
+    /// An iterator over the items, in order.
+    pub fn iter(&self) -> slice::Iter<'_, T>
+        ensures items { iter_rest result ≡ self.now }
+        ensures in_order { IterYieldsInOrder T }
+    {
+        self.as_slice().iter()
     }
 
     /// Adds an item at the end. Where memory is refused the list is unchanged, and the item comes back.
@@ -61,6 +85,18 @@ impl<T> Sequence<T> {
     {
         let Sequence { items } = self;
         items
+    }
+}
+
+impl<'a, T> IntoIterator for &'a Sequence<T> {
+    type Item = &'a T;
+
+    type IntoIter = slice::Iter<'a, T>;
+
+    ghost into_iter_gives = { λ s it. (iter_rest it ≡ s.now) × (length (iter_rest it) < 2 ^ 64) × IterYieldsInOrder T };
+
+    fn into_iter(self) -> slice::Iter<'a, T> {
+        self.iter()
     }
 }
 

@@ -71,6 +71,33 @@ fn fields_in_a_row(rt: HostRuntime) -> Result<(), Fail> {
     Ok(())
 }
 
+/// How many bytes the texts of a list have.
+fn bytes_in(texts: &Sequence<Text>) -> usize {
+    let mut sum = 0_usize;
+    for text in texts {
+        sum = sum.saturating_add(text.as_bytes().len());
+    }
+    sum
+}
+
+#[test]
+fn lists_of_texts(rt: HostRuntime) -> Result<(), Fail> {
+    let mut list = Sequence::new(rt.alloc());
+    assert_eq!(rt; list.len(), 0);
+    list.push(Text::from_str(rt.alloc(), "a/b")?)?;
+    list.push(Text::from_str(rt.alloc(), "grün")?)?;
+    assert_eq!(rt; list.len(), 2);
+    assert_eq!(rt; bytes_in(&list), 8);
+    assert!(rt; list.get(0).is_some_and(|text| text.is("a/b")));
+    assert!(rt;
+        list.get(1)
+            .is_some_and(|text| text.is("grün") && !text.is("grun"))
+    );
+    assert!(rt; list.get(2).is_none());
+    assert!(rt; list.iter().any(|text| text.is("grün")));
+    Ok(())
+}
+
 #[test]
 fn texts_and_lists(rt: HostRuntime) -> Result<(), Fail> {
     let text = Text::from(String::from_str(rt.alloc(), "a/b")?);

@@ -1,11 +1,11 @@
 //! Text that contracts see as its bytes.
 
-ghost use Rattle.std.specs.Prelude.{◌≡◌, nat_eq, string_bytes};
+ghost use Rattle.std.specs.Prelude.{◌≡◌, nat_eq, string_bytes, IfOk};
 ghost use Rattle.std.specs.Cmp.Lexicographic.{pointwise, on_texts_equal};
 ghost use Rattle.std.specs.Ordering.{on};
 ghost use Rattle.std.specs.Cmp.{partial_equiv_from_equiv};
 
-use std::alloc::AllocError;
+use std::alloc::{AllocError, Global};
 use std::fmt;
 use std::marker::Model;
 
@@ -29,6 +29,20 @@ impl Model for Text {
 }
 
 impl Text {
+    /// A copy of a text. Err where memory is refused.
+    pub fn from_str(alloc: Global, text: &str) -> Result<Text, AllocError>
+        ensures { IfOk result (λ copy. copy.bytes ≡ text.now) }
+    {
+        Ok(Text::from(String::from_str(alloc, text)?))
+    }
+
+    /// Whether it is this text.
+    pub fn is(&self, text: &str) -> bool
+        ensures { result ≡ pointwise nat_eq self.now.bytes text.now }
+    {
+        self.as_str() == text
+    }
+
     /// The text.
     pub fn as_str(&self) -> &str
         ensures { result.now ≡ self.now.bytes }

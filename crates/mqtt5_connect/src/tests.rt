@@ -2,9 +2,9 @@
 
 use crate::connect::{Connect, ConnectProperties};
 use crate::login::Login;
-use crate::will::LastWill;
+use crate::will::{LastWill, LastWillProperties};
 use bytes::{Bytes, BytesMut};
-use mqtt5_base::{Error, QoS, Text, check, copied, same};
+use mqtt5_base::{Error, PropertySet, QoS, Text, check, copied, same};
 use std::alloc::Global;
 use std::test::Fail;
 
@@ -294,6 +294,19 @@ fn a_will_has_properties(rt: HostRuntime) -> Result<(), Fail> {
         0x07, 0x26, 0x00, 0x01, 0x6B, 0x00, 0x01, 0x76, 0x00, 0x01, 0x77, 0x00, 0x01, 0x6D,
     ];
     assert_eq!(rt; user_properties(rt.alloc(), &bytes), Some(1));
+    Ok(())
+}
+
+#[test]
+fn a_will_with_one_property(rt: HostRuntime) -> Result<(), Fail> {
+    let mut properties = LastWillProperties::new(rt.alloc());
+    properties.delay_interval = Some(5);
+    let mut buffer = BytesMut::new(rt.alloc());
+    properties.write(&mut buffer)?;
+    assert_eq!(rt;
+        buffer.as_slice(),
+        [0x05, 0x18, 0x00, 0x00, 0x00, 0x05].as_slice()
+    );
     Ok(())
 }
 

@@ -1,6 +1,6 @@
 //! What the server publishes for a client that is lost.
 
-ghost use Rattle.std.specs.Prelude.{◌≡◌, ◌/◌, ◌%◌, Some, IfOk, OnErr};
+ghost use Rattle.std.specs.Prelude.{◌≡◌, ◌/◌, ◌%◌, [], Some, None, IfOk, OnErr};
 ghost use Rattle.mqtt5_base.specs.Answers.{Answers, Gives, ReadsPart};
 ghost use Rattle.mqtt5_base.specs.Reading.{kept_at, part_at};
 ghost use Rattle.mqtt5_base.specs.Puts.{Writes};
@@ -52,12 +52,11 @@ impl Clone for LastWillProperties {
     }
 }
 
-impl PropertySet for LastWillProperties {
-    ghost table = { will_table };
-
-    ghost found = { will_found };
-
-    fn empty(alloc: Global) -> LastWillProperties {
+impl LastWillProperties {
+    /// The set without values. Takes no memory.
+    pub fn new(alloc: Global) -> LastWillProperties
+        ensures { result ≡ record { delay_interval = None; payload_format_indicator = None; message_expiry_interval = None; content_type = None; response_topic = None; correlation_data = None; user_properties = [] } }
+    {
         LastWillProperties {
             delay_interval: None,
             payload_format_indicator: None,
@@ -67,6 +66,16 @@ impl PropertySet for LastWillProperties {
             correlation_data: None,
             user_properties: Sequence::new(alloc),
         }
+    }
+}
+
+impl PropertySet for LastWillProperties {
+    ghost table = { will_table };
+
+    ghost found = { will_found };
+
+    fn empty(alloc: Global) -> LastWillProperties {
+        LastWillProperties::new(alloc)
     }
 
     fn may_have(id: u8) -> bool {

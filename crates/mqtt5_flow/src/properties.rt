@@ -1,5 +1,6 @@
 //! The properties of an ack, which are the same for every packet that acknowledges another.
 
+ghost use Rattle.std.specs.Prelude.{◌≡◌, [], None};
 ghost use Rattle.mqtt5_flow.specs.Rows.{ack_table};
 ghost use Rattle.mqtt5_flow.specs.Acks.{ack_found};
 
@@ -17,16 +18,25 @@ pub struct AckProperties {
     pub user_properties: Sequence<(Text, Text)>,
 }
 
+impl AckProperties {
+    /// The set without values. Takes no memory.
+    pub fn new(alloc: Global) -> AckProperties
+        ensures { result ≡ record { reason_string = None; user_properties = [] } }
+    {
+        AckProperties {
+            reason_string: None,
+            user_properties: Sequence::new(alloc),
+        }
+    }
+}
+
 impl PropertySet for AckProperties {
     ghost table = { ack_table };
 
     ghost found = { ack_found };
 
     fn empty(alloc: Global) -> AckProperties {
-        AckProperties {
-            reason_string: None,
-            user_properties: Sequence::new(alloc),
-        }
+        AckProperties::new(alloc)
     }
 
     fn may_have(id: u8) -> bool {

@@ -1,6 +1,6 @@
 //! A message.
 
-ghost use Rattle.std.specs.Prelude.{◌≡◌, ◌+◌, ◌≤◌, ◌/◌, ◌%◌, ◌<◌, nat_lt, true, false, IfOk, IfErr, drop, length, min, option_map};
+ghost use Rattle.std.specs.Prelude.{◌≡◌, ◌+◌, ◌≤◌, ◌/◌, ◌%◌, ◌<◌, [], None, nat_lt, true, false, IfOk, IfErr, drop, length, min, option_map};
 ghost use Rattle.mqtt5_base.specs.Grammar.{u16, not_zero, zero_id, checked, plain, number, content, bytes};
 ghost use Rattle.mqtt5_base.specs.Answers.{Finds, Gives, ReadsRow};
 ghost use Rattle.mqtt5_base.specs.Reading.{optional_at, values_in};
@@ -56,12 +56,11 @@ impl Clone for PublishProperties {
     }
 }
 
-impl PropertySet for PublishProperties {
-    ghost table = { publish_table };
-
-    ghost found = { publish_found };
-
-    fn empty(alloc: Global) -> PublishProperties {
+impl PublishProperties {
+    /// The set without values. Takes no memory.
+    pub fn new(alloc: Global) -> PublishProperties
+        ensures { result ≡ record { payload_format_indicator = None; message_expiry_interval = None; topic_alias = None; response_topic = None; correlation_data = None; user_properties = []; subscription_identifiers = []; content_type = None } }
+    {
         PublishProperties {
             payload_format_indicator: None,
             message_expiry_interval: None,
@@ -72,6 +71,16 @@ impl PropertySet for PublishProperties {
             subscription_identifiers: Sequence::new(alloc),
             content_type: None,
         }
+    }
+}
+
+impl PropertySet for PublishProperties {
+    ghost table = { publish_table };
+
+    ghost found = { publish_found };
+
+    fn empty(alloc: Global) -> PublishProperties {
+        PublishProperties::new(alloc)
     }
 
     fn may_have(id: u8) -> bool {

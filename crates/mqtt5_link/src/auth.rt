@@ -1,6 +1,6 @@
 //! The exchange of authentication data.
 
-ghost use Rattle.std.specs.Prelude.{◌≡◌, ◌+◌, ◌≤◌, true, Some, None, drop, length, min, nat_lt, option_map};
+ghost use Rattle.std.specs.Prelude.{◌≡◌, ◌+◌, ◌≤◌, [], true, Some, None, drop, length, min, nat_lt, option_map};
 ghost use Rattle.mqtt5_base.specs.Grammar.{u8, number, plain, checked, malformed};
 ghost use Rattle.mqtt5_base.specs.Answers.{Finds, Gives, ReadsRow};
 ghost use Rattle.mqtt5_base.specs.Reading.{judged, optional_at, values_in};
@@ -51,18 +51,27 @@ pub struct AuthProperties {
     pub user_properties: Sequence<(Text, Text)>,
 }
 
-impl PropertySet for AuthProperties {
-    ghost table = { auth_table };
-
-    ghost found = { auth_found };
-
-    fn empty(alloc: Global) -> AuthProperties {
+impl AuthProperties {
+    /// The set without values. Takes no memory.
+    pub fn new(alloc: Global) -> AuthProperties
+        ensures { result ≡ record { method = None; auth_data = None; reason = None; user_properties = [] } }
+    {
         AuthProperties {
             method: None,
             auth_data: None,
             reason: None,
             user_properties: Sequence::new(alloc),
         }
+    }
+}
+
+impl PropertySet for AuthProperties {
+    ghost table = { auth_table };
+
+    ghost found = { auth_found };
+
+    fn empty(alloc: Global) -> AuthProperties {
+        AuthProperties::new(alloc)
     }
 
     fn may_have(id: u8) -> bool {

@@ -1,6 +1,6 @@
 //! The answer to a connect.
 
-ghost use Rattle.std.specs.Prelude.{◌≡◌, ◌+◌, ◌≤◌, true, Some, None, drop, length, min, option_map};
+ghost use Rattle.std.specs.Prelude.{◌≡◌, ◌+◌, ◌≤◌, [], true, Some, None, drop, length, min, option_map};
 ghost use Rattle.mqtt5_base.specs.Grammar.{number, bad_reason};
 ghost use Rattle.mqtt5_base.specs.Answers.{Finds, Gives, ReadsRow};
 ghost use Rattle.mqtt5_base.specs.Reading.{judged, values_in};
@@ -169,25 +169,7 @@ impl PropertySet for ConnAckProperties {
     ghost found = { connack_found };
 
     fn empty(alloc: Global) -> ConnAckProperties {
-        ConnAckProperties {
-            session_expiry_interval: None,
-            receive_max: None,
-            max_qos: None,
-            retain_available: None,
-            max_packet_size: None,
-            assigned_client_identifier: None,
-            topic_alias_max: None,
-            reason_string: None,
-            user_properties: Sequence::new(alloc),
-            wildcard_subscription_available: None,
-            subscription_identifiers_available: None,
-            shared_subscription_available: None,
-            server_keep_alive: None,
-            response_information: None,
-            server_reference: None,
-            authentication_method: None,
-            authentication_data: None,
-        }
+        ConnAckProperties::new(alloc)
     }
 
     fn may_have(id: u8) -> bool {
@@ -252,6 +234,31 @@ impl PropertySet for ConnAckProperties {
 
 /// The same by thirds of the properties.
 impl ConnAckProperties {
+    /// The set without values. Takes no memory.
+    pub fn new(alloc: Global) -> ConnAckProperties
+        ensures { result ≡ record { session_expiry_interval = None; receive_max = None; max_qos = None; retain_available = None; max_packet_size = None; assigned_client_identifier = None; topic_alias_max = None; reason_string = None; user_properties = []; wildcard_subscription_available = None; subscription_identifiers_available = None; shared_subscription_available = None; server_keep_alive = None; response_information = None; server_reference = None; authentication_method = None; authentication_data = None } }
+    {
+        ConnAckProperties {
+            session_expiry_interval: None,
+            receive_max: None,
+            max_qos: None,
+            retain_available: None,
+            max_packet_size: None,
+            assigned_client_identifier: None,
+            topic_alias_max: None,
+            reason_string: None,
+            user_properties: Sequence::new(alloc),
+            wildcard_subscription_available: None,
+            subscription_identifiers_available: None,
+            shared_subscription_available: None,
+            server_keep_alive: None,
+            response_information: None,
+            server_reference: None,
+            authentication_method: None,
+            authentication_data: None,
+        }
+    }
+
     fn first_fit(&self) -> bool
         ensures { result ≡ items_fit connack_first_table (connack_first self.now) }
     {

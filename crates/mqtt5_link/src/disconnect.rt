@@ -1,6 +1,6 @@
 //! The end of a connection.
 
-ghost use Rattle.std.specs.Prelude.{◌≡◌, ◌+◌, ◌/◌, ◌%◌, ◌≤◌, true, Some, None, OnErr, drop, length, min, nat_lt, option_map};
+ghost use Rattle.std.specs.Prelude.{◌≡◌, ◌+◌, ◌/◌, ◌%◌, ◌≤◌, [], true, Some, None, OnErr, drop, length, min, nat_lt, option_map};
 ghost use Rattle.mqtt5_base.specs.Grammar.{u8, number, plain, properties, checked, block, is, bad_reason, bad_type, malformed};
 ghost use Rattle.mqtt5_base.specs.Answers.{Finds, Gives, ReadsRow};
 ghost use Rattle.mqtt5_base.specs.Reading.{judged, optional_at, block_at, values_in};
@@ -122,12 +122,7 @@ impl PropertySet for DisconnectProperties {
     ghost found = { disconnect_found };
 
     fn empty(alloc: Global) -> DisconnectProperties {
-        DisconnectProperties {
-            session_expiry_interval: None,
-            reason_string: None,
-            user_properties: Sequence::new(alloc),
-            server_reference: None,
-        }
+        DisconnectProperties::new(alloc)
     }
 
     fn may_have(id: u8) -> bool {
@@ -176,6 +171,18 @@ impl PropertySet for DisconnectProperties {
 }
 
 impl DisconnectProperties {
+    /// The set without values. Takes no memory.
+    pub fn new(alloc: Global) -> DisconnectProperties
+        ensures { result ≡ record { session_expiry_interval = None; reason_string = None; user_properties = []; server_reference = None } }
+    {
+        DisconnectProperties {
+            session_expiry_interval: None,
+            reason_string: None,
+            user_properties: Sequence::new(alloc),
+            server_reference: None,
+        }
+    }
+
     /// The block at the front of the bytes; none where it is empty. E14 to E18 of a block that can't
     /// be read; E21. After a refusal the bytes are unchanged.
     pub fn extract(alloc: Global, bytes: &mut Bytes) -> Result<Option<DisconnectProperties>, Error>

@@ -6,7 +6,7 @@ use crate::auth::{Auth, AuthProperties, AuthReasonCode};
 use crate::connack::{ConnAck, ConnAckProperties, ConnectReturnCode};
 use crate::disconnect::{Disconnect, DisconnectProperties, DisconnectReasonCode};
 use bytes::{Bytes, BytesMut};
-use mqtt5_base::{Error, FixedHeader, PropertySet, Sequence, Text, check, copied, same};
+use mqtt5_base::{Error, FixedHeader, Sequence, Text, check, copied, same};
 use std::alloc::Global;
 use std::test::Fail;
 
@@ -104,7 +104,7 @@ fn full_disconnect(alloc: Global) -> Result<Disconnect, Error> {
 fn empty_disconnect(alloc: Global, reason_code: DisconnectReasonCode) -> Disconnect {
     Disconnect {
         reason_code,
-        properties: Some(DisconnectProperties::empty(alloc)),
+        properties: Some(DisconnectProperties::new(alloc)),
     }
 }
 
@@ -259,7 +259,7 @@ fn auth_fault(alloc: Global, frame: &[u8]) -> Option<Error> {
 }
 
 fn auth_by_method(alloc: Global) -> Result<Auth, Error> {
-    let mut properties = AuthProperties::empty(alloc);
+    let mut properties = AuthProperties::new(alloc);
     properties.method = Some(text(alloc, "abc")?);
     Ok(Auth::new(AuthReasonCode::Success, Some(properties)))
 }
@@ -312,7 +312,7 @@ fn connack(session_present: bool, code: ConnectReturnCode) -> ConnAck {
 }
 
 fn connack_by_receive_max(alloc: Global) -> ConnAck {
-    let mut properties = ConnAckProperties::empty(alloc);
+    let mut properties = ConnAckProperties::new(alloc);
     properties.receive_max = Some(2);
     ConnAck {
         session_present: false,
@@ -366,7 +366,7 @@ fn codes_that_are_not_written(rt: HostRuntime) -> Result<(), Fail> {
 // ---- blocks with two bytes of length
 
 fn disconnect_lens(alloc: Global) -> Result<[usize; 3], Error> {
-    let mut properties = DisconnectProperties::empty(alloc);
+    let mut properties = DisconnectProperties::new(alloc);
     properties.user_properties = long_pair(alloc)?;
     let mut packet = Disconnect::new(DisconnectReasonCode::NormalDisconnection);
     packet.properties = Some(properties);
@@ -376,7 +376,7 @@ fn disconnect_lens(alloc: Global) -> Result<[usize; 3], Error> {
 }
 
 fn auth_lens(alloc: Global) -> Result<[usize; 3], Error> {
-    let mut properties = AuthProperties::empty(alloc);
+    let mut properties = AuthProperties::new(alloc);
     properties.user_properties = long_pair(alloc)?;
     let packet = Auth::new(AuthReasonCode::Continue, Some(properties));
     let mut buffer = BytesMut::new(alloc);
@@ -385,7 +385,7 @@ fn auth_lens(alloc: Global) -> Result<[usize; 3], Error> {
 }
 
 fn connack_lens(alloc: Global) -> Result<[usize; 3], Error> {
-    let mut properties = ConnAckProperties::empty(alloc);
+    let mut properties = ConnAckProperties::new(alloc);
     properties.user_properties = long_pair(alloc)?;
     let packet = ConnAck {
         session_present: false,

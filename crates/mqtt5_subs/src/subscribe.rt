@@ -1,6 +1,6 @@
 //! A request for subscriptions.
 
-ghost use Rattle.std.specs.Prelude.{◌≡◌, ◌+◌, [], ◌∷◌, List, drop, length, min, IfOk, IfErr};
+ghost use Rattle.std.specs.Prelude.{◌≡◌, ◌+◌, [], None, ◌∷◌, List, drop, length, min, IfOk, IfErr};
 ghost use Rattle.std.specs.Iterator.{Drains, IsFinite};
 ghost use Rattle.mqtt5_base.specs.Answers.{Gives, ReadsRow};
 ghost use Rattle.mqtt5_base.specs.Reading.{values_in};
@@ -27,16 +27,25 @@ pub struct SubscribeProperties {
     pub user_properties: Sequence<(Text, Text)>,
 }
 
+impl SubscribeProperties {
+    /// The set without values. Takes no memory.
+    pub fn new(alloc: Global) -> SubscribeProperties
+        ensures { result ≡ record { id = None; user_properties = [] } }
+    {
+        SubscribeProperties {
+            id: None,
+            user_properties: Sequence::new(alloc),
+        }
+    }
+}
+
 impl PropertySet for SubscribeProperties {
     ghost table = { subscribe_table };
 
     ghost found = { subscribe_found };
 
     fn empty(alloc: Global) -> SubscribeProperties {
-        SubscribeProperties {
-            id: None,
-            user_properties: Sequence::new(alloc),
-        }
+        SubscribeProperties::new(alloc)
     }
 
     fn may_have(id: u8) -> bool {

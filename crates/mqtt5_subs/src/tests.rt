@@ -9,7 +9,9 @@ use crate::subscribe::{Subscribe, SubscribeProperties};
 use crate::unsuback::{UnsubAck, UnsubAckProperties, UnsubAckReason};
 use crate::unsubscribe::{Unsubscribe, UnsubscribeProperties};
 use bytes::{Bytes, BytesMut};
-use mqtt5_base::{Error, Exact, FixedHeader, QoS, Sequence, Text, check, copied, same};
+use mqtt5_base::{
+    Error, Exact, FixedHeader, PropertySet, QoS, Sequence, Text, check, copied, same,
+};
 use mqtt5_flow::{PingReq, PingResp, PubAckReason, PubRelReason};
 use std::alloc::Global;
 use std::test::Fail;
@@ -458,6 +460,47 @@ fn filters(rt: HostRuntime) -> Result<(), Fail> {
     assert_eq!(rt; count_many(rt.alloc(), Vec::new(rt.alloc()))?, 0);
     assert_eq!(rt; count_read(rt.alloc(), TWO)?, Some(2));
     assert_eq!(rt; count_read(rt.alloc(), &[])?, Some(0));
+    Ok(())
+}
+
+/// The bytes of a set.
+fn written<P: PropertySet>(alloc: Global, properties: &P) -> Result<BytesMut, Error> {
+    let mut buffer = BytesMut::new(alloc);
+    properties.write(&mut buffer)?;
+    Ok(buffer)
+}
+
+/// The first user property of this name.
+fn user_property<'a>(list: &'a Sequence<(Text, Text)>, name: &str) -> Option<&'a Text> {
+    for (key, value) in list {
+        if key.is(name) {
+            return Some(value);
+        }
+    }
+    None
+}
+
+#[test]
+fn sets_with_one_property(rt: HostRuntime) -> Result<(), Fail> {
+    let alloc = rt.alloc();
+    let mut subscribe = SubscribeProperties::new(alloc);
+    subscribe.id = Some(5);
+    assert_eq!(rt;
+        written(alloc, &subscribe)?.as_slice(),
+        [0x02, 0x0B, 0x05].as_slice()
+    );
+    let mut unsubscribe = UnsubscribeProperties::new(alloc);
+    let pair = (Text::from_str(alloc, "a")?, Text::from_str(alloc, "b")?);
+    unsubscribe.user_properties.push(pair)?;
+    let found = user_property(&unsubscribe.user_properties, "a");
+    assert!(rt; found.is_some_and(|value| value.is("b")));
+    assert!(rt; user_property(&unsubscribe.user_properties, "b").is_none());
+    let user = [0x07, 0x26, 0x00, 0x01, 0x61, 0x00, 0x01, 0x62];
+    assert_eq!(rt; written(alloc, &unsubscribe)?.as_slice(), user.as_slice());
+    let mut suback = SubAckProperties::new(alloc);
+    suback.reason_string = Some(Text::from_str(alloc, "no")?);
+    let reason = [0x05, 0x1F, 0x00, 0x02, 0x6E, 0x6F];
+    assert_eq!(rt; written(alloc, &suback)?.as_slice(), reason.as_slice());
     Ok(())
 }
 

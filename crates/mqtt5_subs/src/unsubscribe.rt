@@ -26,15 +26,24 @@ pub struct UnsubscribeProperties {
     pub user_properties: Sequence<(Text, Text)>,
 }
 
+impl UnsubscribeProperties {
+    /// The set without values. Takes no memory.
+    pub fn new(alloc: Global) -> UnsubscribeProperties
+        ensures { result ≡ record { user_properties = [] } }
+    {
+        UnsubscribeProperties {
+            user_properties: Sequence::new(alloc),
+        }
+    }
+}
+
 impl PropertySet for UnsubscribeProperties {
     ghost table = { unsubscribe_table };
 
     ghost found = { unsubscribe_found };
 
     fn empty(alloc: Global) -> UnsubscribeProperties {
-        UnsubscribeProperties {
-            user_properties: Sequence::new(alloc),
-        }
+        UnsubscribeProperties::new(alloc)
     }
 
     fn may_have(id: u8) -> bool {

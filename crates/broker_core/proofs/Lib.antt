@@ -1,0 +1,3 @@
+pub mod Sendings
+pub mod Routable
+pub mod Received
