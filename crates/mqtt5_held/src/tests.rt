@@ -5,14 +5,14 @@ use crate::ids::Ids;
 use crate::slot::Slot;
 use crate::slots::Slots;
 use bytes::Bytes;
-use mqtt5_base::{Error, PropertySet, QoS};
+use mqtt5_base::{Error, QoS};
 use mqtt5_flow::{Publish, PublishProperties};
 use std::alloc::Global;
 use std::test::Fail;
 
 /// A publish of "x" to "a" at QoS 1 with the topic alias 7.
 fn publish(alloc: Global) -> Result<Publish, Error> {
-    let mut properties = PublishProperties::empty(alloc);
+    let mut properties = PublishProperties::new(alloc);
     properties.topic_alias = Some(7);
     let payload = Bytes::from_static(b"x");
     Publish::new(alloc, "a", QoS::AtLeastOnce, payload, Some(properties))

@@ -1,7 +1,7 @@
 //! The vectors: frames with the packets that are read from them and written as them, and frames that are refused.
 
 use bytes::{Bytes, BytesMut};
-use mqtt5_base::{Error, PropertySet, QoS, Sequence, Text, same};
+use mqtt5_base::{Error, QoS, Sequence, Text, same};
 use mqtt5_codec::Packet;
 use mqtt5_connect::{Connect, LastWill, Login};
 use mqtt5_flow::{PingReq, PingResp, PubAck, PubComp, PubCompReason, Publish, PublishProperties};
@@ -275,7 +275,7 @@ fn bare_publish(topic: &'static [u8], properties: Option<PublishProperties>) -> 
 }
 
 fn indicated_publish(alloc: Global) -> Publish {
-    let mut properties = PublishProperties::empty(alloc);
+    let mut properties = PublishProperties::new(alloc);
     properties.payload_format_indicator = Some(1);
     bare_publish(b"a", Some(properties))
 }

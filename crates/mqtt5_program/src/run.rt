@@ -7,8 +7,8 @@ use crate::bench::{FRAMES, try_vectors};
 use crate::contents::write_contents;
 use crate::outcome::run_steps;
 use crate::report::{write_fault, write_outcome};
-use crate::script::{ScriptError, parse_number, read_script};
-use mqtt5::{ByteEvent, StateError, Step, WorldEvent, play, play_bytes};
+use crate::script::{ScriptError, WorldScript, parse_number, read_script};
+use mqtt5::{ByteEvent, StateError, Step, play, play_bytes, play_out};
 use std::alloc::Global;
 use std::io;
 use std::io::{ErrorKind, Read, Write};
@@ -100,7 +100,7 @@ fn run_drive<R: Read, W: Write>(
     input: &mut R,
     output: &mut W,
 ) -> io::Result<Status> {
-    match read_script(alloc, input) {
+    match read_script::<Vec<Step>, R>(alloc, input) {
         Ok(steps) => run_all(alloc, limit, steps.as_slice(), output),
         Err(error) => write_refusal(output, &error),
     }
@@ -132,7 +132,7 @@ fn run_world<R: Read, W: Write>(
     output: &mut W,
 ) -> io::Result<Status> {
     match read_script(alloc, input) {
-        Ok(events) => play_all(alloc, limit, events.as_slice(), output),
+        Ok(script) => play_all(alloc, limit, &script, output),
         Err(error) => write_refusal(output, &error),
     }
 }
@@ -140,10 +140,16 @@ fn run_world<R: Read, W: Write>(
 fn play_all<W: Write>(
     alloc: Global,
     limit: NonZeroU16,
-    events: &[WorldEvent],
+    script: &WorldScript,
     output: &mut W,
 ) -> io::Result<Status> {
-    match play(alloc, limit.get(), events) {
+    let events = script.events.as_slice();
+    let played = if script.settles {
+        play_out(alloc, limit.get(), events)
+    } else {
+        play(alloc, limit.get(), events)
+    };
+    match played {
         Ok(report) => write_contents(output, events, &report).map(|()| Status::Done),
         Err(fault) => write_ending(output, &fault),
     }
@@ -155,7 +161,7 @@ fn run_bytes<R: Read, W: Write>(
     input: &mut R,
     output: &mut W,
 ) -> io::Result<Status> {
-    match read_script(alloc, input) {
+    match read_script::<Vec<ByteEvent>, R>(alloc, input) {
         Ok(events) => play_all_bytes(alloc, limit, events.as_slice(), output),
         Err(error) => write_refusal(output, &error),
     }

@@ -4,7 +4,6 @@ ghost use Rattle.std.specs.Prelude.{◌≡◌, ◌↔◌, Some, codes};
 ghost use Rattle.hex.specs.declared.error.FromHexError.TheVariants as hex_errors;
 ghost use Rattle.mqtt5_base.specs.declared.error.Error.TheVariants as base_errors;
 ghost use Rattle.mqtt5_held.specs.declared.event.Request.TheVariants as requests;
-ghost use Rattle.mqtt5_program.specs.declared.script.ScriptError.TheVariants as script_errors;
 ghost use Rattle.mqtt5_program.specs.declared.script.LineError.TheVariants as line_errors;
 
 use bytes::Bytes;
@@ -13,7 +12,7 @@ use mqtt5::{ByteEvent, Input, Request, Step, WorldEvent};
 use mqtt5_base::{Error, QoS, qos};
 use mqtt5_flow::{PubAck, PubRec, PubRel, Publish};
 use mqtt5_subs::{Filter, Subscribe, Unsubscribe};
-use std::alloc::{AllocError, AllocFailed, Global};
+use std::alloc::{AllocFailed, Global};
 use std::io::{ErrorKind, Read};
 
 /// How many bytes a script may have.
@@ -32,14 +31,6 @@ pub enum ScriptError {
     OutOfMemory,
 }
 
-impl<T: Drop> From<AllocFailed<T>> for ScriptError {
-    ghost from_gives = { λ _ e. e ≡ script_errors.OutOfMemory };
-
-    fn from(_refused: AllocFailed<T>) -> ScriptError {
-        ScriptError::OutOfMemory
-    }
-}
-
 /// Why a line says nothing.
 #[derive(Clone, Copy, Debug, PartialEq, Eq)]
 pub enum LineError {
@@ -53,6 +44,14 @@ impl LineError {
             LineError::Bad => ScriptError::Bad(number),
             LineError::OutOfMemory => ScriptError::OutOfMemory,
         }
+    }
+}
+
+impl<T: Drop> From<AllocFailed<T>> for LineError {
+    ghost from_gives = { λ _ e. e ≡ line_errors.OutOfMemory };
+
+    fn from(_refused: AllocFailed<T>) -> LineError {
+        LineError::OutOfMemory
     }
 }
 
@@ -84,8 +83,58 @@ pub trait Line: Drop {
     fn parse(alloc: Global, line: &str) -> Result<Self, LineError>;
 }
 
+/// The lines of a script.
+pub trait Script: Drop {
+    /// A script without a line.
+    fn new(alloc: Global) -> Self;
+
+    /// Takes a line apart, which isn't empty, and adds it.
+    fn add(&mut self, alloc: Global, line: &str) -> Result<(), LineError>;
+}
+
+/// A list of lines.
+impl<L: Line> Script for Vec<L> {
+    fn new(alloc: Global) -> Vec<L> {
+        Vec::new(alloc)
+    }
+
+    fn add(&mut self, alloc: Global, line: &str) -> Result<(), LineError> {
+        let line = L::parse(alloc, line)?;
+        self.push(line)?;
+        Ok(())
+    }
+}
+
+/// What happens in a world, and whether it is then played to its end.
+#[derive(Debug, Drop)]
+pub struct WorldScript {
+    pub events: Vec<WorldEvent>,
+    pub settles: bool,
+}
+
+impl Script for WorldScript {
+    fn new(alloc: Global) -> WorldScript {
+        WorldScript {
+            events: Vec::new(alloc),
+            settles: false,
+        }
+    }
+
+    /// An event, or `settle`, after which no line says anything.
+    fn add(&mut self, alloc: Global, line: &str) -> Result<(), LineError> {
+        match line {
+            _ if self.settles => Err(LineError::Bad),
+            "settle" => {
+                self.settles = true;
+                Ok(())
+            }
+            event => self.events.add(alloc, event),
+        }
+    }
+}
+
 /// Reads a script and takes its lines apart; empty lines count, and say nothing.
-pub fn read_script<L: Line, R: Read>(alloc: Global, input: &mut R) -> Result<Vec<L>, ScriptError> {
+pub fn read_script<S: Script, R: Read>(alloc: Global, input: &mut R) -> Result<S, ScriptError> {
     let bytes = read_bytes(alloc, input)?;
     match str::from_utf8(bytes.as_slice()) {
         Ok(text) => parse_script(alloc, text),
@@ -103,16 +152,16 @@ fn read_bytes<R: Read>(alloc: Global, input: &mut R) -> Result<Vec<u8>, ScriptEr
     }
 }
 
-fn parse_script<L: Line>(alloc: Global, text: &str) -> Result<Vec<L>, ScriptError> {
-    let mut lines = Vec::new(alloc);
+fn parse_script<S: Script>(alloc: Global, text: &str) -> Result<S, ScriptError> {
+    let mut script = S::new(alloc);
     let mut number = 0usize;
     for line in text.split('\n') {
         number = number.saturating_add(1);
         if !line.is_empty() {
-            lines.push(L::parse(alloc, line).map_err(|error| error.at(number))?)?;
+            script.add(alloc, line).map_err(|error| error.at(number))?;
         }
     }
-    Ok(lines)
+    Ok(script)
 }
 
 impl Line for Step {

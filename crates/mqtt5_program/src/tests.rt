@@ -203,7 +203,7 @@ const SCRIPTS_OF_FEW: &[(&str, &str, &str, u8)] = &[
 ];
 
 /// The words, a script, and what they print of it; the status is 0.
-const WORLDS: [(&str, &str, &str); 9] = [
+const WORLDS: [(&str, &str, &str); 11] = [
     (
         "world 2",
         "pub 0 61 78\nloss\npub 1 62 79\nup\nloss 1\nup\ndown\n",
@@ -230,6 +230,16 @@ const WORLDS: [(&str, &str, &str); 9] = [
         "content 2 61 78 accepted 1 handed 1 stored 0 waiting 0\ncontent 1 61 78 accepted 1 handed 1 stored 1 waiting 0\nrefused 0\ninflight 2\n",
     ),
     ("world 00001", "", "refused 0\ninflight 0\n"),
+    (
+        "world 1",
+        "pub 2 61 78\npub 2 62 78\nsettle\n\n",
+        "content 2 61 78 accepted 1 handed 1 stored 0 waiting 0\ncontent 2 62 78 accepted 1 handed 1 stored 0 waiting 0\nrefused 0\ninflight 0\n",
+    ),
+    (
+        "world 2",
+        "pub 0 61 78\npub 1 62 78\nup\nup\nloss\nsettle",
+        "content 0 61 78 accepted 1 handed 1 stored 0 waiting 0\ncontent 1 62 78 accepted 1 handed 2 stored 0 waiting 0\nrefused 0\ninflight 0\n",
+    ),
     (
         "bytes 1",
         "pub 2 61 78\nup 8\nloss\nup 8\n",
@@ -262,6 +272,9 @@ const BAD_EVENTS: &[(&str, &str)] = &[
     ("world 10", "pub"),
     ("world 10", "bye 1"),
     ("world 10", "Up"),
+    ("world 10", "settle 1"),
+    ("world 10", "settle "),
+    ("bytes 10", "settle"),
     ("bytes 10", "up"),
     ("bytes 10", "down "),
     ("bytes 10", "up 1000001"),
@@ -269,6 +282,12 @@ const BAD_EVENTS: &[(&str, &str)] = &[
     ("bytes 10", "loss 65536"),
     ("bytes 10", "pub 3 61 78"),
     ("bytes 10", "bye"),
+];
+
+/// What is printed of a world's script that goes on after it is settled.
+const AFTER_SETTLE: [(&str, &str); 2] = [
+    ("settle\nup", "line 2: bad\n"),
+    ("up\nsettle\n\nsettle\n", "line 4: bad\n"),
 ];
 
 /// Lines that say nothing.
@@ -440,6 +459,17 @@ fn bad_events(rt: HostRuntime) -> Result<(), Fail> {
         let (text, status) = printed(rt.alloc(), words, &mut input)?;
         assert_eq!(rt; text.as_str(), "line 1: bad\n", "of {line:?}");
         assert_eq!(rt; status, 2, "of {line:?}");
+    }
+    Ok(())
+}
+
+#[test]
+fn after_settle(rt: HostRuntime) -> Result<(), Fail> {
+    for (script, lines) in AFTER_SETTLE {
+        let mut input = script.as_bytes();
+        let (text, status) = printed(rt.alloc(), "world 10", &mut input)?;
+        assert_eq!(rt; text.as_str(), lines, "of {script:?}");
+        assert_eq!(rt; status, 2, "of {script:?}");
     }
     Ok(())
 }

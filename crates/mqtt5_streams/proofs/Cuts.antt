@@ -101,10 +101,10 @@ is_first limit p more bytes later frame rest sound e is =
     let same = one_frame frame (frame_of p) (rest ++ later) more here.0 its.0 here.1 its.1 here.2 its.2 all in
     (same, append_cancel_left frame (rest ++ later) more (all ∙ ap (λ z. z ++ more) (sym same)))
 
-not_bad : (n : ℕ) (e : Error) → More n ≡ Bad e → ⊥
+pub not_bad : (n : ℕ) (e : Error) → More n ≡ Bad e → ⊥
 not_bad n e h = cc
 
-not_whole : (n : ℕ) (frame rest : List ℕ) → More n ≡ Whole frame rest → ⊥
+pub not_whole : (n : ℕ) (frame rest : List ℕ) → More n ≡ Whole frame rest → ⊥
 not_whole n frame rest h = cc
 
 whole_not_bad : (e : Error) (frame rest : List ℕ) → Whole frame rest ≡ Bad e → ⊥

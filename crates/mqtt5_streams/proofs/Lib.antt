@@ -4,4 +4,5 @@ pub mod Closed
 pub mod Steps
 pub mod Runs
 pub mod Answered
+pub mod Arrived
 pub mod Played

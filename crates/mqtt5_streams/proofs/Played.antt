@@ -1,5 +1,5 @@
 -- What the parts of a run do is what its definitions say.
-use Rattle.std.proofs.Common.{◌≡◌, ◌≢◌, ℕ, suc, ◌+◌, ◌*◌, ◌<◌, ◌≤◌, List, Some, None, Ok, Err, ◌⊎◌, inl, inr, sym, ap, ◌∙◌, subst, arith}
+use Rattle.std.proofs.Common.{◌≡◌, ◌≢◌, ℕ, ◌+◌, ◌*◌, ◌<◌, ◌≤◌, List, Some, None, Ok, Err, ◌⊎◌, inl, inr, sym, ap, ◌∙◌, subst, arith}
 use Rattle.mqtt5_base.specs.declared.error.Error.{Error}
 use Rattle.mqtt5_base.specs.declared.quality.QoS.TheVariants.{AtMostOnce, AtLeastOnce, ExactlyOnce}
 use Rattle.mqtt5_flow.specs.declared.publish.Publish.{Publish}
@@ -10,17 +10,22 @@ use Rattle.mqtt5_codec.proofs.CodecLemmas.{taken_packet, taken_fault}
 use Rattle.mqtt5_held.specs.declared.error.StateError.{StateError}
 use Rattle.mqtt5_held.specs.declared.error.StateError.TheVariants as errors
 use Rattle.mqtt5_held.specs.Errors.{state_error}
+use Rattle.mqtt5_session.specs.Session.{Session}
 use Rattle.mqtt5_world.specs.declared.event.Report.{Report}
 use Rattle.mqtt5_world.specs.Delivery.{times, stored_in, waiting_in}
+use Rattle.mqtt5_progress.specs.Progress.{IsIdle}
 use Rattle.mqtt5_streams.specs.declared.event.ByteEvent.{ByteEvent}
 use Rattle.mqtt5_streams.specs.Buffers.{frames}
 use Rattle.mqtt5_streams.specs.ByteWorld.{Way, ByteWorld, Outcome, and_then, arrived, go_up, drain_up, returned, come_down, drain_down, run_bytes, start_bytes, byte_losses}
 use Rattle.mqtt5_streams.specs.Reduction.{Every, IsTypedEvent, norms, AdmitsAcks, AllWritable, all_taken_on}
 use Rattle.mqtt5_streams.specs.Counts.{Counts}
+use Rattle.mqtt5_streams.specs.Arrival.{AllArrived}
 use Rattle.mqtt5_streams.specs.Does.{Does, IsReport}
 use Rattle.mqtt5_streams.proofs.Cuts.{frames_whole, frames_more, frames_bad}
+use Rattle.mqtt5_streams.proofs.Steps.{ok_one}
 use Rattle.mqtt5_streams.proofs.Runs.{counts}
 use Rattle.mqtt5_streams.proofs.Answered.{answers}
+use Rattle.mqtt5_streams.proofs.Arrived.{settled, all_once, all_least}
 
 -- ---- the loops over frames
 
@@ -116,6 +121,19 @@ module _ (codec : Codec) (limit : ℕ) (small : limit < 65536) (es : List ByteEv
         let most = report_most (λ f. let g : ExactlyOnce ≡ AtLeastOnce = sym e ∙ f in absurd cc) in
         let least = report_least (λ f. let g : ExactlyOnce ≡ AtMostOnce = sym e ∙ f in absurd cc) in
         omega (arith, most, least, none_stored, none_waiting)
+
+  module _ (r : Report) (is : IsReportOf codec limit es r) (w : ByteWorld) (a : AllArrived codec limit es w) where
+    of_it : IsReport r w
+    of_it = subst (IsReport r) (ok_one is.0 w (sym is.1 ∙ a.reached)) is.2
+
+    pub report_settled : IsIdle r.state.core
+    report_settled = subst (λ (s : Session). IsIdle s.core) (sym of_it.state) (settled codec limit small es typed w a).core
+
+    pub report_all_once : (c : Publish) → c.qos ≡ ExactlyOnce → times c r.handed.items ≡ times c (norms r.accepted.items)
+    report_all_once c e = rw (of_it.handed, of_it.accepted) (all_once codec limit small es typed w a c e)
+
+    pub report_all_least : (c : Publish) → c.qos ≡ AtLeastOnce → times c (norms r.accepted.items) ≤ times c r.handed.items
+    report_all_least c e = rw (of_it.handed, of_it.accepted) (all_least codec limit small es typed w a c e)
 
   pub only_memory : (x : StateError) → (x ≡ errors.OutOfMemory) ⊎ (run_bytes codec es (start_bytes limit) ≡ Err x) → AdmitsAcks codec → AllWritable codec (all_taken_on codec es (start_bytes limit)) → x ≡ errors.OutOfMemory
   only_memory x (inl m) admits writable = m

@@ -12,13 +12,12 @@ use Rattle.mqtt5_held.specs.declared.event.Request.TheVariants as requests
 use Rattle.mqtt5_held.specs.declared.error.StateError.{StateError}
 use Rattle.mqtt5_session.specs.Session.{Core}
 use Rattle.mqtt5_session.specs.Requests.{out}
-use Rattle.mqtt5_world.specs.declared.event.WorldEvent.{WorldEvent}
 use Rattle.mqtt5_world.specs.declared.event.WorldEvent.TheVariants as plain
 use Rattle.mqtt5_world.specs.Broker.{Broker}
 use Rattle.mqtt5_world.specs.World.{World, start, happens, run, losses}
 use Rattle.mqtt5_world.specs.Delivery.{IsClass, has_content, times, stored_in, stored_without, waiting_in}
 use Rattle.mqtt5_world.proofs.Step.{Inv}
-use Rattle.mqtt5_world.proofs.Runs.{inv_start, inv_next, inv_run}
+use Rattle.mqtt5_world.proofs.Runs.{inv_start, inv_next, inv_run, run_append, losses_append}
 use Rattle.mqtt5_world.proofs.Contents.{content_class, ledger, at_most, at_least, for_each_loss}
 use Rattle.mqtt5_streams.specs.declared.event.ByteEvent.{ByteEvent}
 use Rattle.mqtt5_streams.specs.declared.event.ByteEvent.TheVariants as events
@@ -30,7 +29,7 @@ use Rattle.mqtt5_streams.specs.Reduction as often
 use Rattle.mqtt5_streams.specs.Counts.{Counts}
 use Rattle.mqtt5_streams.proofs.Wire.{wire}
 use Rattle.mqtt5_streams.proofs.Closed.{Closed, IsSent, GoesUp, ComesDown, Holds, IfAccepted, Owes, holds_next, holds_start, HasId, within}
-use Rattle.mqtt5_streams.proofs.Steps.{Tied, ok_one, then_ok, run_append, every_map, next_tied}
+use Rattle.mqtt5_streams.proofs.Steps.{Tied, ok_one, then_ok, every_map, next_tied}
 
 -- ---- what is said of packets is kept by an event over bytes
 
@@ -98,15 +97,19 @@ event_tied codec limit b w e c h t is =
 plain_next : (codec : Codec) (e : ByteEvent) (es : List ByteEvent) (b c : ByteWorld) (w : World) → happens_bytes codec b e ≡ Ok c → run (plain_events codec (e ∷ es) b) w ≡ run (plain_events codec es c) (run (as_events codec b e) w)
 plain_next codec e es b c w h = ap (λ o. run (as_events codec b e ++ unless_fault o (plain_events codec es)) w) h ∙ run_append (as_events codec b e) (plain_events codec es c) w
 
-run_tied : (codec : Codec) (limit : ℕ) → limit < 65536 → (es : List ByteEvent) (b : ByteWorld) (w : World) (c : ByteWorld) → Every IsTypedEvent es → Inv w → Holds IsTyped limit w → Tied codec b w → run_bytes codec es b ≡ Ok c → Tied codec c (run (plain_events codec es b) w)
-run_tied codec limit small [] b w c f i h t e = subst (λ z. Tied codec z w) (ok_one b c e) t
+-- what is said of the worlds that a run ends in
+abbrev pub Ends : Codec → ℕ → ByteWorld → World → Type 0
+Ends codec limit b w = Tied codec b w × Holds IsTyped limit w
+
+run_tied : (codec : Codec) (limit : ℕ) → limit < 65536 → (es : List ByteEvent) (b : ByteWorld) (w : World) (c : ByteWorld) → Every IsTypedEvent es → Inv w → Holds IsTyped limit w → Tied codec b w → run_bytes codec es b ≡ Ok c → Ends codec limit c (run (plain_events codec es b) w)
+run_tied codec limit small [] b w c f i h t e = (subst (λ z. Tied codec z w) (ok_one b c e) t, h)
 run_tied codec limit small (x ∷ es) b w c f i h t e =
     let g = then_ok (happens_bytes codec b x) (run_bytes codec es) c e in
     let w1 = run (as_events codec b x) w in
     let r = run_tied codec limit small es g.0 w1 c f.1 (inv_run (as_events codec b x) w i)
     (holds_as IsTyped limit closed_typed codec b w x i h (owes_typed limit small w x h f.0))
     (event_tied codec limit b w x g.0 h t g.1) g.2 in
-    subst (λ z. Tied codec c z) (sym (plain_next codec x es b g.0 w g.1)) r
+    subst (Ends codec limit c) (sym (plain_next codec x es b g.0 w g.1)) r
 
 pub tied_start : (codec : Codec) (limit : ℕ) → Tied codec (start_bytes limit) (start limit)
 tied_start codec limit = record {
@@ -115,8 +118,11 @@ tied_start codec limit = record {
   down_written = tt {0};
 }
 
+pub ends : (codec : Codec) (limit : ℕ) → limit < 65536 → (es : List ByteEvent) (b : ByteWorld) → Every IsTypedEvent es → run_bytes codec es (start_bytes limit) ≡ Ok b → Ends codec limit b (run (plain_events codec es (start_bytes limit)) (start limit))
+ends codec limit small es b f e = run_tied codec limit small es (start_bytes limit) (start limit) b f (inv_start limit) (holds_start IsTyped limit) (tied_start codec limit) e
+
 pub reduces : (codec : Codec) (limit : ℕ) → limit < 65536 → (es : List ByteEvent) (b : ByteWorld) → Every IsTypedEvent es → run_bytes codec es (start_bytes limit) ≡ Ok b → Reduces codec b (run (plain_events codec es (start_bytes limit)) (start limit))
-reduces codec limit small es b f e = (run_tied codec limit small es (start_bytes limit) (start limit) b f (inv_start limit) (holds_start IsTyped limit) (tied_start codec limit) e).reduces
+reduces codec limit small es b f e = (ends codec limit small es b f e).0.reduces
 
 -- ---- counts
 
@@ -126,13 +132,6 @@ fold_map g f k (x ∷ xs) = fold_map g f (g k (f x)) xs
 
 count_map : (test : Publish → Bool) (f : Publish → Publish) (xs : List Publish) → count_by test (map f xs) ≡ count_by (λ x. test (f x)) xs
 count_map test f xs = fold_map (λ a x. a + cond (test x) 1 0) f 0 xs
-
-losses_append : (xs ys : List WorldEvent) → losses (xs ++ ys) ≡ losses xs + losses ys
-losses_append [] ys = omega arith
-losses_append (plain.Publish p ∷ xs) ys = losses_append xs ys
-losses_append (plain.Up ∷ xs) ys = losses_append xs ys
-losses_append (plain.Down ∷ xs) ys = losses_append xs ys
-losses_append (plain.Loss m ∷ xs) ys = let a = losses_append xs ys in omega (arith, a)
 
 losses_ups : (n : ℕ) → losses (often.times n plain.Up) ≡ 0
 losses_ups zero = refl
@@ -157,11 +156,17 @@ losses_plain codec (x ∷ es) b c e =
     ∙ losses_next codec b x es (losses (plain_events codec es g.0)) (losses_plain codec es g.0 c g.2)
 
 -- a publish whose norm has this content
-abbrev after_norm : Publish → Publish → Bool
+abbrev pub after_norm : Publish → Publish → Bool
 after_norm c p = has_content c (publish_norm p)
 
-norm_class : (c : Publish) (q : QoS) → c.qos ≡ q → IsClass q (after_norm c)
+pub norm_class : (c : Publish) (q : QoS) → c.qos ≡ q → IsClass q (after_norm c)
 norm_class c q e = record { of_qos = λ p h. (content_class c).of_qos (publish_norm p) h ∙ e; blind = λ p id. refl; blind_again = λ p. refl }
+
+pub handed_count : (codec : Codec) (b : ByteWorld) (w : World) (c : Publish) → Reduces codec b w → times c b.broker.handed ≡ count_by (after_norm c) w.broker.handed
+handed_count codec b w c r = ap (λ (x : Broker). times c x.handed) r.broker ∙ count_map (has_content c) publish_norm w.broker.handed
+
+pub accepted_count : (codec : Codec) (b : ByteWorld) (w : World) (c : Publish) → Reduces codec b w → times c (norms b.accepted) ≡ count_by (after_norm c) w.accepted
+accepted_count codec b w c r = ap (λ z. times c (norms z)) r.accepted ∙ count_map (has_content c) publish_norm w.accepted
 
 pub counts : (codec : Codec) (limit : ℕ) → limit < 65536 → (es : List ByteEvent) (b : ByteWorld) (c : Publish) → Every IsTypedEvent es → run_bytes codec es (start_bytes limit) ≡ Ok b → Counts c (byte_losses es) b
 counts codec limit small es b c f e =
@@ -169,8 +174,8 @@ counts codec limit small es b c f e =
     let fs = plain_events codec es (start_bytes limit) in
     let test = after_norm c in
     let n = losses_plain codec es (start_bytes limit) b e in
-    let hand : times c b.broker.handed ≡ count_by test (run fs (start limit)).broker.handed = ap (λ (x : Broker). times c x.handed) r.broker ∙ count_map (has_content c) publish_norm (run fs (start limit)).broker.handed in
-    let accept : times c (norms b.accepted) ≡ count_by test (run fs (start limit)).accepted = ap (λ z. times c (norms z)) r.accepted ∙ count_map (has_content c) publish_norm (run fs (start limit)).accepted in
+    let hand = handed_count codec b (run fs (start limit)) c r in
+    let accept = accepted_count codec b (run fs (start limit)) c r in
     let store : times c (norms (stored_in b.session.core)) ≡ count_by test (stored_in (run fs (start limit)).session.core) = ap (λ s. times c (norms (stored_in s.core))) r.session ∙ count_map (has_content c) publish_norm (stored_in (run fs (start limit)).session.core) in
     let wait : times c (norms (waiting_in b.session.core)) ≡ count_by test (waiting_in (run fs (start limit)).session.core) = ap (λ s. times c (norms (waiting_in s.core))) r.session ∙ count_map (has_content c) publish_norm (waiting_in (run fs (start limit)).session.core) in
     let left : times c (norms (stored_without b.broker.ids b.session.core)) ≡ count_by test (stored_without (run fs (start limit)).broker.ids (run fs (start limit)).session.core) =

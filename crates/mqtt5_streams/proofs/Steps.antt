@@ -10,7 +10,6 @@ use Rattle.mqtt5_base.specs.declared.quality.QoS.TheVariants.{AtMostOnce, AtLeas
 use Rattle.mqtt5_flow.specs.declared.publish.Publish.{Publish}
 use Rattle.mqtt5_flow.specs.Norms.{publish_norm}
 use Rattle.mqtt5_codec.specs.declared.packet.Packet.{Packet}
-use Rattle.mqtt5_codec.specs.declared.packet.Packet.TheVariants as packets
 use Rattle.mqtt5_codec.specs.declared.codec.Codec.{Codec}
 use Rattle.mqtt5_codec.specs.PacketsIn.{packet_in}
 use Rattle.mqtt5_codec.specs.Norms.{norm}
@@ -20,7 +19,6 @@ use Rattle.mqtt5_session.specs.Session.{Session}
 use Rattle.mqtt5_session.specs.Requests.{out}
 use Rattle.mqtt5_session.specs.Packets.{puback_of, pubrec_of, inc}
 use Rattle.mqtt5_session.specs.Cleaning.{Sendings, resume_of}
-use Rattle.mqtt5_world.specs.declared.event.WorldEvent.{WorldEvent}
 use Rattle.mqtt5_world.specs.declared.event.WorldEvent.TheVariants as plain
 use Rattle.mqtt5_world.specs.Broker.{Broker, Served, serve, serve_publish}
 use Rattle.mqtt5_world.specs.World.{World, asked, served, arrives, heard, takes, returns, taken_back, resumed, happens, run}
@@ -59,10 +57,6 @@ down_ok w (Err f) b e = absurd (not_ok _ b e)
 frames_append : (xs ys : List Packet) → frames_of (xs ++ ys) ≡ frames_of xs ++ frames_of ys
 frames_append [] ys = refl
 frames_append (x ∷ xs) ys = ap (λ z. frame_of x ++ z) (frames_append xs ys) ∙ sym (append_assoc (frame_of x) (frames_of xs) (frames_of ys))
-
-pub run_append : (es fs : List WorldEvent) (w : World) → run (es ++ fs) w ≡ run fs (run es w)
-run_append [] fs w = refl
-run_append (e ∷ es) fs w = run_append es fs (happens w e)
 
 pub every_both : {A : Type 0} (P R : A → Type 0) (xs : List A) → Every P xs → Every R xs → Every (λ x. P x × R x) xs
 every_both P R [] a b = tt {0}

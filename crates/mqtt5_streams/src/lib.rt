@@ -10,5 +10,5 @@ mod way;
 mod world;
 
 pub use event::ByteEvent;
-pub use laws::{answers_law, counts_law, reduction_law, wire_law};
+pub use laws::{answers_law, arrival_law, counts_law, reduction_law, wire_law};
 pub use player::play_bytes;

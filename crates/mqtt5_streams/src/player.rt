@@ -6,10 +6,12 @@ ghost use Rattle.mqtt5_flow.specs.declared.publish.Publish.{Publish};
 ghost use Rattle.mqtt5_codec.specs.declared.packet.Packet.TheVariants as packets;
 ghost use Rattle.mqtt5_world.specs.World.{start, run};
 ghost use Rattle.mqtt5_world.specs.Delivery.{times, stored_in, waiting_in};
+ghost use Rattle.mqtt5_progress.specs.Progress.{IsIdle};
 ghost use Rattle.mqtt5_streams.specs.Wire.{IsTyped};
 ghost use Rattle.mqtt5_streams.specs.ByteWorld.{ByteWorld, start_bytes, run_bytes, byte_losses};
 ghost use Rattle.mqtt5_streams.specs.Reduction.{Every, IsTypedEvent, norms, Reduces, plain_events, AdmitsAcks, AllWritable, all_taken_on};
 ghost use Rattle.mqtt5_streams.specs.Counts.{Counts};
+ghost use Rattle.mqtt5_streams.specs.Arrival.{AllArrived};
 ghost use Rattle.mqtt5_streams.specs.Does.{Does, IsReport, codec_of};
 
 use crate::event::ByteEvent;
@@ -48,6 +50,11 @@ pub fn play_bytes(
     ensures for_each_loss { IfOk result (λ r. (c : Publish) → c.qos ≡ AtLeastOnce → times c r.handed.items ≤ (byte_losses events.now + 1) * times c (norms r.accepted.items)) }
     // Where none of QoS 2 is stored or waiting it was handed on exactly as often as it was accepted.
     ensures exactly_once { IfOk result (λ r. (c : Publish) → c.qos ≡ ExactlyOnce → times c (norms (stored_in r.state.core)) ≡ 0 → times c (norms (waiting_in r.state.core)) ≡ 0 → times c r.handed.items ≡ times c (norms r.accepted.items)) }
+    // Where all bytes have arrived no id is in use, and no publish waits.
+    ensures arrived { IfOk result (λ r. (w : ByteWorld) → AllArrived (codec_of incoming outgoing) limit events.now w → IsIdle r.state.core) }
+    // So one of QoS 2 was handed on exactly as often as it was accepted, and one of QoS 1 at least as often.
+    ensures arrived_exactly_once { IfOk result (λ r. (w : ByteWorld) → AllArrived (codec_of incoming outgoing) limit events.now w → (c : Publish) → c.qos ≡ ExactlyOnce → times c r.handed.items ≡ times c (norms r.accepted.items)) }
+    ensures arrived_at_least_once { IfOk result (λ r. (w : ByteWorld) → AllArrived (codec_of incoming outgoing) limit events.now w → (c : Publish) → c.qos ≡ AtLeastOnce → times c (norms r.accepted.items) ≤ times c r.handed.items) }
     // There is no fault where each accepted publish, with its id, can be written, and acks can be read.
     ensures answers { IfErr result (λ e. AdmitsAcks (codec_of incoming outgoing) → AllWritable (codec_of incoming outgoing) (all_taken_on (codec_of incoming outgoing) events.now (start_bytes limit)) → e ≡ StateError.OutOfMemory) }
 {

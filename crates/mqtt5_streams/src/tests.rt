@@ -2,7 +2,7 @@
 
 ghost use Rattle.std.specs.Prelude.{◌<◌};
 
-use crate::{ByteEvent, answers_law, counts_law, play_bytes, reduction_law, wire_law};
+use crate::{ByteEvent, answers_law, arrival_law, counts_law, play_bytes, reduction_law, wire_law};
 use bytes::Bytes;
 use mqtt5_base::{Error, QoS};
 use mqtt5_flow::Publish;
@@ -108,6 +108,7 @@ fn delivers_over_cut_frames(rt: HostRuntime) -> Result<(), Fail> {
     reduction_law();
     counts_law();
     answers_law();
+    arrival_law();
     assert_eq!(rt; cut_frame(rt.alloc()), Ok((0, 1)));
     assert_eq!(rt; whole_frame(rt.alloc()), Ok((1, true, 0)));
     assert_eq!(rt; two_frames(rt.alloc()), Ok((2, 0)));

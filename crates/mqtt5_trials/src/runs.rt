@@ -4,7 +4,8 @@ use crate::calls::{blank, numbered, packet, request};
 use crate::telling::{Failure, after, answer, may};
 use bytes::{Bytes, BytesMut};
 use mqtt5::{
-    Call, Input, MqttState, Request, StateError, Step, WorldEvent, drive, may_start, play, twin,
+    Call, Input, MqttState, Request, StateError, Step, WorldEvent, drive, may_start, play,
+    play_out, twin,
 };
 use mqtt5_base::{QoS, qos};
 use mqtt5_codec::Codec;
@@ -184,27 +185,55 @@ fn events(alloc: Global, letters: &str, qos: QoS) -> Result<Vec<WorldEvent>, Fai
     Ok(events)
 }
 
+/// How far a world is played.
+#[derive(Clone, Copy, Debug, PartialEq, Eq)]
+enum Until {
+    /// The last event.
+    Last,
+    /// Nothing is left to do.
+    Settled,
+}
+
 fn play_told<W: Write>(
     alloc: Global,
     limit: u16,
     events: &[WorldEvent],
+    until: Until,
     output: &mut W,
 ) -> Result<(), Failure> {
     may(output, &events)?;
-    answer(output, play(alloc, limit.max(1), events))?;
+    match until {
+        Until::Last => answer(output, play(alloc, limit.max(1), events))?,
+        Until::Settled => answer(output, play_out(alloc, limit.max(1), events))?,
+    }
     after(output, &events)
 }
 
 /// Plays events behind a limit and a QoS.
-pub fn run_world<W: Write>(alloc: Global, words: &str, output: &mut W) -> Result<(), Failure> {
+fn play_words<W: Write>(
+    alloc: Global,
+    words: &str,
+    until: Until,
+    output: &mut W,
+) -> Result<(), Failure> {
     let (limit, rest) = numbered(words)?;
     let (quality, letters) = numbered(rest)?;
     let quality = u8::try_from(quality).map_err(|_| Failure::Unknown)?;
     let quality = qos(quality).ok_or(Failure::Unknown)?;
     let events = events(alloc, letters, quality)?;
-    let told = play_told(alloc, limit, events.as_slice(), output);
+    let told = play_told(alloc, limit, events.as_slice(), until, output);
     drop(events);
     told
+}
+
+/// Plays a world up to its last event.
+pub fn run_world<W: Write>(alloc: Global, words: &str, output: &mut W) -> Result<(), Failure> {
+    play_words(alloc, words, Until::Last, output)
+}
+
+/// Plays a world until nothing is left to do.
+pub fn run_settled<W: Write>(alloc: Global, words: &str, output: &mut W) -> Result<(), Failure> {
+    play_words(alloc, words, Until::Settled, output)
 }
 
 fn world_call(alloc: Global, words: &str) -> Result<Call, Failure> {

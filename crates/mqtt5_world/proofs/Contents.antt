@@ -137,7 +137,7 @@ content_class c = record { of_qos = λ p h. ap (λ (x : Publish). x.qos) (publis
 pub content_decides : (c p : Publish) → Decides (has_content c p) (record p { pkid = 0; dup = false } ≡ c)
 content_decides c p = (publish_sound (record p { pkid = 0; dup = false }) c, λ e. subst (λ x. publish.eq-value.it x c ≡ true) (sym e) (reflexive.laws-law.refl c))
 
-class_of : (c : Publish) (q : QoS) → c.qos ≡ q → IsClass q (has_content c)
+pub class_of : (c : Publish) (q : QoS) → c.qos ≡ q → IsClass q (has_content c)
 class_of c q e = subst (λ q. IsClass q (has_content c)) e (content_class c)
 
 module _ (limit : ℕ) (es : List WorldEvent) (r : Report) (is : IsReport r (played limit es)) (c : Publish) where

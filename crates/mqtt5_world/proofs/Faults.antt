@@ -58,13 +58,13 @@ run_stays : (es : List WorldEvent) (w : World) → Faulty w → Faulty (run es w
 run_stays [] w f = f
 run_stays (e ∷ es) w f = run_stays es (happens w e) (happens_stays w e f)
 
--- what stops a run at an event stops the whole
-stops : (e : StateError) (new old : World) (w : World) (event : WorldEvent) (rest all : List WorldEvent) → run (event ∷ rest) w ≡ run all old → Happens {A = Unit {0}} (Err e) new (happens w event) → Happens {A = Unit {0}} (Err e) new (run all old)
-stops e new old w event rest all same h = subst (λ v. Happens {A = Unit {0}} (Err e) new v) same (by e h)
-  where
-    by : (e : StateError) → Happens {A = Unit {0}} (Err e) new (happens w event) → Happens {A = Unit {0}} (Err e) new (run rest (happens w event))
-    by errors.OutOfMemory h = tt {0}
-    by e h = run_stays rest (happens w event) h
+-- what stops a run stops it also where it goes on
+pub stops_then : (e : StateError) (new w : World) (es : List WorldEvent) → Happens {A = Unit {0}} (Err e) new w → Happens {A = Unit {0}} (Err e) new (run es w)
+stops_then errors.OutOfMemory new w es h = tt {0}
+stops_then e new w es h = run_stays es w h
+
+pub stops : (e : StateError) (new old : World) (w : World) (event : WorldEvent) (rest all : List WorldEvent) → run (event ∷ rest) w ≡ run all old → Happens {A = Unit {0}} (Err e) new (happens w event) → Happens {A = Unit {0}} (Err e) new (run all old)
+stops e new old w event rest all same h = subst (λ v. Happens {A = Unit {0}} (Err e) new v) same (stops_then e new (happens w event) rest h)
 
 pub stops_at : (e : StateError) (new old w : World) (all : List WorldEvent) (i : ℕ) (event : WorldEvent) → i < length all → event ≡ slice_index_or all i event → run (drop i all) w ≡ run all old → Happens {A = Unit {0}} (Err e) new (happens w event) → Happens {A = Unit {0}} (Err e) new (run all old)
 stops_at e new old w all i event below is same h =

@@ -27,7 +27,7 @@ tied_other j k ne = unsigned_tied j k ∙ ne_eqb j k ne
 get_remove_same : (h : Held) (k : ℕ) → map.get (map.remove h k) k ≡ None
 get_remove_same h k = map.get-remove nat_cmp_total h k k ∙ ap (λ b. cond b None (map.get h k)) (tied_same k)
 
-get_remove_other : (h : Held) (k j : ℕ) → j ≢ k → map.get (map.remove h k) j ≡ map.get h j
+pub get_remove_other : (h : Held) (k j : ℕ) → j ≢ k → map.get (map.remove h k) j ≡ map.get h j
 get_remove_other h k j ne = map.get-remove nat_cmp_total h k j ∙ ap (λ b. cond b None (map.get h j)) (tied_other j k ne)
 
 abbrev Ids : Type 0

@@ -1,5 +1,5 @@
 -- Whole runs: what holds of every world that is reached.
-use Rattle.std.proofs.Common.{◌≡◌, ℕ, ◌+◌, ◌*◌, ◌≤◌, Bool, true, false, ◌&&◌, List, [], ◌∷◌, count_by, None, refl, sym, ap, subst, arith, add-zero, mul-le-mul_left}
+use Rattle.std.proofs.Common.{◌≡◌, ℕ, ◌+◌, ◌*◌, ◌≤◌, Bool, true, false, ◌&&◌, List, [], ◌∷◌, ◌++◌, count_by, None, refl, sym, ap, subst, arith, add-zero, mul-le-mul_left}
 use Rattle.std.specs.Ordering.{nat_cmp}
 use Rattle.std.specs.FinMap.{get, get-empty}
 use Rattle.std.specs.FinSet as set
@@ -47,6 +47,18 @@ inv_next w (events.Loss m) i = (loss_step w m i).inv
 pub inv_run : (es : List WorldEvent) (w : World) → Inv w → Inv (run es w)
 inv_run [] w i = i
 inv_run (e ∷ es) w i = inv_run es (happens w e) (inv_next w e i)
+
+-- one run after another
+pub run_append : (es fs : List WorldEvent) (w : World) → run (es ++ fs) w ≡ run fs (run es w)
+run_append [] fs w = refl
+run_append (e ∷ es) fs w = run_append es fs (happens w e)
+
+pub losses_append : (es fs : List WorldEvent) → losses (es ++ fs) ≡ losses es + losses fs
+losses_append [] fs = omega arith
+losses_append (events.Publish p ∷ es) fs = losses_append es fs
+losses_append (events.Up ∷ es) fs = losses_append es fs
+losses_append (events.Down ∷ es) fs = losses_append es fs
+losses_append (events.Loss m ∷ es) fs = let a = losses_append es fs in omega (arith, a)
 
 -- ---- QoS 2
 

@@ -106,19 +106,22 @@ impl Broker {
     }
 }
 
-fn puback(id: u16) -> Packet
+/// The PubAck of a publish of QoS 1: its id, with Success.
+pub fn puback(id: u16) -> Packet
     ensures { result ≡ puback_of id }
 {
     Packet::PubAck(PubAck::new(id, None))
 }
 
-fn pubrec(id: u16) -> Packet
+/// The PubRec of a publish of QoS 2: its id, with Success.
+pub fn pubrec(id: u16) -> Packet
     ensures { result ≡ pubrec_of id }
 {
     Packet::PubRec(PubRec::new(id, None))
 }
 
-fn pubcomp(id: u16, had: bool) -> Packet
+/// The PubComp of a release: its id, with Success where the broker had it, else with packet identifier not found.
+pub fn pubcomp(id: u16, had: bool) -> Packet
     ensures { result ≡ pubcomp_of id (reason_for had) }
 {
     let mut answer = PubComp::new(id, None);

@@ -9,10 +9,10 @@ mod player;
 mod twins;
 mod world;
 
-pub use broker::Broker;
+pub use broker::{Broker, puback, pubcomp, pubrec};
 pub use calls::{Call, Reply, Twin};
 pub use event::{Report, WorldEvent};
 pub use laws::{delivery_law, tokens_law};
 pub use player::play;
 pub use twins::{twin, twin_law};
-pub use world::taken_back;
+pub use world::{World, taken_back};

@@ -1,6 +1,6 @@
 //! A client's session and a broker, with the packets between them.
 
-ghost use Rattle.std.specs.Prelude.{◌≡◌, ◌<◌, ◌∷◌, ◌++◌, [], IfOk, IfErr, OnOk, drop};
+ghost use Rattle.std.specs.Prelude.{◌≡◌, ◌<◌, ◌∷◌, ◌++◌, [], IfOk, IfErr, OnOk, drop, length};
 ghost use Rattle.std.specs.Option.{option_to_list};
 ghost use Rattle.mqtt5_world.specs.World.{start, asks, served, arrives, returns, takes, resumes, happens, run, taken_back, with_receive_max};
 ghost use Rattle.mqtt5_world.specs.Broker.{serve};
@@ -8,7 +8,7 @@ ghost use Rattle.mqtt5_world.specs.Happens.{Happens};
 
 use crate::broker::Broker;
 use crate::event::{Report, WorldEvent};
-use mqtt5_base::{Sequence, copied};
+use mqtt5_base::copied;
 use mqtt5_codec::Packet;
 use mqtt5_flow::Publish;
 use mqtt5_link::{ConnAck, ConnAckProperties, ConnectReturnCode};
@@ -85,6 +85,20 @@ impl World {
         }
     }
 
+    /// How many packets are on their way up to the broker.
+    pub fn packets_up(&self) -> usize
+        ensures { result ≡ length self.now.up }
+    {
+        self.up.len()
+    }
+
+    /// How many packets are on their way down to the client.
+    pub fn packets_down(&self) -> usize
+        ensures { result ≡ length self.now.down }
+    {
+        self.down.len()
+    }
+
     /// Events, one after another.
     pub fn play_all(&mut self, alloc: Global, events: &[WorldEvent]) -> Result<(), StateError>
         ensures { Happens result self.new (run events.now self.old) }
@@ -96,7 +110,7 @@ impl World {
     }
 
     /// An event.
-    fn play(&mut self, alloc: Global, event: &WorldEvent) -> Result<(), StateError>
+    pub fn play(&mut self, alloc: Global, event: &WorldEvent) -> Result<(), StateError>
         ensures { Happens result self.new (happens self.old event.now) }
     {
         match event {
@@ -223,23 +237,7 @@ pub fn taken_back(alloc: Global, receive_max: Option<u16>) -> Packet
 fn with_receive_max(alloc: Global, receive_max: u16) -> ConnAckProperties
     ensures { result ≡ with_receive_max receive_max }
 {
-    ConnAckProperties {
-        session_expiry_interval: None,
-        receive_max: Some(receive_max),
-        max_qos: None,
-        retain_available: None,
-        max_packet_size: None,
-        assigned_client_identifier: None,
-        topic_alias_max: None,
-        reason_string: None,
-        user_properties: Sequence::new(alloc),
-        wildcard_subscription_available: None,
-        subscription_identifiers_available: None,
-        shared_subscription_available: None,
-        server_keep_alive: None,
-        response_information: None,
-        server_reference: None,
-        authentication_method: None,
-        authentication_data: None,
-    }
+    let mut properties = ConnAckProperties::new(alloc);
+    properties.receive_max = Some(receive_max);
+    properties
 }

@@ -1,0 +1,10 @@
+pub mod Moves
+pub mod Waiting
+pub mod Rounds
+pub mod Settled
+pub mod Counted
+pub mod Work
+pub mod Ended
+pub mod Played
+pub mod Later
+pub mod Subscribed
