@@ -69,6 +69,12 @@ pub extends : (codec : Codec) (at : ℕ) (rest : List Turn) (s : Session) (held 
     → run codec (bytes_of at bytes ++ rest) s held ≡ run codec (bytes_of at stream ++ rest) s []
 extends codec at rest s held bytes stream more is = rw is (regroup codec at rest s bytes held more.0 more.1)
 
+-- a piece after which the stream still wants more is held
+pub holds : (codec : Codec) (at : ℕ) (rest : List Turn) (s : Session) (o held bytes stream : List ℕ) → IsMore (front codec.max_incoming_size held) → stream ≡ held ++ bytes
+    → IsMore (front codec.max_incoming_size stream) → LeadsTo s o (run codec (bytes_of at bytes ++ rest) s held) s o (run codec rest s stream)
+holds codec at rest s o held bytes stream more is still =
+    leads_same s o _ _ (extends codec at rest s held bytes stream more is ∙ from_start codec at rest s stream (More still.0) still.1)
+
 -- a request is one step of the session
 pub asks : (codec : Codec) (at : ℕ) (rest : List Turn) (s : Session) (held : List ℕ) (request : Request)
     → run codec (Ask at request ∷ rest) s held ≡ stepped codec (out s request at) (λ t. run codec rest t held)

@@ -1,0 +1,12 @@
+-- This file serves the logic alone: the answer of a call, of what the session and the writer answered.
+use Rattle.std.specs.Prelude.{Result, Ok, Err}
+use Rattle.std.specs.declared.io.Error.{Error}
+use Rattle.mqtt5_held.specs.declared.error.StateError.{StateError}
+use Rattle.mqtt5_pipe.specs.declared.fault.Fault.{Fault}
+use Rattle.mqtt5_pipe.specs.declared.fault.Fault.TheVariants as faults
+
+abbrev pub ends : Result Unit StateError → Result Unit Error → Result Unit Fault
+ends (Ok x) (Ok y) = Ok tt
+ends (Ok x) (Err error) = Err (faults.Write error)
+ends (Err e) (Ok y) = Err (faults.Session e)
+ends (Err e) (Err error) = Err (faults.Unanswered e error)
