@@ -11,16 +11,19 @@ use Rattle.mqtt5_held.specs.declared.error.StateError.TheVariants.{OutOfMemory}
 use Rattle.mqtt5_session.specs.Cleaning.{resume_of}
 use Rattle.mqtt5_client.specs.declared.client.Client.{Client}
 
--- the bytes of a packet go before those of the others
-abbrev pub before : Result (List ℕ) Error → Result (List ℕ) Error → Result (List ℕ) Error
-before (Ok bytes) (Ok others) = Ok (bytes ++ others)
-before (Ok bytes) (Err e) = Err e
-before (Err e) others = Err e
+-- bytes go behind others, or their refusal ends it
+abbrev pub behind : List ℕ → Result (List ℕ) Error → (List ℕ → Result (List ℕ) Error) → Result (List ℕ) Error
+behind output (Ok bytes) goes_on = goes_on (output ++ bytes)
+behind output (Err e) goes_on = Err e
 
--- the frames of packets, one after the other, or the first refusal
+-- the frames of packets, one behind the other, or the first refusal
+abbrev pub frames_behind : List ℕ → Codec → List Packet → Result (List ℕ) Error
+frames_behind output codec [] = Ok output
+frames_behind output codec (p ∷ ps) = behind output (writing_under codec.max_outgoing_size p) (λ o. frames_behind o codec ps)
+
+-- of them alone
 abbrev pub frames_of : Codec → List Packet → Result (List ℕ) Error
-frames_of codec [] = Ok []
-frames_of codec (p ∷ ps) = before (writing_under codec.max_outgoing_size p) (frames_of codec ps)
+frames_of codec ps = frames_behind [] codec ps
 
 -- these are the frames, or memory ran out, or this is the first refusal
 abbrev pub Framed : Result (List ℕ) Error → Result Filled StateError → Type 0

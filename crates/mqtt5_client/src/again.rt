@@ -1,7 +1,9 @@
 //! What is sent again on a new connection, and what is given back without one.
 
-ghost use Rattle.std.specs.Prelude.{◌≡◌, ◌++◌, IfOk, IfErr, OnOk};
+ghost use Rattle.std.specs.Prelude.{◌≡◌, Some, IfOk, IfErr};
 ghost use Rattle.mqtt5_held.specs.declared.error.StateError.TheVariants.{OutOfMemory};
+ghost use Rattle.mqtt5_drive.specs.Run.{reply_bytes};
+ghost use Rattle.mqtt5_drive.specs.Ways.{Replies};
 ghost use Rattle.mqtt5_client.specs.Again.{frames_of, Framed};
 ghost use Rattle.mqtt5_client.specs.Client.{given_back};
 
@@ -11,6 +13,20 @@ use mqtt5_codec::{Codec, Packet};
 use mqtt5_flow::Publish;
 use mqtt5_session::{MqttState, Request, StateError};
 use std::alloc::Global;
+
+/// Appends the frame of a packet.
+pub(crate) fn encode(
+    codec: &Codec,
+    output: &mut BytesMut,
+    packet: &Packet,
+) -> Result<(), StateError>
+    ensures { Replies result (reply_bytes codec.now (Some packet.now)) output.old.items output.new.items }
+{
+    match codec.encode(packet, output) {
+        Ok(()) => Ok(()),
+        Err(error) => Err(StateError::from(error)),
+    }
+}
 
 /// The frames of packets, one after the other.
 pub(crate) fn frames(
@@ -22,7 +38,7 @@ pub(crate) fn frames(
 {
     let mut frames = BytesMut::new(alloc);
     for packet in packets {
-        codec.encode(packet, &mut frames)?;
+        encode(codec, &mut frames, packet)?;
     }
     Ok(frames)
 }

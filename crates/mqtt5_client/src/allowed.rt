@@ -1,6 +1,6 @@
 //! The longest packet that the broker takes.
 
-ghost use Rattle.std.specs.Prelude.{◌≡◌, drop};
+ghost use Rattle.std.specs.Prelude.{◌≡◌, ◌+◌, drop};
 ghost use Rattle.mqtt5_client.specs.Allowed.{size_in, size_after, size_allowed};
 
 use mqtt5_codec::Packet;
@@ -33,13 +33,23 @@ fn size_after(event: &Event, limit: Option<u32>) -> Option<u32>
     }
 }
 
+/// The limit after the event at this place.
+fn size_at(events: &VecDeque<Event>, place: usize, limit: Option<u32>) -> Option<u32>
+    ensures { size_allowed (drop place events.now.items) limit ≡ size_allowed (drop (place + 1) events.now.items) result }
+{
+    match events.get(place) {
+        Some(event) => size_after(event, limit),
+        None => limit,
+    }
+}
+
 /// The limit after the events from this place on.
 pub(crate) fn size_allowed(events: &VecDeque<Event>, from: usize, limit: Option<u32>) -> Option<u32>
     ensures { result ≡ size_allowed (drop from events.now.items) limit }
 {
     let mut allowed = limit;
-    for event in events.iter().skip(from) {
-        allowed = size_after(event, allowed);
+    for place in from..events.len() {
+        allowed = size_at(events, place, allowed);
     }
     allowed
 }

@@ -17,7 +17,7 @@ ghost use Rattle.mqtt5_client.specs.Allowed.{allowed};
 ghost use Rattle.mqtt5_client.specs.Connecting.{connect_packet, opened, IsRefused};
 ghost use Rattle.mqtt5_client.specs.Again.{SendsAgain, Refuses};
 
-use crate::again::{frames, given_back};
+use crate::again::{encode, frames, given_back};
 use crate::allowed::size_allowed;
 use crate::connecting::{connect_frame, incoming_limit};
 use bytes::{Bytes, BytesMut};
@@ -290,15 +290,6 @@ fn answer(codec: &Codec, output: &mut BytesMut, reply: &Option<Packet>) -> Resul
     match reply {
         Some(packet) => encode(codec, output, packet),
         None => Ok(()),
-    }
-}
-
-fn encode(codec: &Codec, output: &mut BytesMut, packet: &Packet) -> Result<(), StateError>
-    ensures { Replies result (reply_bytes codec.now (Some packet.now)) output.old.items output.new.items }
-{
-    match codec.encode(packet, output) {
-        Ok(()) => Ok(()),
-        Err(error) => Err(StateError::from(error)),
     }
 }
 
