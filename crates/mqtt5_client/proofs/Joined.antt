@@ -7,7 +7,7 @@ use Rattle.mqtt5_held.specs.declared.error.StateError.{StateError}
 use Rattle.mqtt5_session.specs.Session.{Session}
 use Rattle.mqtt5_session.specs.Requests.{out}
 use Rattle.mqtt5_drive.specs.declared.run.Step.{Step}
-use Rattle.mqtt5_drive.specs.Course.{Course, Rests, Holds, finish, Stops}
+use Rattle.mqtt5_drive.specs.Course.{Rests, Holds, finish, Stops}
 use Rattle.mqtt5_drive.specs.Run.{turns, run}
 use Rattle.mqtt5_drive.specs.Ways.{Goes}
 use Rattle.mqtt5_drive.proofs.Joins.{twice_ok, twice_stops}

@@ -1,6 +1,6 @@
 -- What a call leaves of a client: a run of its session over what came in and what was asked, whose output is what was taken
 -- to be sent and what still waits (MQTT 5.0 section 4.2).
-use Rattle.std.specs.Prelude.{◌≡◌, ℕ, List, ◌++◌, Option, None, option_map}
+use Rattle.std.specs.Prelude.{◌≡◌, ℕ, List, ◌++◌, None, option_map}
 use Rattle.std.specs.Option.{option_to_list}
 use Rattle.mqtt5_base.specs.FrontAt.{front}
 use Rattle.mqtt5_codec.specs.declared.codec.Codec.{Codec}

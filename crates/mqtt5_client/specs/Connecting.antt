@@ -1,5 +1,5 @@
 -- The Connect of a client's settings (MQTT 5.0 section 3.1), and the limits of a new connection.
-use Rattle.std.specs.Prelude.{◌≡◌, ℕ, ◌⊎◌, ◌/◌, List, Option, None, Some, Result, Ok, Err, min}
+use Rattle.std.specs.Prelude.{◌≡◌, ℕ, ◌⊎◌, ◌/◌, Option, None, Some, Result, Ok, Err, min}
 use Rattle.std.specs.Duration.{as_nanos}
 use Rattle.bytes.specs.Filled.{Filled}
 use Rattle.mqtt5_base.specs.declared.error.Error.{Error}

@@ -1,4 +1,4 @@
-use Rattle.std.proofs.Common.{refl, rules}
+use Rattle.std.proofs.Common.{refl}
 use Rattle.std.proofs.lemmas.List.{drop_min}
 use Rattle.mqtt5_client.proofs.Joined.{took_runs}
 use Rattle.mqtt5_client.proofs.client.Client.sent.Goals as goal
