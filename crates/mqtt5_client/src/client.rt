@@ -144,6 +144,7 @@ impl Client {
         ensures kept { (self.new.state ≡ self.old.state) × (self.new.codec ≡ self.old.codec) × (self.new.input.items ≡ self.old.input.items) }
         // What was sent and what is left are the run's output.
         ensures run { IsReady self.old → Runs self.old [] (take count self.old.output.items) self.new }
+        ensures ready { IsReady self.old → IsReady self.new }
     {
         self.output.advance(count.min(self.output.len()));
     }
@@ -152,6 +153,7 @@ impl Client {
     pub fn next_event(&mut self) -> Option<Event>
         ensures event { result ≡ slice_get self.old.state.events 0 }
         ensures rest { self.new ≡ record self.old { state = record self.old.state { events = drop 1 self.old.state.events } } }
+        ensures ready { IsReady self.old → IsReady self.new }
     {
         self.state.pop_event()
     }
@@ -166,6 +168,7 @@ impl Client {
         ensures err { IfErr result (λ e. Refuses e self.old at self.new) }
         ensures unsent { OnErr result (self.new.output.items ≡ self.old.output.items) }
         ensures kept { (self.new.input.items ≡ self.old.input.items) × (self.new.codec ≡ self.old.codec) }
+        ensures ready { IsReady self.old → IsReady self.new }
     {
         let alloc = *self.input.allocator();
         let packets = self.state.resume(at)?;

@@ -96,37 +96,73 @@ fn connected(alloc: Global, options: &MqttOptions) -> Result<(BytesMut, Option<u
     Ok((client.output, client.codec.max_incoming_size))
 }
 
+/// Which settings.
+#[derive(Clone, Copy)]
+enum Kind {
+    Plain,
+    WithParts,
+    Again,
+}
+
+fn settings_of(alloc: Global, kind: Kind) -> Result<MqttOptions, StateError> {
+    match kind {
+        Kind::Plain => settings(alloc),
+        Kind::WithParts => settings_with_parts(alloc),
+        Kind::Again => settings_again(alloc),
+    }
+}
+
+fn connected_as(alloc: Global, kind: Kind) -> Result<(BytesMut, Option<u32>), StateError> {
+    let options = settings_of(alloc, kind)?;
+    connected(alloc, &options)
+}
+
+/// Each settings' Connect, and the limit then.
+const CONNECTS: [(Kind, &'static [u8], Option<u32>); 3] = [
+    (Kind::Plain, &CONNECT, None),
+    (Kind::WithParts, &CONNECT_WITH_PARTS, None),
+    (Kind::Again, &CONNECT_AGAIN, Some(100)),
+];
+
 #[test]
 fn a_connect_of_settings(rt: HostRuntime) -> Result<(), Fail> {
-    let alloc = rt.alloc();
-    let (plain, limit) = connected(alloc, &settings(alloc)?)?;
-    assert_eq!(rt; plain.as_slice(), CONNECT.as_slice());
-    assert_eq!(rt; limit, None);
-    let (with_parts, _) = connected(alloc, &settings_with_parts(alloc)?)?;
-    assert_eq!(rt; with_parts.as_slice(), CONNECT_WITH_PARTS.as_slice());
-    let (again, limit) = connected(alloc, &settings_again(alloc)?)?;
-    assert_eq!(rt; again.as_slice(), CONNECT_AGAIN.as_slice());
-    assert_eq!(rt; limit, Some(100));
+    for (kind, frame, limit) in &CONNECTS {
+        let (output, set) = connected_as(rt.alloc(), *kind)?;
+        assert_eq!(rt; output.as_slice(), *frame);
+        assert_eq!(rt; set, *limit);
+    }
     Ok(())
 }
 
-/// What a ConnAck in two pieces allows: ids in use, topic aliases, and the longest packet, before and after the second;
-/// and the number of the fault of a publish of 12 bytes then.
-fn limits(alloc: Global) -> Result<(u16, u16, Option<u32>, Option<u32>, u8), StateError> {
+/// A client that heard the ConnAck in two pieces.
+fn limited(alloc: Global) -> Result<Client, StateError>
+    ensures { IfOk result IsReady }
+{
     let mut client = new_client(alloc)?;
     client.receive(&LIMITS[..9], 1)?;
-    let before = client.codec.max_outgoing_size;
     client.receive(&LIMITS[9..], 2)?;
-    let after = client.codec.max_outgoing_size;
+    Ok(client)
+}
+
+/// What it allows: ids in use, topic aliases, and the longest packet.
+fn limits(alloc: Global) -> Result<(u16, u16, Option<u32>), StateError> {
+    let client = limited(alloc)?;
     let inflight = client.state.max_outgoing_inflight();
     let aliases = client.state.broker_topic_alias_max();
-    let refused = number(client.request(publish(alloc, QoS::AtLeastOnce)?, 3));
-    Ok((inflight, aliases, before, after, refused))
+    Ok((inflight, aliases, client.codec.max_outgoing_size))
+}
+
+/// The number of the fault of a publish of 12 bytes then.
+fn too_long(alloc: Global) -> Result<u8, StateError> {
+    let mut client = limited(alloc)?;
+    let request = publish(alloc, QoS::AtLeastOnce)?;
+    Ok(number(client.request(request, 3)))
 }
 
 #[test]
 fn a_connack_with_limits(rt: HostRuntime) -> Result<(), Fail> {
-    assert_eq!(rt; limits(rt.alloc())?, (2, 3, None, Some(11), 9));
+    assert_eq!(rt; limits(rt.alloc())?, (2, 3, Some(11)));
+    assert_eq!(rt; too_long(rt.alloc())?, 9);
     Ok(())
 }
 
@@ -179,12 +215,21 @@ const FLOWS: [Flow; 6] = [
     },
 ];
 
-/// What a client sends in a flow, and how many ids are in use after it.
-fn flow(alloc: Global, flow: &Flow) -> Result<(BytesMut, u16), StateError> {
+/// A client that asked for a publish of this quality, or for none.
+fn begun(alloc: Global, qos: Option<QoS>) -> Result<Client, StateError>
+    ensures { IfOk result IsReady }
+{
     let mut client = new_client(alloc)?;
-    if let Some(qos) = flow.qos {
-        client.request(publish(alloc, qos)?, 1)?;
+    if let Some(qos) = qos {
+        let request = publish(alloc, qos)?;
+        client.request(request, 1)?;
     }
+    Ok(client)
+}
+
+/// What a client sends in a flow, and how many ids are in use after it.
+fn play(alloc: Global, flow: &Flow) -> Result<(BytesMut, u16), StateError> {
+    let mut client = begun(alloc, flow.qos)?;
     client.receive(flow.pieces[0], 2)?;
     client.receive(flow.pieces[1], 3)?;
     let inflight = client.state.inflight();
@@ -195,55 +240,79 @@ fn flow(alloc: Global, flow: &Flow) -> Result<(BytesMut, u16), StateError> {
 fn publishes_of_each_quality_both_ways(rt: HostRuntime) -> Result<(), Fail> {
     one_run();
     for case in &FLOWS {
-        let (sent, inflight) = flow(rt.alloc(), case)?;
+        let (sent, inflight) = play(rt.alloc(), case)?;
         assert_eq!(rt; sent.as_slice(), case.sent);
         assert_eq!(rt; inflight, 0);
     }
     Ok(())
 }
 
-/// What two takes of five bytes and of many leave of a publish.
-fn taken(alloc: Global) -> Result<(BytesMut, BytesMut), StateError> {
+/// A client that asked for a publish.
+fn asked(alloc: Global) -> Result<Client, StateError>
+    ensures { IfOk result IsReady }
+{
     let mut client = new_client(alloc)?;
-    client.request(publish(alloc, QoS::AtLeastOnce)?, 1)?;
-    client.sent(5);
-    let mut rest = BytesMut::new(alloc);
-    rest.extend_from_slice(client.output())?;
-    client.sent(100);
-    Ok((rest, client.output))
+    let request = publish(alloc, QoS::AtLeastOnce)?;
+    client.request(request, 1)?;
+    Ok(client)
+}
+
+/// What is left of its output once that many bytes were sent.
+fn left_of(alloc: Global, count: usize) -> Result<BytesMut, StateError> {
+    let mut client = asked(alloc)?;
+    client.sent(count);
+    Ok(client.output)
 }
 
 #[test]
 fn bytes_that_were_sent_are_gone(rt: HostRuntime) -> Result<(), Fail> {
-    let (rest, none) = taken(rt.alloc())?;
-    assert_eq!(rt; rest.as_slice(), &PUBLISH[5..]);
-    assert!(rt; none.is_empty());
+    for count in [0, 5, 12] {
+        let left = left_of(rt.alloc(), count)?;
+        assert_eq!(rt; left.as_slice(), &PUBLISH[count..]);
+    }
+    assert!(rt; left_of(rt.alloc(), 100)?.is_empty());
     Ok(())
 }
 
-/// A publish, whose frame and whose ack are cut by the loss of the connection, and a new connection to the kept
-/// session: what is sent for the new Connect, and after its ConnAck; how many ids are in use once the ack came.
-fn cut(alloc: Global) -> Result<(BytesMut, BytesMut, u16), StateError> {
-    let mut client = new_client(alloc)?;
-    client.request(publish(alloc, QoS::AtLeastOnce)?, 1)?;
+/// That client, whose connection is lost while a part of the publish is sent and a part of its ack came, on a new
+/// connection.
+fn opened_again(alloc: Global) -> Result<Client, StateError>
+    ensures { IfOk result IsReady }
+{
+    let mut client = asked(alloc)?;
     client.sent(5);
     client.receive(&ACK[..2], 2)?;
-    client.connect(&settings_again(alloc)?)?;
-    let connect = client.output.clone()?;
-    client.sent(connect.len());
+    let options = settings_again(alloc)?;
+    client.connect(&options)?;
+    Ok(client)
+}
+
+/// That client once the broker has its session.
+fn taken_up(alloc: Global) -> Result<Client, StateError>
+    ensures { IfOk result IsReady }
+{
+    let mut client = opened_again(alloc)?;
+    client.sent(CONNECT_AGAIN.len());
     client.receive(&PRESENT, 3)?;
     client.resume(4)?;
-    let again = client.output.clone()?;
+    Ok(client)
+}
+
+/// How many ids are in use before and after the ack.
+fn acked(alloc: Global) -> Result<(u16, u16), StateError> {
+    let mut client = taken_up(alloc)?;
+    let before = client.state.inflight();
     client.receive(&ACK, 5)?;
-    Ok((connect, again, client.state.inflight()))
+    Ok((before, client.state.inflight()))
 }
 
 #[test]
 fn a_cut_and_a_resume(rt: HostRuntime) -> Result<(), Fail> {
-    let (connect, again, inflight) = cut(rt.alloc())?;
-    assert_eq!(rt; connect.as_slice(), CONNECT_AGAIN.as_slice());
-    assert_eq!(rt; again.as_slice(), PUBLISH_AGAIN.as_slice());
-    assert_eq!(rt; inflight, 0);
+    let connect = opened_again(rt.alloc())?;
+    assert_eq!(rt; connect.output(), CONNECT_AGAIN.as_slice());
+    let again = taken_up(rt.alloc())?;
+    assert_eq!(rt; again.output(), PUBLISH_AGAIN.as_slice());
+    assert_eq!(rt; acked(rt.alloc())?, (1, 0));
     Ok(())
 }
 
@@ -255,27 +324,50 @@ fn number<T: Drop>(ended: Result<T, StateError>) -> u8 {
     }
 }
 
-/// A clean before the event of a publish is taken, the event, and what is sent once the publish is asked for again on
-/// a connection without the session.
-fn cleaned(alloc: Global) -> Result<(u8, Option<Event>, BytesMut), StateError> {
-    let mut client = new_client(alloc)?;
-    client.request(publish(alloc, QoS::AtLeastOnce)?, 1)?;
+/// The number of the fault of a clean before the event of a publish is taken, and the event.
+fn clean_at_once(alloc: Global) -> Result<(u8, Option<Event>), StateError> {
+    let mut client = asked(alloc)?;
     let refused = number(client.clean());
-    let event = client.next_event();
+    Ok((refused, client.next_event()))
+}
+
+/// What a clean gives back then, and the client.
+fn given_back(alloc: Global) -> Result<(Client, Option<Request>), StateError>
+    ensures { IfOk result (λ r. IsReady r.0) }
+{
+    let mut client = asked(alloc)?;
+    let _event = client.next_event();
     let mut requests = client.clean()?;
-    client.connect(&settings(alloc)?)?;
-    client.sent(CONNECT.len());
-    if let Some(request) = requests.pop() {
-        client.request(request, 2)?;
-    }
-    Ok((refused, event, client.output))
+    Ok((client, requests.pop()))
+}
+
+/// What is in use and to be sent then.
+fn cleaned(alloc: Global) -> Result<(u16, usize), StateError> {
+    let (client, _request) = given_back(alloc)?;
+    Ok((client.state.inflight(), client.output().len()))
 }
 
 #[test]
 fn a_clean_gives_back_what_awaits_an_ack(rt: HostRuntime) -> Result<(), Fail> {
-    let (refused, event, sent) = cleaned(rt.alloc())?;
+    let (refused, event) = clean_at_once(rt.alloc())?;
     assert_eq!(rt; refused, 1);
     assert_eq!(rt; event, Some(Event::Outgoing(Outgoing::Publish(1))));
+    assert_eq!(rt; cleaned(rt.alloc())?, (0, 0));
+    Ok(())
+}
+
+/// What is sent once the publish is asked for again on a connection without the session.
+fn asked_again(alloc: Global) -> Result<BytesMut, StateError> {
+    let (mut client, request) = given_back(alloc)?;
+    if let Some(request) = request {
+        client.request(request, 2)?;
+    }
+    Ok(client.output)
+}
+
+#[test]
+fn what_is_given_back_is_asked_again(rt: HostRuntime) -> Result<(), Fail> {
+    let sent = asked_again(rt.alloc())?;
     assert_eq!(rt; sent.as_slice(), PUBLISH_AGAIN.as_slice());
     Ok(())
 }
