@@ -1,0 +1,5 @@
+pub mod Client
+pub mod Allowed
+pub mod Connecting
+pub mod Again
+pub mod Numbers

@@ -1,0 +1,310 @@
+//! A client between the bytes that come in and those that go out.
+
+ghost use Rattle.std.specs.Prelude.{◌≡◌, ◌<◌, ◌⊎◌, ℕ, List, [], ◌∷◌, ◌++◌, length, take, drop, slice_get, Some, Ok, IsOk, IfOk, IfErr, OnOk, OnErr};
+ghost use Rattle.mqtt5_base.specs.declared.error.Error.{Error};
+ghost use Rattle.mqtt5_codec.specs.Packets.{packet_writing};
+ghost use Rattle.mqtt5_held.specs.Errors.{state_error};
+ghost use Rattle.mqtt5_held.specs.declared.error.StateError.{StateError as Fault};
+ghost use Rattle.mqtt5_held.specs.declared.error.StateError.TheVariants as faults;
+ghost use Rattle.mqtt5_session.specs.Session.{fresh};
+ghost use Rattle.mqtt5_session.specs.Requests.{out};
+ghost use Rattle.mqtt5_drive.specs.declared.run.Step.{Step};
+ghost use Rattle.mqtt5_drive.specs.Run.{piece, reply_bytes};
+ghost use Rattle.mqtt5_drive.specs.Ways.{Goes, Replies};
+ghost use Rattle.mqtt5_client.specs.declared.client.Client.{Client};
+ghost use Rattle.mqtt5_client.specs.Client.{IsReady, asking, Runs, Fails, no_limits, given_back};
+ghost use Rattle.mqtt5_client.specs.Allowed.{allowed};
+ghost use Rattle.mqtt5_client.specs.Connecting.{connect_packet, opened, IsRefused};
+ghost use Rattle.mqtt5_client.specs.Again.{SendsAgain, Refuses};
+
+use crate::again::{encode, frames, given_back};
+use crate::allowed::size_allowed;
+use crate::connecting::{connect_frame, incoming_limit};
+use bytes::{Bytes, BytesMut};
+use mqtt5_codec::{Codec, Packet};
+use mqtt5_drive::{Input, Step, drive, may_start};
+use mqtt5_options::MqttOptions;
+use mqtt5_session::{Event, MqttState, Request, StateError};
+use std::alloc::Global;
+
+/// A client: bytes that came in and requests are given to it, and bytes to send and events taken out.
+///
+/// A connection begins with `connect`. Once the ConnAck's event says that the broker has the session, `resume`
+/// sends again what the last connection left. For a connection with clean start call `clean` before `connect`.
+#[derive(Debug, Drop)]
+pub struct Client {
+    /// The session.
+    pub state: MqttState,
+    /// The limits on packets. `connect` and a ConnAck set them.
+    pub codec: Codec,
+    /// The bytes of a frame that isn't whole yet.
+    pub input: BytesMut,
+    /// What isn't sent yet.
+    pub output: BytesMut,
+}
+
+impl Client {
+    /// A client in which nothing happened, without limits on packets. `limit`, at least 1, is the greatest packet
+    /// identifier, and so the most publishes without an ack at a time. Takes no memory, and is always Ok.
+    pub fn new(alloc: Global, limit: u16, manual_acks: bool) -> Result<Client, StateError>
+        requires { 0 < limit }
+        ensures always { IsOk result }
+        ensures state { IfOk result (λ c. c.state ≡ fresh limit manual_acks) }
+        ensures codec { IfOk result (λ c. c.codec ≡ no_limits) }
+        ensures empty { IfOk result (λ c. (c.input.items ≡ []) × (c.output.items ≡ [])) }
+        ensures ready { IfOk result IsReady }
+    {
+        let state = MqttState::new(alloc, limit, manual_acks)?;
+        may_start();
+        Ok(Client {
+            state,
+            codec: Codec {
+                max_incoming_size: None,
+                max_outgoing_size: None,
+            },
+            input: BytesMut::new(alloc),
+            output: BytesMut::new(alloc),
+        })
+    }
+
+    /// Begins a connection: the input is emptied, the output is the Connect of these settings, with will and login,
+    /// and nothing of an earlier connection; no limit on what is sent holds until the ConnAck says one, and what
+    /// comes in is limited by the settings' `max_packet_size`, where it is set. S7 where the Connect can't be
+    /// written (E11); S12. After an Err the client is unchanged.
+    pub fn connect(&mut self, options: &MqttOptions) -> Result<(), StateError>
+        ensures frame { OnOk result (packet_writing (connect_packet options.now) ≡ Ok self.new.output.items) }
+        ensures input { OnOk result (self.new.input.items ≡ []) }
+        ensures codec { OnOk result (self.new.codec ≡ opened options.now self.old.codec) }
+        ensures state { self.new.state ≡ self.old.state }
+        // So bytes may be received.
+        ensures ready { OnOk result (IsReady self.new) }
+        ensures err { IfErr result (λ e. IsRefused (connect_packet options.now) e) }
+        ensures kept { OnErr result (self.new ≡ self.old) }
+    {
+        let alloc = *self.input.allocator();
+        let frame = connect_frame(alloc, options)?;
+        self.codec = Codec {
+            max_incoming_size: incoming_limit(options, self.codec.max_incoming_size),
+            max_outgoing_size: None,
+        };
+        self.output = frame;
+        self.input.clear();
+        may_start();
+        Ok(())
+    }
+
+    /// Takes a piece of the bytes that came in, cut anywhere, at a moment: each whole frame goes to the session, and
+    /// its replies to the end of the output. A ConnAck of success says how long a packet may be that is sent from
+    /// the next call on. Faults as of `drive`; the connection must then be closed, and the input is empty.
+    pub fn receive(&mut self, bytes: &[u8], at: u64) -> Result<(), StateError>
+        requires { IsReady self.old }
+        // Session, input and output are the run's.
+        ensures ok { OnOk result (Runs self.old (piece at bytes.now ∷ []) [] self.new) }
+        // What was answered before the fault stands.
+        ensures err { IfErr result (λ e. Fails e self.old (piece at bytes.now ∷ []) [] self.new) }
+        // The limit is that of the ConnAcks among the events of this call.
+        ensures codec { self.new.codec ≡ allowed (drop (length self.old.state.events) self.new.state.events) self.old.codec }
+        ensures lost { OnErr result (self.new.input.items ≡ []) }
+        // So another call may follow.
+        ensures ready { IsReady self.new }
+    {
+        let told = self.state.events().len();
+        let ended = self.hear(bytes, at);
+        self.allow(told);
+        ended
+    }
+
+    /// Takes a request at a moment: what is to be sent goes to the end of the output. S1 to S3, S5, S6 and S8 as of
+    /// the session, which is then unchanged but for a refused ping's count; S7 where the packet can't be written and
+    /// S9 where it is over the broker's limit, with the session's step taken; S12. The connection goes on after each
+    /// of them.
+    pub fn request(&mut self, request: Request, at: u64) -> Result<(), StateError>
+        requires { IsReady self.old }
+        // Session and output are the run's.
+        ensures ok { OnOk result (Runs self.old (asking at request ∷ []) [] self.new) }
+        ensures err { IfErr result (λ e. Fails e self.old (asking at request ∷ []) [] self.new) }
+        ensures kept { (self.new.input.items ≡ self.old.input.items) × (self.new.codec ≡ self.old.codec) }
+        // So another call may follow.
+        ensures ready { IsReady self.new }
+    {
+        ask(&mut self.state, &self.codec, &mut self.output, request, at)
+    }
+
+    /// What is to be sent, the oldest byte first. Takes no memory.
+    pub fn output(&self) -> &[u8]
+        ensures { result.now ≡ self.now.output.items }
+    {
+        self.output.as_slice()
+    }
+
+    /// Takes the first `count` bytes out of the output, which were sent; all of it where it has fewer. Takes no
+    /// memory.
+    pub fn sent(&mut self, count: usize)
+        ensures left { self.new.output.items ≡ drop count self.old.output.items }
+        ensures kept { (self.new.state ≡ self.old.state) × (self.new.codec ≡ self.old.codec) × (self.new.input.items ≡ self.old.input.items) }
+        // What was sent and what is left are the run's output.
+        ensures run { IsReady self.old → Runs self.old [] (take count self.old.output.items) self.new }
+        ensures ready { IsReady self.old → IsReady self.new }
+    {
+        self.output.advance(count.min(self.output.len()));
+    }
+
+    /// Takes the oldest event out; None where there is none. Takes no memory.
+    pub fn next_event(&mut self) -> Option<Event>
+        ensures event { result ≡ slice_get self.old.state.events 0 }
+        ensures rest { self.new ≡ record self.old { state = record self.old.state { events = drop 1 self.old.state.events } } }
+        ensures ready { IsReady self.old → IsReady self.new }
+    {
+        self.state.pop_event()
+    }
+
+    /// Takes the session up on a new connection, once its ConnAck says that the broker has it: all that awaits an ack
+    /// goes to the end of the output, publishes with `dup`. S8 of a topic alias above the broker's maximum, and the
+    /// session is unchanged; S7 and S9 of a packet that can't be written, and S12: the session may have told of what
+    /// it sends again. After an Err the output is unchanged, so the call may be made again.
+    pub fn resume(&mut self, at: u64) -> Result<(), StateError>
+        // Whole frames of all that the session sends again.
+        ensures ok { OnOk result (SendsAgain self.old at self.new) }
+        ensures err { IfErr result (λ e. Refuses e self.old at self.new) }
+        ensures unsent { OnErr result (self.new.output.items ≡ self.old.output.items) }
+        ensures kept { (self.new.input.items ≡ self.old.input.items) × (self.new.codec ≡ self.old.codec) }
+        ensures ready { IsReady self.old → IsReady self.new }
+    {
+        let alloc = *self.input.allocator();
+        let packets = self.state.resume(at)?;
+        let frames = frames(alloc, &self.codec, &packets)?;
+        self.output.extend_from_slice(frames.as_slice())?;
+        Ok(())
+    }
+
+    /// Ends the session, for a connection with clean start: answers what awaits an ack, publishes with `dup` and
+    /// then releases, each by rising id, and the publish that waits for its id; the client is as a new one of its
+    /// limit on ids, with its limits on packets. S1 where an event isn't taken out; S12. After an Err the client
+    /// is unchanged.
+    pub fn clean(&mut self) -> Result<Vec<Request>, StateError>
+        ensures ok { IfOk result (λ v. v.items ≡ given_back self.old.state.core) }
+        ensures state { OnOk result (self.new.state ≡ fresh self.old.state.core.limit self.old.state.core.manual_acks) }
+        ensures empty { OnOk result ((self.new.input.items ≡ []) × (self.new.output.items ≡ [])) }
+        ensures codec { self.new.codec ≡ self.old.codec }
+        // So bytes may be received.
+        ensures ready { OnOk result (IsReady self.new) }
+        ensures err { IfErr result (λ e. (e ≡ faults.OutOfMemory) ⊎ (e ≡ faults.InvalidState)) }
+        ensures told { IsOk result → self.old.state.events ≡ [] }
+        ensures kept { OnErr result (self.new ≡ self.old) }
+    {
+        if !self.state.events().is_empty() {
+            return Err(StateError::InvalidState);
+        }
+        let alloc = *self.input.allocator();
+        let requests = given_back(&self.state)?;
+        self.state = renewed(alloc, &self.state);
+        self.input.clear();
+        self.output.clear();
+        may_start();
+        Ok(requests)
+    }
+
+    /// Runs one piece. After a fault the input is empty.
+    fn hear(&mut self, bytes: &[u8], at: u64) -> Result<(), StateError>
+        requires { IsReady self.old }
+        ensures ok { OnOk result (Runs self.old (piece at bytes.now ∷ []) [] self.new) }
+        ensures err { IfErr result (λ e. Fails e self.old (piece at bytes.now ∷ []) [] self.new) }
+        ensures codec { self.new.codec ≡ self.old.codec }
+        ensures lost { OnErr result (self.new.input.items ≡ []) }
+        ensures ready { IsReady self.new }
+    {
+        match self.run(bytes, at) {
+            Ok(()) => Ok(()),
+            Err(fault) => {
+                self.input.clear();
+                may_start();
+                Err(fault)
+            }
+        }
+    }
+
+    fn run(&mut self, bytes: &[u8], at: u64) -> Result<(), StateError>
+        requires { IsReady self.old }
+        ensures ok { OnOk result (Runs self.old (piece at bytes.now ∷ []) [] self.new) }
+        ensures err { IfErr result (λ e. Fails e self.old (piece at bytes.now ∷ []) [] self.new) }
+        ensures codec { self.new.codec ≡ self.old.codec }
+    {
+        let alloc = *self.input.allocator();
+        let Ok(piece) = Bytes::copy_from_slice(alloc, bytes) else {
+            return Err(StateError::OutOfMemory);
+        };
+        let steps = [Step {
+            at,
+            input: Input::Bytes(piece),
+        }];
+        drive(
+            alloc,
+            &mut self.state,
+            &mut self.codec,
+            &mut self.input,
+            &mut self.output,
+            &steps,
+        )
+    }
+
+    /// Keeps the limit of the ConnAcks among the events from this place on.
+    fn allow(&mut self, from: usize)
+        ensures { self.new ≡ record self.old { codec = allowed (drop from self.old.state.events) self.old.codec } }
+    {
+        let limit = self.codec.max_outgoing_size;
+        self.codec.max_outgoing_size = size_allowed(self.state.events(), from, limit);
+    }
+}
+
+/// A new session with an old one's limit on ids.
+fn renewed(alloc: Global, state: &MqttState) -> MqttState
+    ensures { result ≡ fresh state.now.core.limit state.now.core.manual_acks }
+{
+    let _last = state.last_pkid();
+    let limit = state.max_outgoing_inflight_upper_limit();
+    match MqttState::new(alloc, limit, state.manual_acks()) {
+        Ok(fresh) => fresh,
+        Err(_) => unreachable!(),
+    }
+}
+
+fn ask(
+    state: &mut MqttState,
+    codec: &Codec,
+    output: &mut BytesMut,
+    request: Request,
+    at: u64,
+) -> Result<(), StateError>
+    ensures { Goes result codec.now (out state.old request at) state.old output.old.items state.new output.new.items }
+{
+    let sent = state.handle_outgoing_packet(request, at);
+    if let Ok(reply) = &sent {
+        return answer(codec, output, reply);
+    }
+    match sent {
+        Ok(_answered) => Ok(()),
+        Err(fault) => Err(fault),
+    }
+}
+
+fn answer(codec: &Codec, output: &mut BytesMut, reply: &Option<Packet>) -> Result<(), StateError>
+    ensures { Replies result (reply_bytes codec.now reply.now) output.old.items output.new.items }
+{
+    match reply {
+        Some(packet) => encode(codec, output, packet),
+        None => Ok(()),
+    }
+}
+
+/// A law, which does nothing when it is called: two calls of a client, one after the other, of which the first
+/// left a run, are one call over the steps of both. Its premises are what the calls ensure.
+pub fn one_run()
+    // Where the second leaves a run, so do both: nothing is lost, and nothing sent twice.
+    ensures runs { (p q r : Client) (first second : List Step) (sent more : List ℕ)
+        → Runs p first sent q → q.codec ≡ p.codec → Runs q second more r
+        → Runs p (first ++ second) (sent ++ more) r }
+    // Where the second stops by a fault, so do both.
+    ensures stops { (p q r : Client) (first second : List Step) (sent more : List ℕ) (fault : Fault)
+        → Runs p first sent q → q.codec ≡ p.codec → Fails fault q second more r
+        → Fails fault p (first ++ second) (sent ++ more) r }
+{}
