@@ -139,8 +139,8 @@ fn limited(alloc: Global) -> Result<Client, StateError>
     ensures { IfOk result IsReady }
 {
     let mut client = new_client(alloc)?;
-    client.receive(&LIMITS[..9], 1)?;
-    client.receive(&LIMITS[9..], 2)?;
+    hear(&mut client, &LIMITS[..9])?;
+    hear(&mut client, &LIMITS[9..])?;
     Ok(client)
 }
 
@@ -230,8 +230,8 @@ fn begun(alloc: Global, qos: Option<QoS>) -> Result<Client, StateError>
 /// What a client sends in a flow, and how many ids are in use after it.
 fn play(alloc: Global, flow: &Flow) -> Result<(BytesMut, u16), StateError> {
     let mut client = begun(alloc, flow.qos)?;
-    client.receive(flow.pieces[0], 2)?;
-    client.receive(flow.pieces[1], 3)?;
+    hear(&mut client, flow.pieces[0])?;
+    hear(&mut client, flow.pieces[1])?;
     let inflight = client.state.inflight();
     Ok((client.output, inflight))
 }
@@ -274,35 +274,58 @@ fn bytes_that_were_sent_are_gone(rt: HostRuntime) -> Result<(), Fail> {
     Ok(())
 }
 
-/// That client, whose connection is lost while a part of the publish is sent and a part of its ack came, on a new
-/// connection.
+/// A part of the output is sent, and a part of the ack comes in.
+fn cut_short(client: &mut Client) -> Result<(), StateError>
+    requires { IsReady client.old }
+    ensures { IsReady client.new }
+{
+    client.sent(5);
+    client.receive(&ACK[..2], 2)
+}
+
+/// That client, whose connection is lost then, on a new one.
 fn opened_again(alloc: Global) -> Result<Client, StateError>
     ensures { IfOk result IsReady }
 {
-    let mut client = asked(alloc)?;
-    client.sent(5);
-    client.receive(&ACK[..2], 2)?;
     let options = settings_again(alloc)?;
+    let mut client = asked(alloc)?;
+    cut_short(&mut client)?;
     client.connect(&options)?;
     Ok(client)
 }
 
-/// That client once the broker has its session.
+/// The Connect is sent, and the ConnAck says that the broker has the session.
+fn take_up(client: &mut Client) -> Result<(), StateError>
+    requires { IsReady client.old }
+    ensures { IsReady client.new }
+{
+    client.sent(CONNECT_AGAIN.len());
+    client.receive(&PRESENT, 3)?;
+    client.resume(4)
+}
+
+/// That client once the session is taken up.
 fn taken_up(alloc: Global) -> Result<Client, StateError>
     ensures { IfOk result IsReady }
 {
     let mut client = opened_again(alloc)?;
-    client.sent(CONNECT_AGAIN.len());
-    client.receive(&PRESENT, 3)?;
-    client.resume(4)?;
+    take_up(&mut client)?;
     Ok(client)
+}
+
+/// A piece comes in.
+fn hear(client: &mut Client, piece: &[u8]) -> Result<(), StateError>
+    requires { IsReady client.old }
+    ensures { IsReady client.new }
+{
+    client.receive(piece, 5)
 }
 
 /// How many ids are in use before and after the ack.
 fn acked(alloc: Global) -> Result<(u16, u16), StateError> {
     let mut client = taken_up(alloc)?;
     let before = client.state.inflight();
-    client.receive(&ACK, 5)?;
+    hear(&mut client, &ACK)?;
     Ok((before, client.state.inflight()))
 }
 
@@ -324,49 +347,52 @@ fn number<T: Drop>(ended: Result<T, StateError>) -> u8 {
     }
 }
 
-/// The number of the fault of a clean before the event of a publish is taken, and the event.
-fn clean_at_once(alloc: Global) -> Result<(u8, Option<Event>), StateError> {
+/// The number of the fault of a clean.
+fn clean_number(client: &mut Client) -> u8 {
+    number(client.clean())
+}
+
+/// Whether the oldest event is that of the publish.
+fn is_told(client: &mut Client) -> bool {
+    client.next_event() == Some(Event::Outgoing(Outgoing::Publish(1)))
+}
+
+/// The number of the fault of a clean before the event of a publish is taken, whether that is the event, and the
+/// number of a clean then; how many ids are in use after it.
+fn cleaned(alloc: Global) -> Result<(u8, bool, u8, u16), StateError> {
     let mut client = asked(alloc)?;
-    let refused = number(client.clean());
-    Ok((refused, client.next_event()))
+    let early = clean_number(&mut client);
+    let told = is_told(&mut client);
+    let late = clean_number(&mut client);
+    Ok((early, told, late, client.state.inflight()))
 }
 
-/// What a clean gives back then, and the client.
-fn given_back(alloc: Global) -> Result<(Client, Option<Request>), StateError>
-    ensures { IfOk result (λ r. IsReady r.0) }
-{
-    let mut client = asked(alloc)?;
-    let _event = client.next_event();
-    let mut requests = client.clean()?;
-    Ok((client, requests.pop()))
+/// What a clean gives back, once the event is taken.
+fn given_back(client: &mut Client) -> Result<Vec<Request>, StateError> {
+    is_told(client);
+    client.clean()
 }
 
-/// What is in use and to be sent then.
-fn cleaned(alloc: Global) -> Result<(u16, usize), StateError> {
-    let (client, _request) = given_back(alloc)?;
-    Ok((client.state.inflight(), client.output().len()))
-}
-
-#[test]
-fn a_clean_gives_back_what_awaits_an_ack(rt: HostRuntime) -> Result<(), Fail> {
-    let (refused, event) = clean_at_once(rt.alloc())?;
-    assert_eq!(rt; refused, 1);
-    assert_eq!(rt; event, Some(Event::Outgoing(Outgoing::Publish(1))));
-    assert_eq!(rt; cleaned(rt.alloc())?, (0, 0));
-    Ok(())
-}
-
-/// What is sent once the publish is asked for again on a connection without the session.
+/// What is sent once the publish is asked for again on another connection.
 fn asked_again(alloc: Global) -> Result<BytesMut, StateError> {
-    let (mut client, request) = given_back(alloc)?;
-    if let Some(request) = request {
-        client.request(request, 2)?;
+    let mut client = asked(alloc)?;
+    let mut requests = given_back(&mut client)?;
+    match requests.pop() {
+        Some(request) => output_for(alloc, request),
+        None => Ok(BytesMut::new(alloc)),
     }
+}
+
+/// What a new client sends for a request.
+fn output_for(alloc: Global, request: Request) -> Result<BytesMut, StateError> {
+    let mut client = new_client(alloc)?;
+    client.request(request, 2)?;
     Ok(client.output)
 }
 
 #[test]
-fn what_is_given_back_is_asked_again(rt: HostRuntime) -> Result<(), Fail> {
+fn a_clean_gives_back_what_awaits_an_ack(rt: HostRuntime) -> Result<(), Fail> {
+    assert_eq!(rt; cleaned(rt.alloc())?, (1, true, 0, 0));
     let sent = asked_again(rt.alloc())?;
     assert_eq!(rt; sent.as_slice(), PUBLISH_AGAIN.as_slice());
     Ok(())
