@@ -39,7 +39,8 @@ warn_of_kit() {
         warn "rt is of '$found', and this is proved with '$wanted': take that kit if a proof fails here"
 }
 
-# A compiler that compiles what tests/refused_memory needs, which is hours later.
+# A compiler that compiles what tests/refused_memory needs, which is hours later. tests/c needs it too, and its sanitizer, and
+# is skipped without.
 need_cc() {
     local cc=${CC:-cc} made
     if ! command -v "$cc" > /dev/null 2>&1; then

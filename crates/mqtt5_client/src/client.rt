@@ -13,16 +13,15 @@ ghost use Rattle.mqtt5_drive.specs.Run.{piece, reply_bytes};
 ghost use Rattle.mqtt5_drive.specs.Ways.{Goes, Replies};
 ghost use Rattle.mqtt5_client.specs.declared.client.Client.{Client};
 ghost use Rattle.mqtt5_client.specs.Client.{IsReady, asking, Runs, Fails, no_limits, given_back};
-ghost use Rattle.mqtt5_client.specs.Allowed.{allowed};
+ghost use Rattle.mqtt5_drive.specs.Limit.{allowed};
 ghost use Rattle.mqtt5_client.specs.Connecting.{connect_packet, opened, IsRefused};
 ghost use Rattle.mqtt5_client.specs.Again.{SendsAgain, Refuses};
 
 use crate::again::{encode, frames, given_back};
-use crate::allowed::size_allowed;
 use crate::connecting::{connect_frame, incoming_limit};
 use bytes::{Bytes, BytesMut};
 use mqtt5_codec::{Codec, Packet};
-use mqtt5_drive::{Input, Step, drive, may_start};
+use mqtt5_drive::{Input, Step, drive, may_start, take_limit};
 use mqtt5_options::MqttOptions;
 use mqtt5_session::{Event, MqttState, Request, StateError};
 use std::alloc::Global;
@@ -251,8 +250,7 @@ impl Client {
     fn allow(&mut self, from: usize)
         ensures { self.new ≡ record self.old { codec = allowed (drop from self.old.state.events) self.old.codec } }
     {
-        let limit = self.codec.max_outgoing_size;
-        self.codec.max_outgoing_size = size_allowed(self.state.events(), from, limit);
+        take_limit(&mut self.codec, self.state.events(), from);
     }
 }
 

@@ -2,7 +2,6 @@
 #![tactic(auto)]
 
 mod again;
-mod allowed;
 mod client;
 mod connecting;
 mod numbers;

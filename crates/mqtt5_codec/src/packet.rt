@@ -80,6 +80,7 @@ impl Packet {
         }
     }
 
+    #[inline(always)]
     fn write_frame(&self, buffer: &mut BytesMut) -> Result<usize, Error>
         ensures { Writes length (packet_writing self.now) result buffer.old.items buffer.new.items }
     {
@@ -105,6 +106,7 @@ impl Packet {
     /// Appends the packet and answers its length. E20 where that is over the limit, with its size or the
     /// greatest `u32`; else the packet type's own: E11 of what is too long, then E9 of a Publish, E10 of a
     /// Subscribe, E16 of a SubAck or UnsubAck, or E1 of a ConnAck; E21. The buffer is then unchanged.
+    #[inline(always)]
     pub fn write(&self, buffer: &mut BytesMut, max_size: Option<u32>) -> Result<usize, Error>
         ensures { Writes length (writing_under max_size self.now) result buffer.old.items buffer.new.items }
     {

@@ -1,5 +1,5 @@
 -- A run over two lists.
-use Rattle.std.proofs.Common.{◌≡◌, ℕ, List, [], ◌∷◌, ◌++◌, Option, Result, Ok, Err, refl, sym, ap, ◌∙◌, subst, inl, inr, ◌⊎◌, ⊎_elim, append_assoc}
+use Rattle.std.proofs.Common.{◌≡◌, ℕ, List, [], ◌∷◌, ◌++◌, Option, Result, Ok, Err, refl, sym, ap, ◌∙◌, subst, inl, inr, ⊎_elim, append_assoc}
 use Rattle.mqtt5_base.specs.Front.{Front, Bad, More, Whole}
 use Rattle.mqtt5_base.specs.FrontAt.{front}
 use Rattle.mqtt5_base.specs.declared.error.Error.{Error}

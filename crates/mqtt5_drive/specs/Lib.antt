@@ -2,3 +2,4 @@ pub mod Course
 pub mod Run
 pub mod Calls
 pub mod Ways
+pub mod Limit

@@ -1,8 +1,10 @@
 //! The loop over the session: bytes in pieces and requests go in, frames and events come out.
 #![tactic(auto)]
 
+mod limit;
 mod run;
 #[cfg(test)]
 mod tests;
 
+pub use limit::take_limit;
 pub use run::{Input, Step, calls_law, cutting, drive, may_start, twice};

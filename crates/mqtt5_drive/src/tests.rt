@@ -2,6 +2,7 @@
 
 ghost use Rattle.std.specs.Prelude.{◌≤◌};
 
+use crate::limit::take_limit;
 use crate::run::{Input, Step, cutting, drive, may_start, twice};
 use bytes::{Bytes, BytesMut};
 use mqtt5_base::{Error, QoS, front_laws};
@@ -214,5 +215,36 @@ fn a_publish_and_its_release_at_each_cut(rt: HostRuntime) -> Result<(), Fail> {
     }
     let output = byte_by_byte(rt.alloc())?;
     assert_eq!(rt; output.as_slice(), ANSWERS.as_slice());
+    Ok(())
+}
+
+/// What the broker sends, and the limit after it where it was 7: a ConnAck with a maximum packet size of 10, one
+/// without (section 3.2), and a publish.
+const LIMITS: [(&[u8], Option<u32>); 3] = [
+    (
+        &[0x20, 0x08, 0x00, 0x00, 0x05, 0x27, 0x00, 0x00, 0x00, 0x0A],
+        Some(10),
+    ),
+    (&[0x20, 0x03, 0x00, 0x00, 0x00], None),
+    (&[0x30, 0x04, 0x00, 0x01, 0x61, 0x00], Some(7)),
+];
+
+fn limit_after(alloc: Global, bytes: &'static [u8]) -> Result<Option<u32>, StateError> {
+    let mut state = MqttState::new(alloc, 10, false)?;
+    let mut output = BytesMut::new(alloc);
+    run(alloc, &mut state, NO_LIMITS, &mut output, &[piece(bytes)])?;
+    let mut codec = Codec {
+        max_incoming_size: None,
+        max_outgoing_size: Some(7),
+    };
+    take_limit(&mut codec, state.events(), 0);
+    Ok(codec.max_outgoing_size)
+}
+
+#[test]
+fn a_connack_sets_the_limit(rt: HostRuntime) -> Result<(), Fail> {
+    for (bytes, limit) in LIMITS.iter() {
+        assert_eq!(rt; limit_after(rt.alloc(), bytes)?, *limit);
+    }
     Ok(())
 }

@@ -1,11 +1,11 @@
 //! What the packets share that are an identifier, properties and a list.
 
-ghost use Rattle.std.specs.Prelude.{◌≡◌, Ok, true, map, option_map, length, min};
+ghost use Rattle.std.specs.Prelude.{◌≡◌, Ok, true, cond, Some, None, map, option_map, length, min};
 ghost use Rattle.mqtt5_base.specs.Puts.{Writes};
 ghost use Rattle.mqtt5_base.specs.Layout.{frame_of};
 ghost use Rattle.mqtt5_subs.specs.ListBody.{list_body, list_body_fits};
 
-use crate::listed::{Listed, list_fits, list_len, put_list};
+use crate::listed::{Listed, list_len, put_list, writable_list_len};
 use bytes::BytesMut;
 use mqtt5_base::{
     Error, FieldValue, PropertySet, Sequence, block_fits, block_len, frame_size, put_block,
@@ -20,14 +20,22 @@ fn body_len<P: PropertySet, T: Listed>(properties: &Option<P>, items: &Sequence<
         .saturating_add(2)
 }
 
-/// Whether the properties, the items and the body's length can be written.
-pub(crate) fn body_fits<P: PropertySet, T: Listed>(
+/// The length of the body, where the properties, the items and that length can be written.
+pub(crate) fn writable_len<P: PropertySet, T: Listed>(
     properties: &Option<P>,
     items: &Sequence<T>,
-) -> bool
-    ensures { result ≡ list_body_fits P.table T.first T.others (option_map P.found properties.now) (map T.written items.now) }
+) -> Option<usize>
+    ensures { result ≡ cond (list_body_fits P.table T.first T.others (option_map P.found properties.now) (map T.written items.now)) (Some (length (list_body P.table T.first T.others 0 (option_map P.found properties.now) (map T.written items.now)))) None }
 {
-    block_fits(properties) && list_fits(items) && body_len(properties, items).fits()
+    let items_len = writable_list_len(items)?;
+    let len = block_len(properties)
+        .saturating_add(items_len)
+        .saturating_add(2);
+    if block_fits(properties) && len.fits() {
+        Some(len)
+    } else {
+        None
+    }
 }
 
 /// How many bytes the packet takes, or the greatest `usize` where they are more.
@@ -40,18 +48,20 @@ pub(crate) fn listed_size<P: PropertySet, T: Listed>(
     frame_size(body_len(properties, items))
 }
 
-/// Appends the packet and answers its length. E21; then the buffer is unchanged.
+/// Appends the packet, whose body has so many bytes, and answers its length. E21; then the buffer is unchanged.
 pub(crate) fn write_listed<P: PropertySet, T: Listed>(
     first: u8,
     pkid: u16,
     properties: &Option<P>,
     items: &Sequence<T>,
+    body_len: usize,
     out: &mut BytesMut,
 ) -> Result<usize, Error>
-    requires { list_body_fits P.table T.first T.others (option_map P.found properties.now) (map T.written items.now) ≡ true }
+    requires len { body_len ≡ length (list_body P.table T.first T.others 0 (option_map P.found properties.now) (map T.written items.now)) }
+    requires fits { list_body_fits P.table T.first T.others (option_map P.found properties.now) (map T.written items.now) ≡ true }
     ensures { Writes length (Ok (frame_of first (list_body P.table T.first T.others pkid (option_map P.found properties.now) (map T.written items.now)))) result out.old.items out.new.items }
 {
-    let size = start_frame(first, body_len(properties, items), out)?;
+    let size = start_frame(first, body_len, out)?;
     pkid.put_field(out);
     put_block(properties, out);
     put_list(items, out);

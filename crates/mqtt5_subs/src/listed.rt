@@ -1,6 +1,6 @@
 //! Lists that go on to the end of their packet.
 
-ghost use Rattle.std.specs.Prelude.{◌≡◌, ◌≤◌, List, [], map, true, length, min, IfOk};
+ghost use Rattle.std.specs.Prelude.{◌≡◌, ◌≤◌, List, [], Some, None, cond, map, true, length, min, IfOk};
 ghost use Rattle.mqtt5_base.specs.Grammar.{Field, Step};
 ghost use Rattle.mqtt5_base.specs.Fields.{repeated};
 ghost use Rattle.mqtt5_base.specs.Answers.{Gives};
@@ -60,16 +60,18 @@ pub(crate) fn read_list<T: Listed>(alloc: Global, mut stream: Bytes) -> Result<S
     Ok(items)
 }
 
-/// Whether each item can be written.
-pub(crate) fn list_fits<T: Listed>(items: &Sequence<T>) -> bool
-    ensures { result ≡ listed_fit (repeated T.first T.others) (map T.written items.now) }
+/// How many bytes the items take, or the greatest `usize` where they are more; None where one can't be written.
+pub(crate) fn writable_list_len<T: Listed>(items: &Sequence<T>) -> Option<usize>
+    ensures { result ≡ cond (listed_fit (repeated T.first T.others) (map T.written items.now)) (Some (min (length (listed_bytes (repeated T.first T.others) (map T.written items.now))) usize.MAX)) None }
 {
+    let mut len: usize = 0;
     for item in items.as_slice() {
         if !item.item_fits() {
-            return false;
+            return None;
         }
+        len = len.saturating_add(item.item_len());
     }
-    true
+    Some(len)
 }
 
 /// How many bytes the items take, or the greatest `usize` where they are more.

@@ -9,7 +9,7 @@ ghost use Rattle.mqtt5_base.specs.Layout.{layout, writing, content_of_packet};
 ghost use Rattle.mqtt5_subs.specs.Rows.{suback_codes, suback_row};
 ghost use Rattle.mqtt5_subs.specs.SubAcks.{suback_code, suback_item, suback_packet, suback_settled};
 
-use crate::list_body::{body_fits, listed_size, write_listed};
+use crate::list_body::{listed_size, writable_len, write_listed};
 use crate::listed::{Listed, read_list};
 use bytes::{Bytes, BytesMut};
 use mqtt5_base::{Error, FieldValue, FixedHeader, QoS, Sequence, read_block, read_u8, read_u16};
@@ -160,9 +160,9 @@ impl SubAck {
     pub fn write(&self, buffer: &mut BytesMut) -> Result<usize, Error>
         ensures { Writes length (writing suback_row (suback_packet self.now)) result buffer.old.items buffer.new.items }
     {
-        if !body_fits(&self.properties, &self.return_codes) {
+        let Some(len) = writable_len(&self.properties, &self.return_codes) else {
             return Err(Error::PayloadTooLong);
-        }
+        };
         if self.return_codes.is_empty() {
             return Err(Error::MalformedPacket);
         }
@@ -171,6 +171,7 @@ impl SubAck {
             self.pkid,
             &self.properties,
             &self.return_codes,
+            len,
             buffer,
         )
     }

@@ -10,7 +10,7 @@ ghost use Rattle.mqtt5_subs.specs.Rows.{subscribe_table, subscribe_row};
 ghost use Rattle.mqtt5_subs.specs.Subscribes.{subscribe_found, subscribe_packet};
 
 use crate::filter::Filter;
-use crate::list_body::{body_fits, listed_size, write_listed};
+use crate::list_body::{listed_size, writable_len, write_listed};
 use crate::listed::read_list;
 use bytes::{Bytes, BytesMut};
 use mqtt5_base::{
@@ -170,13 +170,20 @@ impl Subscribe {
     pub fn write(&self, buffer: &mut BytesMut) -> Result<usize, Error>
         ensures { Writes length (writing subscribe_row (subscribe_packet self.now)) result buffer.old.items buffer.new.items }
     {
-        if !body_fits(&self.properties, &self.filters) {
+        let Some(len) = writable_len(&self.properties, &self.filters) else {
             return Err(Error::PayloadTooLong);
-        }
+        };
         if self.filters.is_empty() {
             return Err(Error::EmptySubscription);
         }
-        write_listed(0x82, self.pkid, &self.properties, &self.filters, buffer)
+        write_listed(
+            0x82,
+            self.pkid,
+            &self.properties,
+            &self.filters,
+            len,
+            buffer,
+        )
     }
 
     /// How many bytes it takes, or the greatest `usize` where they are more. Takes no memory.

@@ -9,7 +9,7 @@ ghost use Rattle.mqtt5_base.specs.Layout.{layout, writing, content_of_packet};
 ghost use Rattle.mqtt5_subs.specs.Rows.{unsuback_codes, unsuback_row};
 ghost use Rattle.mqtt5_subs.specs.UnsubAcks.{unsuback_code, unsuback_item, unsuback_packet};
 
-use crate::list_body::{body_fits, listed_size, write_listed};
+use crate::list_body::{listed_size, writable_len, write_listed};
 use crate::listed::{Listed, read_list};
 use bytes::{Bytes, BytesMut};
 use mqtt5_base::{Error, FieldValue, FixedHeader, Sequence, read_block, read_u8, read_u16};
@@ -141,13 +141,20 @@ impl UnsubAck {
     pub fn write(&self, buffer: &mut BytesMut) -> Result<usize, Error>
         ensures { Writes length (writing unsuback_row (unsuback_packet self.now)) result buffer.old.items buffer.new.items }
     {
-        if !body_fits(&self.properties, &self.reasons) {
+        let Some(len) = writable_len(&self.properties, &self.reasons) else {
             return Err(Error::PayloadTooLong);
-        }
+        };
         if self.reasons.is_empty() {
             return Err(Error::MalformedPacket);
         }
-        write_listed(0xB0, self.pkid, &self.properties, &self.reasons, buffer)
+        write_listed(
+            0xB0,
+            self.pkid,
+            &self.properties,
+            &self.reasons,
+            len,
+            buffer,
+        )
     }
 
     /// How many bytes it takes, or the greatest `usize` where they are more. Takes no memory.

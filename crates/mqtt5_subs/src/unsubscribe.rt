@@ -10,7 +10,7 @@ ghost use Rattle.mqtt5_base.specs.Layout.{layout, writing, content_of_packet};
 ghost use Rattle.mqtt5_subs.specs.Rows.{unsubscribe_table, unsubscribe_row};
 ghost use Rattle.mqtt5_subs.specs.Unsubscribes.{path_written, unsubscribe_found, unsubscribe_packet};
 
-use crate::list_body::{body_fits, listed_size, write_listed};
+use crate::list_body::{listed_size, writable_len, write_listed};
 use crate::listed::{Listed, read_list};
 use bytes::{Bytes, BytesMut};
 use mqtt5_base::{
@@ -164,10 +164,17 @@ impl Unsubscribe {
     pub fn write(&self, buffer: &mut BytesMut) -> Result<usize, Error>
         ensures { Writes length (writing unsubscribe_row (unsubscribe_packet self.now)) result buffer.old.items buffer.new.items }
     {
-        if !body_fits(&self.properties, &self.filters) {
+        let Some(len) = writable_len(&self.properties, &self.filters) else {
             return Err(Error::PayloadTooLong);
-        }
-        write_listed(0xA2, self.pkid, &self.properties, &self.filters, buffer)
+        };
+        write_listed(
+            0xA2,
+            self.pkid,
+            &self.properties,
+            &self.filters,
+            len,
+            buffer,
+        )
     }
 
     /// How many bytes it takes, or the greatest `usize` where they are more. Takes no memory.

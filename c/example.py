@@ -1,0 +1,138 @@
+"""A client over TCP, by ctypes: it subscribes, publishes at QoS 0, 1 and 2, loses its connection in the middle of a
+publish and takes the session up on a new one. Usage: example.py LIBRARY HOST PORT"""
+
+import ctypes as c
+import socket
+import sys
+import time
+
+
+class Handle(c.Structure):
+    """All zero is one without a client. Never copied."""
+
+    _fields_ = [("live", c.c_bool), ("client", c.c_void_p)]
+
+
+class Event(c.Structure):
+    _fields_ = (
+        [(name, c.c_uint32) for name in ("kind", "packet", "pkid", "code", "qos")]
+        + [(name, c.c_bool) for name in ("dup", "retain", "session_present")]
+        + [(name, c.c_size_t) for name in ("topic_len", "payload_len")]
+    )
+
+
+BYTES = [c.c_char_p, c.c_size_t]
+TIME = [c.c_uint64]
+CALLS = {
+    "new": [c.c_uint16, c.c_bool],
+    "free": [],
+    "connect": BYTES + [c.c_uint16, c.c_bool, c.c_uint32],
+    "receive": BYTES + TIME,
+    "output": BYTES + [c.POINTER(c.c_size_t)],
+    "sent": [c.c_size_t],
+    "publish": BYTES + BYTES + [c.c_uint8, c.c_bool] + TIME,
+    "subscribe": BYTES + [c.c_uint8] + TIME,
+    "disconnect": TIME,
+    "next_event": [c.POINTER(Event)] + BYTES + BYTES,
+    "resume": TIME,
+}
+
+
+class Client:
+    """The library's calls by their names; one that is refused raises its number."""
+
+    def __init__(self, library):
+        self.handle = Handle()
+        self.calls = {}
+        for name, parameters in CALLS.items():
+            call = getattr(library, "mqtt5_client_" + name)
+            call.argtypes, call.restype = [c.POINTER(Handle)] + parameters, c.c_uint32
+            self.calls[name] = call
+
+    def __getattr__(self, name):
+        def checked(*arguments):
+            code = self.calls[name](c.byref(self.handle), *arguments)
+            if code:
+                raise RuntimeError(f"{name}: {code}")
+
+        return checked
+
+
+def now():
+    return int(time.monotonic())
+
+
+class Connection:
+    def __init__(self, client, address):
+        self.client, self.address = client, address
+        self.socket, self.came, self.acked, self.connected = None, [], 0, None
+
+    def flush(self):
+        room, count = c.create_string_buffer(1024), c.c_size_t()
+        while True:
+            self.client.output(room, len(room), c.byref(count))
+            if not count.value:
+                return
+            self.client.sent(self.socket.send(room.raw[: count.value]))
+
+    def take(self):
+        piece = self.socket.recv(1024)
+        if not piece:
+            raise RuntimeError("the broker is gone")
+        self.client.receive(piece, len(piece), now())
+        event, topic, payload = Event(), c.create_string_buffer(256), c.create_string_buffer(1024)
+        while True:
+            self.client.next_event(c.byref(event), topic, len(topic), payload, len(payload))
+            if event.kind == 0:
+                return
+            if event.kind != 1:
+                continue
+            if event.packet == 2:
+                if event.code:
+                    raise RuntimeError(f"the broker refuses: {event.code}")
+                self.connected = event.session_present
+            elif event.packet == 3:
+                self.came.append((topic.raw[: event.topic_len], payload.raw[: event.payload_len], event.qos))
+                print("came:", *self.came[-1])
+            elif event.packet in (4, 7):
+                self.acked += 1
+
+    def begin(self, clean_start):
+        self.socket, self.connected = socket.create_connection(self.address, 5), None
+        self.client.connect(b"mqtt5 in Python", 15, 60, clean_start, 3600)
+        self.flush()
+        while self.connected is None:
+            self.take()
+        print("connected,", "the broker has the session" if self.connected else "a new session")
+        if self.connected:
+            self.client.resume(now())
+        self.flush()
+
+    def wait(self, came, acked):
+        while len(self.came) < came or self.acked < acked:
+            self.flush()
+            self.take()
+
+
+def main(library, host, port):
+    client = Client(c.CDLL(library))
+    connection = Connection(client, (host, int(port)))
+    client.new(10, False)
+    connection.begin(True)
+    client.subscribe(b"mqtt5/#", 7, 2, now())
+    for qos, payload in enumerate([b"at most once", b"at least once", b"exactly once"]):
+        client.publish(b"mqtt5/python", 12, payload, len(payload), qos, False, now())
+    connection.wait(3, 2)
+    # The connection is cut before this one is sent.
+    client.publish(b"mqtt5/python", 12, b"after a cut", 11, 2, False, now())
+    connection.socket.close()
+    connection.begin(False)
+    connection.wait(4, 3)
+    client.disconnect(now())
+    connection.flush()
+    connection.socket.close()
+    client.free()
+    print("done")
+
+
+main(*sys.argv[1:])

@@ -1,0 +1,120 @@
+/* An MQTT 5.0 client without sockets and without a clock: bytes that came in and requests go in, bytes to send and
+   events come out. docs/C.md says how it is linked and what the caller owes. */
+#ifndef MQTT5_H
+#define MQTT5_H
+
+#include <stdbool.h>
+#include <stddef.h>
+#include <stdint.h>
+
+#ifdef __cplusplus
+extern "C" {
+#endif
+
+/* What every call answers. 1 to 12 are the session's refusals S1 to S12, of which 7 (a frame that can't be read, a
+   packet that can't be written) is told as 100 + n of E1 to E21, which says why: docs/SESSION.md and docs/DEFINITIONS.md
+   name them. */
+enum {
+    MQTT5_DONE = 0,
+    MQTT5_OUT_OF_MEMORY = 12,
+    /* The handle has no client. */
+    MQTT5_NO_CLIENT = 200,
+    /* A text isn't UTF-8, or a number is out of range. The handle is as before. */
+    MQTT5_BAD_ARGUMENT = 201,
+    /* mqtt5_client_new of a handle that has a client, which stays. */
+    MQTT5_HAS_CLIENT = 202,
+    /* mqtt5_client_next_event: a buffer is too small, and the event stays. */
+    MQTT5_SMALL_BUFFER = 203
+};
+
+/* A handle. All zero is one without a client, and so it must start: mqtt5_client h = {0}. It is never copied and never
+   written to, and goes to one call at a time. A pointer to bytes is never null, not even of no bytes. The moment `at` is
+   a number of seconds, or of another unit. */
+typedef struct {
+    bool live;
+    void *client;
+} mqtt5_client;
+
+/* An event as numbers; what it hasn't is 0. */
+typedef struct {
+    /* 0: there is none; 1: a packet came; 2: one was answered to send; 3: a publish waits until its packet identifier
+       is free. */
+    uint32_t kind;
+    /* The packet's type (MQTT 5.0 section 2.1.2), as 3 of a Publish. */
+    uint32_t packet;
+    uint32_t pkid;
+    /* The reason code of a ConnAck, a Disconnect, a PubAck or a PubRec, or of the first filter of a SubAck or an
+       UnsubAck. */
+    uint32_t code;
+    /* Of a Publish that came: its QoS, whether it is sent again, and whether the broker had kept it. */
+    uint32_t qos;
+    bool dup;
+    bool retain;
+    /* Of a ConnAck, whether the broker has the session: then call mqtt5_client_resume. */
+    bool session_present;
+    /* Of a Publish that came, how many bytes its topic and its payload have. */
+    size_t topic_len;
+    size_t payload_len;
+} mqtt5_event;
+
+/* Makes a client in an empty handle. `limit`, at least 1, is the greatest packet identifier, and so the most publishes
+   without an ack at a time. With `manual_acks` the program sends the acks of what comes in. */
+uint32_t mqtt5_client_new(mqtt5_client *h, uint16_t limit, bool manual_acks);
+
+/* Lets the client go, with all that it holds; the handle is empty again. */
+uint32_t mqtt5_client_free(mqtt5_client *h);
+
+/* Begins a connection: the output is the Connect alone, and what came in of an earlier connection is forgotten.
+   `keep_alive` is the longest time in seconds without a packet from the client, at least 5; after `session_expiry`
+   seconds without a connection the broker forgets the session. For a connection with clean start call mqtt5_client_clean
+   before. After a refusal the client is as before. */
+uint32_t mqtt5_client_connect(mqtt5_client *h, const uint8_t *client_id, size_t client_id_len, uint16_t keep_alive,
+                              bool clean_start, uint32_t session_expiry);
+
+/* Takes a piece of the bytes that came in, cut anywhere. After a refusal the connection must be closed. */
+uint32_t mqtt5_client_receive(mqtt5_client *h, const uint8_t *bytes, size_t len, uint64_t at);
+
+/* Copies the first bytes of what is to be sent, as many as fit, and tells how many. They stay until mqtt5_client_sent. */
+uint32_t mqtt5_client_output(mqtt5_client *h, uint8_t *buffer, size_t buffer_len, size_t *count);
+
+/* The first `count` bytes of the output were sent; all of it where it has fewer. */
+uint32_t mqtt5_client_sent(mqtt5_client *h, size_t count);
+
+/* Asks for a publish of QoS 0, 1 or 2. */
+uint32_t mqtt5_client_publish(mqtt5_client *h, const uint8_t *topic, size_t topic_len, const uint8_t *payload,
+                              size_t payload_len, uint8_t qos, bool retain, uint64_t at);
+
+/* Asks for a subscription to one topic filter, of this QoS at most. */
+uint32_t mqtt5_client_subscribe(mqtt5_client *h, const uint8_t *filter, size_t filter_len, uint8_t qos, uint64_t at);
+
+/* Asks for the end of a subscription. */
+uint32_t mqtt5_client_unsubscribe(mqtt5_client *h, const uint8_t *filter, size_t filter_len, uint64_t at);
+
+/* With manual acks: answers a publish that came, of QoS 1 by a PubAck and of QoS 2 by a PubRec. */
+uint32_t mqtt5_client_puback(mqtt5_client *h, uint16_t pkid, uint64_t at);
+uint32_t mqtt5_client_pubrec(mqtt5_client *h, uint16_t pkid, uint64_t at);
+
+/* Asks for a ping, which is due where nothing was sent for the keep alive. 3: the last one isn't answered, so the broker
+   is gone. */
+uint32_t mqtt5_client_ping(mqtt5_client *h, uint64_t at);
+
+/* Asks for a Disconnect, which ends the connection. */
+uint32_t mqtt5_client_disconnect(mqtt5_client *h, uint64_t at);
+
+/* Tells of the oldest event, copies topic and payload of a Publish that came, and takes the event out. */
+uint32_t mqtt5_client_next_event(mqtt5_client *h, mqtt5_event *event, uint8_t *topic, size_t topic_len,
+                                 uint8_t *payload, size_t payload_len);
+
+/* After a cut, once the ConnAck's event says that the broker has the session: all that awaits an ack is sent again. After
+   a refusal the output is as before, and the call may be made again. */
+uint32_t mqtt5_client_resume(mqtt5_client *h, uint64_t at);
+
+/* Ends the session: what awaits an ack is let go, and `count` tells how many requests that were. 1: an event isn't taken
+   out yet. After a refusal the client is as before. */
+uint32_t mqtt5_client_clean(mqtt5_client *h, size_t *count);
+
+#ifdef __cplusplus
+}
+#endif
+
+#endif

@@ -1,0 +1,17 @@
+use Rattle.std.proofs.Common.{[], ◌∷◌, None, ap, ◌∙◌}
+use Rattle.mqtt5_subs.specs.declared.filter.Filter.{Filter}
+use Rattle.mqtt5_subs.specs.declared.subscribe.Subscribe.{Subscribe}
+use Rattle.mqtt5_held.specs.declared.event.Request.TheVariants as requests
+use Rattle.mqtt5_c.proofs.ask.subscribe_of.Goals as goal
+
+abbrev to_one : Filter → Subscribe
+to_one filter = record { pkid = 0; filters = filter ∷ []; properties = None }
+
+pub returns-clause-ok : goal.returns-clause-ok
+returns-clause-ok c = (
+  c.in-Some.quality,
+  c.in-Ok-new.filter.path,
+  c.in-Some.ensures.number,
+  c.in-Ok-new.ensures.ok.0 ∙ c.in-Ok.ensures.cases.0,
+  ap requests.Subscribe (c.in-Ok-new-2.ensures.ok ∙ ap to_one c.in-Ok-new.ensures.ok.1),
+)

@@ -1,0 +1,64 @@
+-- What a call leaves of a handle's client, and the number that it answers.
+use Rattle.std.specs.Prelude.{◌≡◌, ℕ, List, [], ◌∷◌, Option, None, Some, IsOk, IfErr, OnOk, OnErr, drop, length, Bool}
+use Rattle.mqtt5_held.specs.declared.error.StateError.{StateError}
+use Rattle.mqtt5_held.specs.declared.event.Request.{Request}
+use Rattle.mqtt5_drive.specs.Run.{piece}
+use Rattle.mqtt5_client.specs.declared.client.Client.{Client}
+use Rattle.mqtt5_session.specs.Session.{fresh}
+use Rattle.mqtt5_client.specs.Client.{asking, Runs, Fails, no_limits}
+use Rattle.mqtt5_drive.specs.Limit.{allowed}
+use Rattle.mqtt5_client.specs.Again.{SendsAgain, Refuses}
+use Rattle.mqtt5_c.specs.Numbers.{Outcome, code_of, no_client}
+
+-- Without a client a call is answered by 200, and there is still none. Else there is one after it too, and the number is that of an
+-- outcome of which Does holds: of the client before, the outcome and the client after.
+pub record Called (Does : Client → Outcome → Client → Type 0) (before : Option Client) (code : ℕ) (after : Option Client) : Type 0 where
+  pub none : before ≡ None → (code ≡ no_client) × (after ≡ None)
+  pub one : (old : Client) → before ≡ Some old → (new : Client) × (outcome : Outcome) × (after ≡ Some new) × (code ≡ code_of outcome) × Does old outcome new
+
+-- Bytes came in: session, input and output are the run's (MQTT 5.0 section 4.2). After a fault no input is left. The limit on what is
+-- sent is that of the ConnAcks among the new events (3.2.2.3.6).
+abbrev pub Receives : List ℕ → ℕ → Client → Outcome → Client → Type 0
+Receives bytes at old outcome new =
+    OnOk outcome (Runs old (piece at bytes ∷ []) [] new)
+    × IfErr outcome (λ e. Fails e old (piece at bytes ∷ []) [] new)
+    × OnErr outcome (new.input.items ≡ [])
+    × (new.codec ≡ allowed (drop (length old.state.events) new.state.events) old.codec)
+
+-- a request: session and output are the run's, and the input waits as before
+abbrev pub Asks : Request → ℕ → Client → Outcome → Client → Type 0
+Asks request at old outcome new =
+    OnOk outcome (Runs old (asking at request ∷ []) [] new)
+    × IfErr outcome (λ e. Fails e old (asking at request ∷ []) [] new)
+    × ((new.input.items ≡ old.input.items) × (new.codec ≡ old.codec))
+
+-- so many bytes of the output were sent: they are gone, and nothing else is
+abbrev pub Sends : ℕ → Client → Outcome → Client → Type 0
+Sends count old outcome new =
+    IsOk outcome × (new.output.items ≡ drop count old.output.items)
+    × ((new.state ≡ old.state) × (new.codec ≡ old.codec) × (new.input.items ≡ old.input.items))
+
+-- the session is taken up on a new connection (4.4): all that awaits an ack is sent again, or nothing is
+abbrev pub Resumes : ℕ → Client → Outcome → Client → Type 0
+Resumes at old outcome new =
+    OnOk outcome (SendsAgain old at new)
+    × IfErr outcome (λ e. Refuses e old at new)
+    × OnErr outcome (new.output.items ≡ old.output.items)
+    × ((new.input.items ≡ old.input.items) × (new.codec ≡ old.codec))
+
+-- nothing is changed, and it is always done
+abbrev pub Looks : Client → Outcome → Client → Type 0
+Looks old outcome new = IsOk outcome × (new ≡ old)
+
+-- a client in which nothing happened
+abbrev pub IsNew : ℕ → Bool → Client → Type 0
+IsNew limit manual_acks c =
+    (c.state ≡ fresh limit manual_acks) × (c.codec ≡ no_limits) × (c.input.items ≡ []) × (c.output.items ≡ [])
+
+-- the session ends: the client is as a new one, with its limits on packets; or it is as before
+abbrev pub Cleans : Client → Outcome → Client → Type 0
+Cleans old outcome new =
+    OnOk outcome (new.state ≡ fresh old.state.core.limit old.state.core.manual_acks)
+    × OnOk outcome ((new.input.items ≡ []) × (new.output.items ≡ []))
+    × (new.codec ≡ old.codec)
+    × OnErr outcome (new ≡ old)

@@ -1,0 +1,194 @@
+//! Calls that ask the client for a packet.
+
+ghost use Rattle.std.specs.Prelude.{◌≡◌, IfOk, IfErr};
+ghost use Rattle.std.specs.Str.{IsUtf8};
+ghost use Rattle.mqtt5_held.specs.declared.event.Request.TheVariants as requests;
+ghost use Rattle.mqtt5_c.specs.Asked.{IsBad, IsPublish, IsSubscribe, IsUnsubscribe, puback_of, pubrec_of, Asked, IsDeclined};
+ghost use Rattle.mqtt5_c.specs.Calls.{Called, Asks};
+ghost use Rattle.mqtt5_c.specs.Handles.{IsKept};
+
+use crate::handle::{Handle, put, take};
+use crate::number::{BAD_ARGUMENT, NO_CLIENT, OUT_OF_MEMORY, code_of};
+use bytes::Bytes;
+use mqtt5_base::qos;
+use mqtt5_flow::{PubAck, PubRec, Publish};
+use mqtt5_session::Request;
+use mqtt5_subs::{Filter, Subscribe, Unsubscribe};
+use std::alloc::Global;
+
+/// Asks the client.
+#[tactic(auto, using(crate::proofs::CallLemmas::called, crate::proofs::CallLemmas::uncalled))]
+fn ask(alloc: Global, h: &mut Handle, request: Request, at: u64) -> u32
+    requires { IsKept h.old }
+    ensures kept { IsKept h.new }
+    ensures answer { Called (Asks request at) h.old.spot.value result h.new.spot.value }
+{
+    let Some(mut client) = take(alloc, h) else {
+        drop(request);
+        return NO_CLIENT;
+    };
+    let outcome = client.request(request, at);
+    put(h, client);
+    code_of(&outcome)
+}
+
+/// The Publish of C's arguments.
+fn publish_of(
+    alloc: Global,
+    topic: &[u8],
+    payload: &[u8],
+    quality: u8,
+    retain: bool,
+) -> Result<Request, u32>
+    ensures ok { IfOk result (IsPublish topic.now payload.now quality retain) }
+    ensures err { IfErr result (IsDeclined (IsBad topic.now quality)) }
+{
+    let Ok(topic) = std::str::from_utf8(topic) else {
+        return Err(BAD_ARGUMENT);
+    };
+    let Some(quality) = qos(quality) else {
+        return Err(BAD_ARGUMENT);
+    };
+    let Ok(payload) = Bytes::copy_from_slice(alloc, payload) else {
+        return Err(OUT_OF_MEMORY);
+    };
+    let Ok(mut publish) = Publish::new(alloc, topic, quality, payload, None) else {
+        return Err(OUT_OF_MEMORY);
+    };
+    publish.retain = retain;
+    Ok(Request::Publish(publish))
+}
+
+/// The Subscribe of C's arguments.
+fn subscribe_of(alloc: Global, filter: &[u8], quality: u8) -> Result<Request, u32>
+    ensures ok { IfOk result (IsSubscribe filter.now quality) }
+    ensures err { IfErr result (IsDeclined (IsBad filter.now quality)) }
+{
+    let Ok(filter) = std::str::from_utf8(filter) else {
+        return Err(BAD_ARGUMENT);
+    };
+    let Some(quality) = qos(quality) else {
+        return Err(BAD_ARGUMENT);
+    };
+    let Ok(filter) = Filter::new(alloc, filter, quality) else {
+        return Err(OUT_OF_MEMORY);
+    };
+    let Ok(subscribe) = Subscribe::new(alloc, filter, None) else {
+        return Err(OUT_OF_MEMORY);
+    };
+    Ok(Request::Subscribe(subscribe))
+}
+
+/// The Unsubscribe of C's arguments.
+fn unsubscribe_of(alloc: Global, filter: &[u8]) -> Result<Request, u32>
+    ensures ok { IfOk result (IsUnsubscribe filter.now) }
+    ensures err { IfErr result (IsDeclined (¬ (IsUtf8 filter.now))) }
+{
+    let Ok(filter) = std::str::from_utf8(filter) else {
+        return Err(BAD_ARGUMENT);
+    };
+    let Ok(unsubscribe) = Unsubscribe::new(alloc, filter, None) else {
+        return Err(OUT_OF_MEMORY);
+    };
+    Ok(Request::Unsubscribe(unsubscribe))
+}
+
+/// Asks for a publish under the next packet identifier, at a moment. 0; 1, 7 and so on as of `Client::request`; 201 of
+/// a topic that isn't UTF-8 or a QoS above 2, and 12 where memory is refused before the client is asked: the handle is
+/// then as before.
+#[unsafe(no_mangle)]
+pub extern "C" fn mqtt5_client_publish(
+    alloc: Global,
+    h: &mut Handle,
+    topic: &[u8],
+    payload: &[u8],
+    qos: u8,
+    retain: bool,
+    at: u64,
+) -> u32
+    requires { IsKept h.old }
+    ensures kept { IsKept h.new }
+    ensures answer { Asked (IsBad topic.now qos) (IsPublish topic.now payload.now qos retain) at h.old.spot.value result h.new.spot.value }
+{
+    match publish_of(alloc, topic, payload, qos, retain) {
+        Ok(request) => ask(alloc, h, request, at),
+        Err(code) => code,
+    }
+}
+
+/// Asks for a subscription to one topic filter, at a moment. Answers as `mqtt5_client_publish`.
+#[unsafe(no_mangle)]
+pub extern "C" fn mqtt5_client_subscribe(
+    alloc: Global,
+    h: &mut Handle,
+    filter: &[u8],
+    qos: u8,
+    at: u64,
+) -> u32
+    requires { IsKept h.old }
+    ensures kept { IsKept h.new }
+    ensures answer { Asked (IsBad filter.now qos) (IsSubscribe filter.now qos) at h.old.spot.value result h.new.spot.value }
+{
+    match subscribe_of(alloc, filter, qos) {
+        Ok(request) => ask(alloc, h, request, at),
+        Err(code) => code,
+    }
+}
+
+/// Asks for the end of a subscription, at a moment. Answers as `mqtt5_client_publish`.
+#[unsafe(no_mangle)]
+pub extern "C" fn mqtt5_client_unsubscribe(
+    alloc: Global,
+    h: &mut Handle,
+    filter: &[u8],
+    at: u64,
+) -> u32
+    requires { IsKept h.old }
+    ensures kept { IsKept h.new }
+    ensures answer { Asked (¬ (IsUtf8 filter.now)) (IsUnsubscribe filter.now) at h.old.spot.value result h.new.spot.value }
+{
+    match unsubscribe_of(alloc, filter) {
+        Ok(request) => ask(alloc, h, request, at),
+        Err(code) => code,
+    }
+}
+
+/// Answers a publish of QoS 1 that came with this packet identifier, where the program sends the acks, at a moment.
+#[unsafe(no_mangle)]
+pub extern "C" fn mqtt5_client_puback(alloc: Global, h: &mut Handle, pkid: u16, at: u64) -> u32
+    requires { IsKept h.old }
+    ensures kept { IsKept h.new }
+    ensures answer { Called (Asks (puback_of pkid) at) h.old.spot.value result h.new.spot.value }
+{
+    ask(alloc, h, Request::PubAck(PubAck::new(pkid, None)), at)
+}
+
+/// Answers a publish of QoS 2 that came with this packet identifier, where the program sends the acks, at a moment.
+#[unsafe(no_mangle)]
+pub extern "C" fn mqtt5_client_pubrec(alloc: Global, h: &mut Handle, pkid: u16, at: u64) -> u32
+    requires { IsKept h.old }
+    ensures kept { IsKept h.new }
+    ensures answer { Called (Asks (pubrec_of pkid) at) h.old.spot.value result h.new.spot.value }
+{
+    ask(alloc, h, Request::PubRec(PubRec::new(pkid, None)), at)
+}
+
+/// Asks for a PingReq, at a moment. 3 where the last one isn't answered: the broker is gone.
+#[unsafe(no_mangle)]
+pub extern "C" fn mqtt5_client_ping(alloc: Global, h: &mut Handle, at: u64) -> u32
+    requires { IsKept h.old }
+    ensures kept { IsKept h.new }
+    ensures answer { Called (Asks requests.PingReq at) h.old.spot.value result h.new.spot.value }
+{
+    ask(alloc, h, Request::PingReq, at)
+}
+
+/// Asks for a Disconnect, which ends the connection, at a moment.
+#[unsafe(no_mangle)]
+pub extern "C" fn mqtt5_client_disconnect(alloc: Global, h: &mut Handle, at: u64) -> u32
+    requires { IsKept h.old }
+    ensures kept { IsKept h.new }
+    ensures answer { Called (Asks requests.Disconnect at) h.old.spot.value result h.new.spot.value }
+{
+    ask(alloc, h, Request::Disconnect, at)
+}

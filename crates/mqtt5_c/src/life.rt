@@ -1,0 +1,116 @@
+//! Calls that make a client, let it go and begin its connections.
+
+ghost use Rattle.std.specs.Prelude.{◌≡◌, ◌⊎◌, ◌<◌, [], None, Some, IsNone, IsSome, IfOk, IfErr, IfSome, length};
+ghost use Rattle.mqtt5_session.specs.Session.{fresh};
+ghost use Rattle.mqtt5_client.specs.Client.{IsReady, given_back};
+ghost use Rattle.mqtt5_c.specs.Calls.{Called, Cleans, IsNew, Resumes};
+ghost use Rattle.mqtt5_c.specs.Handles.{IsKept};
+ghost use Rattle.mqtt5_c.specs.Numbers.{no_client, has_client, bad_argument, out_of_memory};
+
+use crate::handle::{Handle, put, take};
+use crate::number::{BAD_ARGUMENT, HAS_CLIENT, NO_CLIENT, OUT_OF_MEMORY, code_of, fault_code};
+use mqtt5_client::Client;
+use std::alloc::Global;
+
+/// A client in a box.
+fn boxed(alloc: Global, limit: u16, manual_acks: bool) -> Option<Box<Client>>
+    requires { 0 < limit }
+    ensures new { IfSome result (λ b. IsNew limit manual_acks b.value) }
+    ensures ready { IfSome result (λ b. IsReady b.value) }
+{
+    let Ok(client) = Client::new(alloc, limit, manual_acks) else {
+        return None;
+    };
+    Box::new(alloc, client).ok()
+}
+
+/// Makes a client in an empty handle, without limits on packets. `limit`, at least 1, is the greatest packet
+/// identifier, and so the most publishes without an ack at a time; with `manual_acks` the program sends the acks. 0;
+/// 12 where memory is refused, 201 of limit 0, 202 where there is a client: then the handle is as before.
+#[unsafe(no_mangle)]
+pub extern "C" fn mqtt5_client_new(
+    alloc: Global,
+    h: &mut Handle,
+    limit: u16,
+    manual_acks: bool,
+) -> u32
+    requires { IsKept h.old }
+    ensures kept { IsKept h.new }
+    // A second client isn't made.
+    ensures full { IsSome h.old.spot.value → (result ≡ has_client) × (h.new.spot.value ≡ h.old.spot.value) }
+    ensures made { IsNone h.old.spot.value → 0 < limit → ((result ≡ 0) × IsSome h.new.spot.value × IfSome h.new.spot.value (IsNew limit manual_acks)) ⊎ ((result ≡ out_of_memory) × (h.new.spot.value ≡ None)) }
+    ensures none { IsNone h.old.spot.value → limit ≡ 0 → (result ≡ bad_argument) × (h.new.spot.value ≡ None) }
+{
+    if let Some(client) = take(alloc, h) {
+        put(h, client);
+        return HAS_CLIENT;
+    }
+    if limit == 0 {
+        return BAD_ARGUMENT;
+    }
+    match boxed(alloc, limit, manual_acks) {
+        Some(client) => {
+            put(h, client);
+            0
+        }
+        None => OUT_OF_MEMORY,
+    }
+}
+
+/// Lets the client go, with all that it holds; the handle is empty again. 0; 200 where there is none.
+#[unsafe(no_mangle)]
+pub extern "C" fn mqtt5_client_free(alloc: Global, h: &mut Handle) -> u32
+    requires { IsKept h.old }
+    ensures kept { IsKept h.new }
+    ensures gone { h.new.spot.value ≡ None }
+    ensures none { IsNone h.old.spot.value → result ≡ no_client }
+    ensures freed { IsSome h.old.spot.value → result ≡ 0 }
+{
+    match take(alloc, h) {
+        Some(_client) => 0,
+        None => NO_CLIENT,
+    }
+}
+
+/// Takes the session up on a new connection, once its ConnAck says that the broker has it (an event's
+/// `session_present`): all that awaits an ack goes to the end of the output, publishes with dup. 0; 8, 9, 12 and
+/// 100 + n: the output is as before, and the call may be made again.
+#[unsafe(no_mangle)]
+#[tactic(auto, using(crate::proofs::CallLemmas::called, crate::proofs::CallLemmas::uncalled))]
+pub extern "C" fn mqtt5_client_resume(alloc: Global, h: &mut Handle, at: u64) -> u32
+    requires { IsKept h.old }
+    ensures kept { IsKept h.new }
+    ensures answer { Called (Resumes at) h.old.spot.value result h.new.spot.value }
+{
+    let Some(mut client) = take(alloc, h) else {
+        return NO_CLIENT;
+    };
+    let outcome = client.resume(at);
+    put(h, client);
+    code_of(&outcome)
+}
+
+/// Ends the session, for a connection with clean start: what awaits an ack is let go, and `count` tells how many requests
+/// that were. 0; 1 where an event isn't taken out, and 12: the client is then as before.
+#[unsafe(no_mangle)]
+pub extern "C" fn mqtt5_client_clean(alloc: Global, h: &mut Handle, count: &mut usize) -> u32
+    requires { IsKept h.old }
+    ensures kept { IsKept h.new }
+    ensures answer { Called Cleans h.old.spot.value result h.new.spot.value }
+    ensures count { result ≡ 0 → IfSome h.old.spot.value (λ c. count.new ≡ length (given_back c.state.core)) }
+{
+    let Some(mut client) = take(alloc, h) else {
+        return NO_CLIENT;
+    };
+    match client.clean() {
+        Ok(requests) => {
+            put(h, client);
+            *count = requests.len();
+            0
+        }
+        Err(fault) => {
+            put(h, client);
+            fault_code(&fault)
+        }
+    }
+}

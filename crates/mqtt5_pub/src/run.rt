@@ -1,0 +1,181 @@
+//! What the program does with its words, its input and its output.
+
+ghost use Rattle.std.specs.Prelude.{◌<◌, OnOk};
+ghost use Rattle.mqtt5_pipe.specs.Pipe.{IsReady};
+
+use crate::words::parse;
+use bytes::Bytes;
+use clap::ArgMatches;
+use mqtt5_base::{QoS, valid_topic};
+use mqtt5_codec::Packet;
+use mqtt5_flow::Publish;
+use mqtt5_pipe::Pipe;
+use mqtt5_talk::{Trouble, close, connect_of, new_pipe, open, publish, quality_of, refuse, tell};
+use std::alloc::Global;
+use std::io::{Read, Write};
+use std::rt::Files;
+use std::{fs, io};
+
+/// What is published, and how.
+#[derive(Clone, Copy)]
+struct Task<'a> {
+    alloc: Global,
+    topic: &'a str,
+    quality: QoS,
+    retain: bool,
+    /// Whether each line of the content is a message.
+    by_lines: bool,
+}
+
+/// Runs the program, and answers its exit status: 0; 1 after a fault; 2 where the words are refused. The log tells why,
+/// and has the help where that is asked for.
+pub fn run<F: Files + AllocGlobal, R: Read, W: Write, E: Write>(
+    rt: &F,
+    words: &[String],
+    reader: &mut R,
+    writer: &mut W,
+    log: &mut E,
+) -> u8
+    ensures { result < 3 }
+{
+    match parse(rt.alloc(), words) {
+        Ok(matches) => run_matches(rt, &matches, reader, writer, log),
+        Err(error) => refuse(&error, log),
+    }
+}
+
+fn run_matches<F: Files + AllocGlobal, R: Read, W: Write, E: Write>(
+    rt: &F,
+    matches: &ArgMatches<'_>,
+    reader: &mut R,
+    writer: &mut W,
+    log: &mut E,
+) -> u8
+    ensures { result < 3 }
+{
+    let task = Task {
+        alloc: rt.alloc(),
+        topic: matches.get_str("topic").unwrap_or(""),
+        quality: quality_of(matches, "qos"),
+        retain: matches.get_flag("retain"),
+        by_lines: matches.get_flag("lines"),
+    };
+    if task.topic.is_empty() || !valid_topic(task.topic) {
+        let _ = writeln!(log, "error: no topic to publish to: '{}'", task.topic);
+        return 2;
+    }
+    match content_of(rt, matches) {
+        Ok(content) => tell(talk(task, matches, content.as_slice(), reader, writer), log),
+        Err(error) => {
+            let _ = writeln!(log, "error: the file can't be read: {error}");
+            1
+        }
+    }
+}
+
+/// The bytes of the message or of the file.
+fn content_of<F: Files + AllocGlobal>(rt: &F, matches: &ArgMatches<'_>) -> io::Result<Vec<u8>> {
+    match matches.get_str("file") {
+        Some(file) => fs::read(rt, file),
+        None => {
+            let message = matches.get_str("message").unwrap_or("");
+            Ok(Vec::from_slice(rt.alloc(), message.as_bytes())?)
+        }
+    }
+}
+
+fn talk<R: Read, W: Write>(
+    task: Task<'_>,
+    matches: &ArgMatches<'_>,
+    content: &[u8],
+    reader: &mut R,
+    writer: &mut W,
+) -> Result<(), Trouble> {
+    let connect = connect_of(task.alloc, matches)?;
+    let mut pipe = new_pipe(task.alloc, false);
+    talk_over(&mut pipe, &connect, task, content, reader, writer)
+}
+
+fn talk_over<R: Read, W: Write>(
+    pipe: &mut Pipe,
+    connect: &Packet,
+    task: Task<'_>,
+    content: &[u8],
+    reader: &mut R,
+    writer: &mut W,
+) -> Result<(), Trouble>
+    requires { IsReady pipe.old }
+{
+    open(pipe, connect, reader, writer)?;
+    publish_all(pipe, task, content, reader, writer)?;
+    close(pipe, writer)
+}
+
+fn publish_all<R: Read, W: Write>(
+    pipe: &mut Pipe,
+    task: Task<'_>,
+    content: &[u8],
+    reader: &mut R,
+    writer: &mut W,
+) -> Result<(), Trouble>
+    requires { IsReady pipe.old }
+    ensures { OnOk result (IsReady pipe.new) }
+{
+    if task.by_lines {
+        publish_lines(pipe, task, content, reader, writer)
+    } else {
+        publish_one(pipe, task, content, reader, writer)
+    }
+}
+
+/// Publishes each line, without its newline; behind the last newline stands no line.
+fn publish_lines<R: Read, W: Write>(
+    pipe: &mut Pipe,
+    task: Task<'_>,
+    content: &[u8],
+    reader: &mut R,
+    writer: &mut W,
+) -> Result<(), Trouble>
+    requires { IsReady pipe.old }
+    ensures { OnOk result (IsReady pipe.new) }
+{
+    let mut rest = content;
+    for _ in 0..content.len() {
+        if rest.is_empty() {
+            break;
+        }
+        let (line, others) = first_line(rest);
+        publish_one(pipe, task, line, reader, writer)?;
+        rest = others;
+    }
+    Ok(())
+}
+
+/// The bytes up to the first newline, and those behind it.
+fn first_line(content: &[u8]) -> (&[u8], &[u8]) {
+    match content.iter().position(|byte| *byte == b'\n') {
+        Some(end) => (&content[..end], &content[end + 1..]),
+        None => (content, &[]),
+    }
+}
+
+fn publish_one<R: Read, W: Write>(
+    pipe: &mut Pipe,
+    task: Task<'_>,
+    payload: &[u8],
+    reader: &mut R,
+    writer: &mut W,
+) -> Result<(), Trouble>
+    requires { IsReady pipe.old }
+    ensures { OnOk result (IsReady pipe.new) }
+{
+    let message = message_of(task, payload)?;
+    publish(pipe, message, reader, writer)
+}
+
+fn message_of(task: Task<'_>, payload: &[u8]) -> Result<Publish, mqtt5_base::Error> {
+    let payload = Bytes::copy_from_slice(task.alloc, payload)?;
+    let mut message = Publish::new(task.alloc, task.topic, task.quality, payload, None)?;
+    message.retain = task.retain;
+    Ok(message)
+}

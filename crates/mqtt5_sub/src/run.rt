@@ -1,0 +1,173 @@
+//! What the program does with its words, its input and its output.
+
+ghost use Rattle.std.specs.Prelude.{◌<◌};
+ghost use Rattle.mqtt5_pipe.specs.Pipe.{IsReady};
+
+use crate::words::parse;
+use clap::ArgMatches;
+use mqtt5_base::{Error, Sequence, valid_filter};
+use mqtt5_codec::Packet;
+use mqtt5_pipe::Pipe;
+use mqtt5_subs::{Filter, Subscribe};
+use mqtt5_talk::{
+    Lines, Raw, Screen, Trouble, close, connect_of, new_pipe, open, quality_of, receive, refuse,
+    subscribe, tell,
+};
+use std::alloc::Global;
+use std::io::{Read, Write};
+use std::rt::Files;
+use std::{fs, io};
+
+/// Runs the program, and answers its exit status: 0; 1 after a fault; 2 where the words are refused. The log has the
+/// messages, tells why the program ended, and has the help where that is asked for.
+pub fn run<F: Files + AllocGlobal, R: Read, W: Write, E: Write>(
+    rt: &F,
+    words: &[String],
+    reader: &mut R,
+    writer: &mut W,
+    log: &mut E,
+) -> u8
+    ensures { result < 3 }
+{
+    match parse(rt.alloc(), words) {
+        Ok(matches) => run_matches(rt, &matches, reader, writer, log),
+        Err(error) => refuse(&error, log),
+    }
+}
+
+fn run_matches<F: Files + AllocGlobal, R: Read, W: Write, E: Write>(
+    rt: &F,
+    matches: &ArgMatches<'_>,
+    reader: &mut R,
+    writer: &mut W,
+    log: &mut E,
+) -> u8
+    ensures { result < 3 }
+{
+    if let Some(filter) = bad_filter(matches, "filters").or(bad_filter(matches, "topic")) {
+        let _ = writeln!(log, "error: no topic filter: '{filter}'");
+        return 2;
+    }
+    match matches.get_str("output") {
+        Some(file) => write_raw(rt, file, matches, reader, writer, log),
+        None => write_lines(rt.alloc(), matches, reader, writer, log),
+    }
+}
+
+/// The first word under this id that is no topic filter.
+fn bad_filter<'a>(matches: &ArgMatches<'a>, id: &str) -> Option<&'a str> {
+    let filters = matches.get_strs(id)?;
+    for filter in filters {
+        if !valid_filter(filter) {
+            return Some(*filter);
+        }
+    }
+    None
+}
+
+/// Shows each message as a line of the log.
+fn write_lines<R: Read, W: Write, E: Write>(
+    alloc: Global,
+    matches: &ArgMatches<'_>,
+    reader: &mut R,
+    writer: &mut W,
+    log: &mut E,
+) -> u8
+    ensures { result < 3 }
+{
+    let mut screen = Lines {
+        alloc,
+        writer: &mut *log,
+        with_topic: matches.get_flag("verbose"),
+    };
+    let ended = talk(alloc, matches, &mut screen, reader, writer);
+    tell(ended, log)
+}
+
+/// Writes each message to a file that is made anew.
+fn write_raw<F: Files + AllocGlobal, R: Read, W: Write, E: Write>(
+    rt: &F,
+    file: &str,
+    matches: &ArgMatches<'_>,
+    reader: &mut R,
+    writer: &mut W,
+    log: &mut E,
+) -> u8
+    ensures { result < 3 }
+{
+    let output = match fs::create(rt, file) {
+        Ok(output) => output,
+        Err(error) => {
+            let _ = writeln!(log, "error: the file can't be written: {error}");
+            return 1;
+        }
+    };
+    let mut screen = Raw {
+        alloc: rt.alloc(),
+        writer: output,
+        with_topic: matches.get_flag("verbose"),
+        with_newline: !matches.get_flag("joined"),
+    };
+    tell(talk(rt.alloc(), matches, &mut screen, reader, writer), log)
+}
+
+fn talk<R: Read, W: Write, S: Screen>(
+    alloc: Global,
+    matches: &ArgMatches<'_>,
+    screen: &mut S,
+    reader: &mut R,
+    writer: &mut W,
+) -> Result<(), Trouble> {
+    let connect = connect_of(alloc, matches)?;
+    let wanted = subscribe_of(alloc, matches)?;
+    let count = matches.get_one::<u64>("count").unwrap_or(u64::MAX);
+    let mut pipe = new_pipe(alloc, true);
+    talk_over(&mut pipe, &connect, wanted, count, screen, reader, writer)
+}
+
+/// Shows so many messages.
+fn talk_over<R: Read, W: Write, S: Screen>(
+    pipe: &mut Pipe,
+    connect: &Packet,
+    wanted: Subscribe,
+    count: u64,
+    screen: &mut S,
+    reader: &mut R,
+    writer: &mut W,
+) -> Result<(), Trouble>
+    requires { IsReady pipe.old }
+{
+    open(pipe, connect, reader, writer)?;
+    subscribe(pipe, wanted, writer)?;
+    receive(pipe, screen, count, reader, writer)?;
+    close(pipe, writer)
+}
+
+/// The Subscribe that the words ask for.
+fn subscribe_of(alloc: Global, matches: &ArgMatches<'_>) -> Result<Subscribe, Error> {
+    let mut filters = Sequence::new(alloc);
+    add_filters(alloc, matches, "filters", &mut filters)?;
+    add_filters(alloc, matches, "topic", &mut filters)?;
+    Ok(Subscribe {
+        pkid: 0,
+        filters,
+        properties: None,
+    })
+}
+
+/// Adds a filter for each word under this id.
+fn add_filters(
+    alloc: Global,
+    matches: &ArgMatches<'_>,
+    id: &str,
+    filters: &mut Sequence<Filter>,
+) -> Result<(), Error> {
+    let Some(paths) = matches.get_strs(id) else {
+        return Ok(());
+    };
+    let quality = quality_of(matches, "qos");
+    for path in paths {
+        filters.push(Filter::new(alloc, path, quality)?)?;
+    }
+    Ok(())
+}

@@ -1,0 +1,59 @@
+-- What was shown, and its acks.
+use Rattle.std.proofs.Common.{◌≡◌, ℕ, ◌+◌, Bool, List, [], ◌∷◌, ◌++◌, refl, sym, ap, subst, ◌∙◌, append_assoc, append-nil, add-one, ◌<◌, take, get_or, length, Result, Ok, Err, IfOk}
+use Rattle.std.specs.Prelude.{Option}
+use Rattle.std.proofs.Math.Seq.{take-suc}
+use Rattle.mqtt5_flow.specs.declared.publish.Publish.{Publish}
+use Rattle.mqtt5_pipe.specs.declared.pipe.Pipe.{Pipe}
+use Rattle.mqtt5_talk.specs.declared.trouble.Trouble.{Trouble}
+use Rattle.mqtt5_talk.specs.Talks.{Saying, Told, Talked}
+use Rattle.mqtt5_talk.proofs.Talking.{then_told, then_talked, as_talked}
+use Rattle.mqtt5_talk.specs.Answers.{ack_of, acks_of, ShowsAll, Showed}
+use Rattle.mqtt5_talk.specs.Shown.{shown_byte, escaped}
+
+pub acks_append : (ps qs : List Publish) → acks_of (ps ++ qs) ≡ acks_of ps ++ acks_of qs
+acks_append [] qs = refl
+acks_append (p ∷ ps) qs = ap (λ (s : List Saying). ack_of p ++ s) (acks_append ps qs) ∙ sym (append_assoc (ack_of p) (acks_of ps) (acks_of qs))
+
+pub shows_append : {S : Type 0} (shows : S → Publish → S → Type 0) (s t u : S) (ps qs : List Publish) → ShowsAll shows s ps t → ShowsAll shows t qs u → ShowsAll shows s (ps ++ qs) u
+shows_append shows s t u [] qs h k = rw (sym h) k
+shows_append shows s t u (p ∷ ps) qs h k = (h.0, h.1, shows_append shows h.0 t u ps qs h.2 k)
+
+pub showed_append : {S : Type 0} (shows : S → Publish → S → Type 0) (s t : S) (ps qs : List Publish) → ShowsAll shows s ps t → Showed shows t qs → Showed shows s (ps ++ qs)
+showed_append shows s t ps qs h k = (k.0, shows_append shows s t k.0 ps qs h k.1)
+
+pub escaped_append : (is_text : Bool) (xs ys : List ℕ) → escaped is_text (xs ++ ys) ≡ escaped is_text xs ++ escaped is_text ys
+escaped_append is_text [] ys = refl
+escaped_append is_text (x ∷ xs) ys =
+    ap (λ (l : List ℕ). shown_byte is_text x ++ l) (escaped_append is_text xs ys) ∙ sym (append_assoc (shown_byte is_text x) (escaped is_text xs) (escaped is_text ys))
+
+-- a byte more is shown
+pub escaped_more : (is_text : Bool) (old line new bytes : List ℕ) (i : ℕ) → i < length bytes → line ≡ old ++ escaped is_text (take i bytes)
+    → new ≡ line ++ shown_byte is_text (get_or bytes i 0) → new ≡ old ++ escaped is_text (take (i + 1) bytes)
+escaped_more is_text old line new bytes i below so_far grown =
+    let last : List ℕ = shown_byte is_text (get_or bytes i 0) in
+    let step : escaped is_text (take (i + 1) bytes) ≡ escaped is_text (take i bytes) ++ last =
+    ap (λ (n : ℕ). escaped is_text (take n bytes)) (add-one i) ∙ ap (escaped is_text) (take-suc bytes i 0 below)
+    ∙ escaped_append is_text (take i bytes) (get_or bytes i 0 ∷ []) ∙ ap (λ (l : List ℕ). escaped is_text (take i bytes) ++ l) (append-nil last) in
+    grown ∙ ap (λ (l : List ℕ). l ++ last) so_far ∙ append_assoc old (escaped is_text (take i bytes)) last ∙ ap (λ (l : List ℕ). old ++ l) (sym step)
+
+-- one message, or none, and its ack
+module _ (x y : Option (List ℕ)) (p q : Pipe) where
+  pub one_acked : (m : Publish) → Told x y p (ack_of m) q → Told x y p (acks_of (m ∷ [])) q
+  one_acked m t = subst (λ (said : List Saying). Told x y p said q) (sym (append-nil (ack_of m))) t
+
+module _ (x y z : Option (List ℕ)) (p q r : Pipe) (ps qs : List Publish) where
+  pub more_told : Told x y p (acks_of ps) q → Told y z q (acks_of qs) r → Told x z p (acks_of (ps ++ qs)) r
+  more_told t u = subst (λ (said : List Saying). Told x z p said r) (sym (acks_append ps qs)) (then_told x y z p q r (acks_of ps) (acks_of qs) t u)
+
+module _ (a b : Option (List ℕ)) (x y z : Option (List ℕ)) (p q r : Pipe) (ps qs : List Publish) where
+  pub more_talked : Talked a b x y p (acks_of ps) q → Told y z q (acks_of qs) r → Talked a b x z p (acks_of (ps ++ qs)) r
+  more_talked t u = subst (λ (said : List Saying). Talked a b x z p said r) (sym (acks_append ps qs)) (then_talked a b b x y z p q r (acks_of ps) (acks_of qs) t (as_talked b y z q r (acks_of qs) u))
+
+module _ (a b c : Option (List ℕ)) (x y z : Option (List ℕ)) (p q r : Pipe) (ps : List Publish) where
+  pub silence_talked : Talked a b x y p (acks_of ps) q → Talked b c y z q [] r → Talked a c x z p (acks_of ps) r
+  silence_talked t u = subst (λ (said : List Saying). Talked a c x z p said r) (append-nil (acks_of ps)) (then_talked a b c x y z p q r (acks_of ps) [] t u)
+
+-- where nothing was shown
+pub shows_none : {S : Type 0} (shows : S → Publish → S → Type 0) (s : S) (r : Result ℕ Trouble) → IfOk r (λ n. n ≡ 0) → IfOk r (λ n. ShowsAll shows s [] s × (0 ≡ n))
+shows_none shows s (Ok n) e = (refl, sym e)
+shows_none shows s (Err trouble) e = tt

@@ -1,0 +1,7 @@
+use Rattle.std.proofs.Common.{[], refl}
+use Rattle.mqtt5_talk.proofs.Talking.{then_talked, as_talked}
+use Rattle.mqtt5_talk.proofs.opening.start.Goals as goal
+
+pub returns-clause-talked : goal.returns-clause-talked
+returns-clause-talked g c =
+    then_talked _ _ _ _ _ _ _ _ _ [] [] (as_talked _ _ _ _ _ [] (c.say.ensures.told refl)) c.await_answer.ensures.talked

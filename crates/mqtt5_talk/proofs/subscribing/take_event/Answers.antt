@@ -1,0 +1,11 @@
+use Rattle.std.proofs.Common.{[], refl}
+use Rattle.mqtt5_talk.proofs.Showing.{shows_none}
+use Rattle.mqtt5_talk.proofs.Talking.{nothing_told}
+use Rattle.mqtt5_talk.proofs.subscribing.take_event.Goals as goal
+
+pub returns-in-Incoming-SubAck-clause-told : goal.returns-in-Incoming-SubAck-clause-told
+returns-in-Incoming-SubAck-clause-told g c =
+    ([], nothing_told _ _, (_, refl), shows_none g.S.Screen.shows _ c.judge.result c.judge.ensures)
+
+pub returns-in_default-clause-told : goal.returns-in_default-clause-told
+returns-in_default-clause-told g c = ([], nothing_told _ _, (_, refl), (refl, refl))

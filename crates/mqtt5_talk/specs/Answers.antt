@@ -1,0 +1,65 @@
+-- What the broker's answers say, and what the user answers.
+use Rattle.std.specs.Prelude.{◌≡◌, ℕ, List, [], ◌∷◌, ◌++◌, Option, Some, None, ⊤}
+use Rattle.mqtt5_base.specs.declared.quality.QoS.{QoS}
+use Rattle.mqtt5_base.specs.declared.quality.QoS.TheVariants as quality
+use Rattle.mqtt5_flow.specs.declared.publish.Publish.{Publish}
+use Rattle.mqtt5_flow.specs.declared.puback.PubAckReason.{PubAckReason}
+use Rattle.mqtt5_flow.specs.declared.puback.PubAckReason.TheVariants as reasons
+use Rattle.mqtt5_link.specs.declared.connack.ConnAck.{ConnAck}
+use Rattle.mqtt5_codec.specs.declared.packet.Packet.TheVariants as packets
+use Rattle.mqtt5_held.specs.declared.event.Event.{Event}
+use Rattle.mqtt5_held.specs.declared.event.Event.TheVariants as events
+use Rattle.mqtt5_held.specs.declared.event.Request.TheVariants as requests
+use Rattle.mqtt5_held.specs.declared.event.Request.{Request}
+use Rattle.mqtt5_subs.specs.declared.suback.SubscribeReasonCode.{SubscribeReasonCode}
+use Rattle.mqtt5_subs.specs.declared.suback.SubscribeReasonCode.TheVariants as subscribes
+use Rattle.mqtt5_talk.specs.Talks.{Saying, Asks}
+
+-- the first event is a ConnAck (MQTT 5.0 section 3.2)
+abbrev pub IsAnswered : List Event → Type 0
+IsAnswered told = (ack : ConnAck) × (rest : List Event) × (told ≡ events.Incoming (packets.ConnAck ack) ∷ rest)
+
+-- the answer to a message by its QoS: none, a PubAck or a PubRec, with Success (4.3)
+abbrev pub ack_under : QoS → ℕ → List Saying
+ack_under quality.AtMostOnce id = []
+ack_under quality.AtLeastOnce id = Asks (requests.PubAck (record { pkid = id; reason = reasons.Success; properties = None })) ∷ []
+ack_under quality.ExactlyOnce id = Asks (requests.PubRec (record { pkid = id; reason = reasons.Success; properties = None })) ∷ []
+
+abbrev pub ack_of : Publish → List Saying
+ack_of p = ack_under p.qos p.pkid
+
+-- the answers to messages, in order
+abbrev pub acks_of : List Publish → List Saying
+acks_of [] = []
+acks_of (p ∷ ps) = ack_of p ++ acks_of ps
+
+-- a screen that was shown these messages, in order
+abbrev pub ShowsAll : {S : Type 0} → (S → Publish → S → Type 0) → S → List Publish → S → Type 0
+ShowsAll shows s [] t = t ≡ s
+ShowsAll {S} shows s (p ∷ ps) t = (next : S) × shows s p next × ShowsAll shows next ps t
+
+-- a screen to which these messages were shown, in order, and maybe more after them
+abbrev pub Showed : {S : Type 0} → (S → Publish → S → Type 0) → S → List Publish → Type 0
+Showed {S} shows s ps = (t : S) × ShowsAll shows s ps t
+
+-- why a message is refused, if it is (3.4.2.1, 3.5.2.1)
+abbrev pub refusal_by : PubAckReason → Option PubAckReason
+refusal_by reasons.Success = None
+refusal_by reasons.NoMatchingSubscribers = None
+refusal_by reason = Some reason
+
+-- the same of what happened
+abbrev pub refusal_in : Event → Option PubAckReason
+refusal_in (events.Incoming (packets.PubAck ack)) = refusal_by ack.reason
+refusal_in (events.Incoming (packets.PubRec ack)) = refusal_by ack.reason
+refusal_in event = None
+
+-- a filter has its subscription (3.9.3)
+abbrev pub IsSuccess : SubscribeReasonCode → Type 0
+IsSuccess (subscribes.Success qos) = ⊤
+IsSuccess code = ⊥
+
+-- one request, or none
+abbrev pub asked_by : Option Request → List Saying
+asked_by None = []
+asked_by (Some request) = Asks request ∷ []

@@ -1,0 +1,21 @@
+//! A client that talks to a broker over a reader and a writer: it opens a connection, publishes, subscribes, and shows
+//! what comes. It has no clock, so its keep alive is 0.
+#![tactic(auto)]
+
+mod opening;
+mod program;
+mod publishing;
+mod show;
+mod subscribing;
+#[cfg(test)]
+mod tests;
+mod trouble;
+mod words;
+
+pub use opening::{close, open};
+pub use program::{new_pipe, refuse, refuse_words, tell};
+pub use publishing::publish;
+pub use show::{Lines, Raw, Screen};
+pub use subscribing::{receive, subscribe};
+pub use trouble::Trouble;
+pub use words::{connect_of, connection_options, quality_of};

@@ -1,0 +1,60 @@
+//! What both programs do alike.
+
+ghost use Rattle.std.specs.Prelude.{◌≡◌, ◌⊎◌, [], cond, is_ok};
+ghost use Rattle.mqtt5_pipe.specs.Pipe.{IsReady};
+ghost use Rattle.mqtt5_session.specs.Session.{fresh};
+
+use crate::trouble::Trouble;
+use mqtt5_codec::Codec;
+use mqtt5_pipe::Pipe;
+use mqtt5_session::MqttState;
+use std::alloc::Global;
+use std::io;
+use std::io::Write;
+
+/// A pipe of a new session of one id, without limits on packets. Takes no memory.
+pub fn new_pipe(alloc: Global, manual_acks: bool) -> Pipe
+    ensures state { result.state ≡ fresh 1 manual_acks }
+    ensures empty { (result.input.items ≡ []) × (result.output.items ≡ []) }
+    ensures ready { IsReady result }
+{
+    let state = match MqttState::new(alloc, 1, manual_acks) {
+        Ok(state) => state,
+        Err(_) => unreachable!(),
+    };
+    let codec = Codec {
+        max_incoming_size: None,
+        max_outgoing_size: None,
+    };
+    Pipe::new(alloc, state, codec)
+}
+
+/// Tells the log what the parser says of the words, and answers the program's exit status: 0 where help was asked for, 2
+/// where the words are refused.
+pub fn refuse<E: Write>(error: &clap::Error, log: &mut E) -> u8
+    ensures { (result ≡ 0) ⊎ (result ≡ 2) }
+{
+    let _ = write!(log, "{error}");
+    if error.use_stderr() { 2 } else { 0 }
+}
+
+/// Tells the log that the words can't be had, since one isn't UTF-8 or memory ran out, and answers the exit status 2.
+pub fn refuse_words<E: Write>(error: &io::Error, log: &mut E) -> u8
+    ensures { result ≡ 2 }
+{
+    let _ = writeln!(log, "error: the words can't be read: {error}");
+    2
+}
+
+/// Tells the log why a talk stopped, and answers the exit status: 0 where it is done, 1 after a fault.
+pub fn tell<E: Write>(ended: Result<(), Trouble>, log: &mut E) -> u8
+    ensures { result ≡ cond (is_ok ended) 0 1 }
+{
+    match ended {
+        Ok(()) => 0,
+        Err(trouble) => {
+            let _ = writeln!(log, "error: {trouble}");
+            1
+        }
+    }
+}

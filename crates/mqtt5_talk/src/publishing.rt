@@ -1,0 +1,124 @@
+//! How a message is published.
+
+ghost use Rattle.std.specs.Prelude.{◌≡◌, [], ◌∷◌, OnOk};
+ghost use Rattle.std.specs.FinMap as map;
+ghost use Rattle.mqtt5_held.specs.declared.event.Request.TheVariants.{Publish as OfPublish};
+ghost use Rattle.mqtt5_pipe.specs.Pipe.{IsReady};
+ghost use Rattle.mqtt5_talk.specs.Talks.{Asks, Talks, Talked};
+ghost use Rattle.mqtt5_talk.specs.Answers.{refusal_in, refusal_by};
+
+use crate::opening::{ask, endless, hear};
+use crate::trouble::Trouble;
+use mqtt5_codec::Packet;
+use mqtt5_flow::{PubAckReason, Publish};
+use mqtt5_pipe::Pipe;
+use mqtt5_session::{Event, Request};
+use std::io::{Read, Write};
+
+/// Sends a message, and takes turns until it is delivered: of QoS 0 none, of QoS 1 until its PubAck, of QoS 2
+/// until its PubComp; and so until no id is in use. `NotPublished` where the PubAck or the PubRec is a refusal,
+/// `Ended`, `Closed`; `Failed`, as of a call of the pipe.
+pub fn publish<R: Read, W: Write>(
+    pipe: &mut Pipe,
+    message: Publish,
+    reader: &mut R,
+    writer: &mut W,
+) -> Result<(), Trouble>
+    requires ready { IsReady pipe.old }
+    // Nothing is said but the message.
+    ensures talked { Talked (R.remaining reader.old) (R.remaining reader.new) (W.contents writer.old) (W.contents writer.new) pipe.old (Asks (OfPublish message) ∷ []) pipe.new }
+    // Nothing awaits an ack.
+    ensures delivered { OnOk result (map.len pipe.new.state.core.held ≡ 0) }
+    // So another call may follow.
+    ensures ready { OnOk result (IsReady pipe.new) }
+{
+    ask(pipe, Request::Publish(message), writer)?;
+    await_acks(pipe, reader, writer)
+}
+
+/// Takes turns until no id is in use.
+fn await_acks<R: Read, W: Write>(
+    pipe: &mut Pipe,
+    reader: &mut R,
+    writer: &mut W,
+) -> Result<(), Trouble>
+    requires ready { IsReady pipe.old }
+    ensures talked { Talked (R.remaining reader.old) (R.remaining reader.new) (W.contents writer.old) (W.contents writer.new) pipe.old [] pipe.new }
+    ensures delivered { OnOk result (map.len pipe.new.state.core.held ≡ 0) }
+    ensures ready { OnOk result (IsReady pipe.new) }
+{
+    for _ in 0..u64::MAX {
+        if pipe.state.inflight() == 0 {
+            return Ok(());
+        }
+        hear_acks(pipe, reader, writer)?;
+    }
+    Err(endless())
+}
+
+/// Takes a turn. A refusal of the message comes before a fault.
+fn hear_acks<R: Read, W: Write>(
+    pipe: &mut Pipe,
+    reader: &mut R,
+    writer: &mut W,
+) -> Result<(), Trouble>
+    requires ready { IsReady pipe.old }
+    ensures talked { Talked (R.remaining reader.old) (R.remaining reader.new) (W.contents writer.old) (W.contents writer.new) pipe.old [] pipe.new }
+    ensures ready { OnOk result (IsReady pipe.new) }
+{
+    let heard = hear(pipe, reader, writer);
+    match take_refusal(pipe) {
+        Some(reason) => Err(Trouble::NotPublished(reason)),
+        None => heard,
+    }
+}
+
+/// Takes all events out, and answers the first refusal among them.
+fn take_refusal(pipe: &mut Pipe) -> Option<PubAckReason>
+    ensures talks { Talks pipe.old [] [] [] pipe.new }
+    ensures ready { IsReady pipe.old → IsReady pipe.new }
+{
+    let mut refusal = None;
+    for _ in 0..u64::MAX {
+        if pipe.state.events().is_empty() {
+            break;
+        }
+        refusal = refusal.or(next_refusal(pipe));
+    }
+    refusal
+}
+
+/// Takes the oldest event out, and answers its refusal.
+fn next_refusal(pipe: &mut Pipe) -> Option<PubAckReason>
+    ensures talks { Talks pipe.old [] [] [] pipe.new }
+    ensures ready { IsReady pipe.old → IsReady pipe.new }
+{
+    match pipe.state.pop_event() {
+        Some(event) => {
+            let refusal = refusal_in(&event);
+            drop(event);
+            refusal
+        }
+        None => None,
+    }
+}
+
+/// Why a message is refused, where the event says so.
+fn refusal_in(event: &Event) -> Option<PubAckReason>
+    ensures { result ≡ refusal_in event.now }
+{
+    match event {
+        Event::Incoming(Packet::PubAck(ack)) => refusal_by(ack.reason),
+        Event::Incoming(Packet::PubRec(ack)) => refusal_by(ack.reason),
+        _other => None,
+    }
+}
+
+fn refusal_by(reason: PubAckReason) -> Option<PubAckReason>
+    ensures { result ≡ refusal_by reason }
+{
+    match reason {
+        PubAckReason::Success | PubAckReason::NoMatchingSubscribers => None,
+        _other => Some(reason),
+    }
+}
