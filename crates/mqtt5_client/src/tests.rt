@@ -1,18 +1,18 @@
 //! A client on worked bytes.
 
-ghost use Rattle.std.specs.Prelude.{IfOk};
+ghost use Rattle.std.specs.Prelude.{IfOk, OnOk};
 ghost use Rattle.mqtt5_client.specs.Client.{IsReady};
 
 use crate::client::{Client, one_run};
 use crate::numbers::{error_number, state_error_number};
-use bytes::{Bytes, BytesMut};
-use mqtt5_base::QoS;
+use bytes::Bytes;
+use mqtt5_base::{Error, QoS};
 use mqtt5_connect::LastWill;
 use mqtt5_flow::Publish;
 use mqtt5_options::MqttOptions;
 use mqtt5_session::{Event, Outgoing, Request, StateError};
 use std::alloc::Global;
-use std::test::Fail;
+use std::process::Abort;
 use std::time::Duration;
 
 /// The Connect of client "c", with keep alive 60 and clean start (MQTT 5.0 section 3.1).
@@ -59,13 +59,45 @@ fn new_client(alloc: Global) -> Result<Client, StateError>
     Client::new(alloc, 10, false)
 }
 
+/// A piece comes in.
+fn hear(client: &mut Client, piece: &[u8]) -> Result<(), StateError>
+    requires { IsReady client.old }
+    ensures { IsReady client.new }
+{
+    client.receive(piece, 5)
+}
+
+/// A publish of "hi" to "a/b", under the next id.
+fn publish(alloc: Global, qos: QoS) -> Result<Request, StateError> {
+    let payload = Bytes::copy_from_slice(alloc, b"hi")?;
+    let publish = Publish::new(alloc, "a/b", qos, payload, None)?;
+    Ok(Request::Publish(publish))
+}
+
+/// It is asked for.
+fn ask(alloc: Global, client: &mut Client, qos: QoS) -> Result<(), StateError>
+    requires { IsReady client.old }
+    ensures { IsReady client.new }
+{
+    let request = publish(alloc, qos)?;
+    client.request(request, 1)
+}
+
+/// The number of a fault, 0 of none.
+fn number<T: Drop>(ended: Result<T, StateError>) -> u8 {
+    match ended {
+        Ok(_) => 0,
+        Err(fault) => state_error_number(&fault),
+    }
+}
+
 /// The settings of client "c".
-fn settings(alloc: Global) -> Result<MqttOptions, StateError> {
-    Ok(MqttOptions::new(alloc, "c", "localhost", 1883)?)
+fn settings(alloc: Global) -> Result<MqttOptions, Error> {
+    MqttOptions::new(alloc, "c", "localhost", 1883)
 }
 
 /// Those with a will and a login.
-fn settings_with_parts(alloc: Global) -> Result<MqttOptions, StateError> {
+fn settings_with_parts(alloc: Global) -> Result<MqttOptions, Error> {
     let mut options = settings(alloc)?;
     let message = Vec::from_slice(alloc, b"m")?;
     let will = LastWill::new(alloc, "w", message, QoS::AtLeastOnce, true, None)?;
@@ -75,25 +107,12 @@ fn settings_with_parts(alloc: Global) -> Result<MqttOptions, StateError> {
 }
 
 /// Those of the Connect that is made again.
-fn settings_again(alloc: Global) -> Result<MqttOptions, StateError> {
+fn settings_again(alloc: Global) -> Result<MqttOptions, Error> {
     let mut options = settings(alloc)?;
     options.set_clean_start(false);
     options.set_keep_alive(Duration::from_secs(70000));
     options.set_max_packet_size(Some(100));
     Ok(options)
-}
-
-/// A publish of "hi" to "a/b", under the next id.
-fn publish(alloc: Global, qos: QoS) -> Result<Request, StateError> {
-    let payload = Bytes::copy_from_slice(alloc, b"hi")?;
-    Ok(Request::Publish(Publish::new(alloc, "a/b", qos, payload, None)?))
-}
-
-/// What a new client sends for settings, and its limit on what comes in.
-fn connected(alloc: Global, options: &MqttOptions) -> Result<(BytesMut, Option<u32>), StateError> {
-    let mut client = new_client(alloc)?;
-    client.connect(options)?;
-    Ok((client.output, client.codec.max_incoming_size))
 }
 
 /// Which settings.
@@ -104,7 +123,7 @@ enum Kind {
     Again,
 }
 
-fn settings_of(alloc: Global, kind: Kind) -> Result<MqttOptions, StateError> {
+fn settings_of(alloc: Global, kind: Kind) -> Result<MqttOptions, Error> {
     match kind {
         Kind::Plain => settings(alloc),
         Kind::WithParts => settings_with_parts(alloc),
@@ -112,9 +131,11 @@ fn settings_of(alloc: Global, kind: Kind) -> Result<MqttOptions, StateError> {
     }
 }
 
-fn connected_as(alloc: Global, kind: Kind) -> Result<(BytesMut, Option<u32>), StateError> {
+fn connect(alloc: Global, client: &mut Client, kind: Kind) -> Result<(), StateError>
+    ensures { OnOk result (IsReady client.new) }
+{
     let options = settings_of(alloc, kind)?;
-    connected(alloc, &options)
+    client.connect(&options)
 }
 
 /// Each settings' Connect, and the limit then.
@@ -125,45 +146,33 @@ const CONNECTS: [(Kind, &'static [u8], Option<u32>); 3] = [
 ];
 
 #[test]
-fn a_connect_of_settings(rt: HostRuntime) -> Result<(), Fail> {
+fn a_connect_of_settings(rt: HostRuntime) -> Result<(), StateError> {
     for (kind, frame, limit) in &CONNECTS {
-        let (output, set) = connected_as(rt.alloc(), *kind)?;
-        assert_eq!(rt; output.as_slice(), *frame);
-        assert_eq!(rt; set, *limit);
+        let mut client = new_client(rt.alloc())?;
+        connect(rt.alloc(), &mut client, *kind)?;
+        assert_eq!(rt; client.output(), *frame);
+        assert_eq!(rt; client.codec.max_incoming_size, *limit);
     }
     Ok(())
 }
 
-/// A client that heard the ConnAck in two pieces.
-fn limited(alloc: Global) -> Result<Client, StateError>
-    ensures { IfOk result IsReady }
+/// The ConnAck comes in two pieces, and then a publish of 12 bytes is refused.
+fn is_limited(rt: &(impl Abort + AllocGlobal), client: &mut Client) -> Result<(), StateError>
+    requires { IsReady client.old }
 {
-    let mut client = new_client(alloc)?;
-    hear(&mut client, &LIMITS[..9])?;
-    hear(&mut client, &LIMITS[9..])?;
-    Ok(client)
-}
-
-/// What it allows: ids in use, topic aliases, and the longest packet.
-fn limits(alloc: Global) -> Result<(u16, u16, Option<u32>), StateError> {
-    let client = limited(alloc)?;
-    let inflight = client.state.max_outgoing_inflight();
-    let aliases = client.state.broker_topic_alias_max();
-    Ok((inflight, aliases, client.codec.max_outgoing_size))
-}
-
-/// The number of the fault of a publish of 12 bytes then.
-fn too_long(alloc: Global) -> Result<u8, StateError> {
-    let mut client = limited(alloc)?;
-    let request = publish(alloc, QoS::AtLeastOnce)?;
-    Ok(number(client.request(request, 3)))
+    hear(client, &LIMITS[..9])?;
+    hear(client, &LIMITS[9..])?;
+    assert_eq!(rt; client.state.max_outgoing_inflight(), 2);
+    assert_eq!(rt; client.state.broker_topic_alias_max(), 3);
+    assert_eq!(rt; client.codec.max_outgoing_size, Some(11));
+    assert_eq!(rt; number(ask(rt.alloc(), client, QoS::AtLeastOnce)), 9);
+    Ok(())
 }
 
 #[test]
-fn a_connack_with_limits(rt: HostRuntime) -> Result<(), Fail> {
-    assert_eq!(rt; limits(rt.alloc())?, (2, 3, Some(11)));
-    assert_eq!(rt; too_long(rt.alloc())?, 9);
-    Ok(())
+fn a_connack_with_limits(rt: HostRuntime) -> Result<(), StateError> {
+    let mut client = new_client(rt.alloc())?;
+    is_limited(&rt, &mut client)
 }
 
 /// A flow of packets (4.3): what comes in piece by piece, and all that is sent.
@@ -215,141 +224,70 @@ const FLOWS: [Flow; 6] = [
     },
 ];
 
-/// A client that asked for a publish of this quality, or for none.
-fn begun(alloc: Global, qos: Option<QoS>) -> Result<Client, StateError>
-    ensures { IfOk result IsReady }
+fn play(alloc: Global, client: &mut Client, flow: &Flow) -> Result<(), StateError>
+    requires { IsReady client.old }
 {
-    let mut client = new_client(alloc)?;
-    if let Some(qos) = qos {
-        let request = publish(alloc, qos)?;
-        client.request(request, 1)?;
+    if let Some(qos) = flow.qos {
+        ask(alloc, client, qos)?;
     }
-    Ok(client)
-}
-
-/// What a client sends in a flow, and how many ids are in use after it.
-fn play(alloc: Global, flow: &Flow) -> Result<(BytesMut, u16), StateError> {
-    let mut client = begun(alloc, flow.qos)?;
-    hear(&mut client, flow.pieces[0])?;
-    hear(&mut client, flow.pieces[1])?;
-    let inflight = client.state.inflight();
-    Ok((client.output, inflight))
+    hear(client, flow.pieces[0])?;
+    hear(client, flow.pieces[1])
 }
 
 #[test]
-fn publishes_of_each_quality_both_ways(rt: HostRuntime) -> Result<(), Fail> {
+fn publishes_of_each_quality_both_ways(rt: HostRuntime) -> Result<(), StateError> {
     one_run();
-    for case in &FLOWS {
-        let (sent, inflight) = play(rt.alloc(), case)?;
-        assert_eq!(rt; sent.as_slice(), case.sent);
-        assert_eq!(rt; inflight, 0);
+    for flow in &FLOWS {
+        let mut client = new_client(rt.alloc())?;
+        play(rt.alloc(), &mut client, flow)?;
+        assert_eq!(rt; client.output(), flow.sent);
+        assert_eq!(rt; client.state.inflight(), 0);
     }
     Ok(())
-}
-
-/// A client that asked for a publish.
-fn asked(alloc: Global) -> Result<Client, StateError>
-    ensures { IfOk result IsReady }
-{
-    let mut client = new_client(alloc)?;
-    let request = publish(alloc, QoS::AtLeastOnce)?;
-    client.request(request, 1)?;
-    Ok(client)
-}
-
-/// What is left of its output once that many bytes were sent.
-fn left_of(alloc: Global, count: usize) -> Result<BytesMut, StateError> {
-    let mut client = asked(alloc)?;
-    client.sent(count);
-    Ok(client.output)
 }
 
 #[test]
-fn bytes_that_were_sent_are_gone(rt: HostRuntime) -> Result<(), Fail> {
-    for count in [0, 5, 12] {
-        let left = left_of(rt.alloc(), count)?;
-        assert_eq!(rt; left.as_slice(), &PUBLISH[count..]);
+fn bytes_that_were_sent_are_gone(rt: HostRuntime) -> Result<(), StateError> {
+    for count in [0, 5, 12, 100] {
+        let mut client = new_client(rt.alloc())?;
+        ask(rt.alloc(), &mut client, QoS::AtLeastOnce)?;
+        client.sent(count);
+        assert_eq!(rt; client.output(), &PUBLISH[count.min(12)..]);
     }
-    assert!(rt; left_of(rt.alloc(), 100)?.is_empty());
     Ok(())
 }
 
-/// A part of the output is sent, and a part of the ack comes in.
-fn cut_short(client: &mut Client) -> Result<(), StateError>
+/// A part of a publish is sent, and a part of its ack comes in; then the connection is lost, and there is a new one.
+fn is_cut(alloc: Global, client: &mut Client) -> Result<(), StateError>
     requires { IsReady client.old }
-    ensures { IsReady client.new }
+    ensures { OnOk result (IsReady client.new) }
 {
+    ask(alloc, client, QoS::AtLeastOnce)?;
     client.sent(5);
-    client.receive(&ACK[..2], 2)
+    hear(client, &ACK[..2])?;
+    connect(alloc, client, Kind::Again)
 }
 
-/// That client, whose connection is lost then, on a new one.
-fn opened_again(alloc: Global) -> Result<Client, StateError>
-    ensures { IfOk result IsReady }
-{
-    let options = settings_again(alloc)?;
-    let mut client = asked(alloc)?;
-    cut_short(&mut client)?;
-    client.connect(&options)?;
-    Ok(client)
-}
-
-/// The Connect is sent, and the ConnAck says that the broker has the session.
-fn take_up(client: &mut Client) -> Result<(), StateError>
+/// The Connect is sent, and the ConnAck says that the broker has the session, which then goes on.
+fn is_taken_up(rt: &(impl Abort + AllocGlobal), client: &mut Client) -> Result<(), StateError>
     requires { IsReady client.old }
-    ensures { IsReady client.new }
 {
+    assert_eq!(rt; client.output(), CONNECT_AGAIN.as_slice());
     client.sent(CONNECT_AGAIN.len());
-    client.receive(&PRESENT, 3)?;
-    client.resume(4)
-}
-
-/// That client once the session is taken up.
-fn taken_up(alloc: Global) -> Result<Client, StateError>
-    ensures { IfOk result IsReady }
-{
-    let mut client = opened_again(alloc)?;
-    take_up(&mut client)?;
-    Ok(client)
-}
-
-/// A piece comes in.
-fn hear(client: &mut Client, piece: &[u8]) -> Result<(), StateError>
-    requires { IsReady client.old }
-    ensures { IsReady client.new }
-{
-    client.receive(piece, 5)
-}
-
-/// How many ids are in use before and after the ack.
-fn acked(alloc: Global) -> Result<(u16, u16), StateError> {
-    let mut client = taken_up(alloc)?;
-    let before = client.state.inflight();
-    hear(&mut client, &ACK)?;
-    Ok((before, client.state.inflight()))
-}
-
-#[test]
-fn a_cut_and_a_resume(rt: HostRuntime) -> Result<(), Fail> {
-    let connect = opened_again(rt.alloc())?;
-    assert_eq!(rt; connect.output(), CONNECT_AGAIN.as_slice());
-    let again = taken_up(rt.alloc())?;
-    assert_eq!(rt; again.output(), PUBLISH_AGAIN.as_slice());
-    assert_eq!(rt; acked(rt.alloc())?, (1, 0));
+    hear(client, &PRESENT)?;
+    client.resume(4)?;
+    assert_eq!(rt; client.output(), PUBLISH_AGAIN.as_slice());
+    assert_eq!(rt; client.state.inflight(), 1);
+    hear(client, &ACK)?;
+    assert_eq!(rt; client.state.inflight(), 0);
     Ok(())
 }
 
-/// The number of a fault, 0 of none.
-fn number<T: Drop>(ended: Result<T, StateError>) -> u8 {
-    match ended {
-        Ok(_) => 0,
-        Err(fault) => state_error_number(&fault),
-    }
-}
-
-/// The number of the fault of a clean.
-fn clean_number(client: &mut Client) -> u8 {
-    number(client.clean())
+#[test]
+fn a_cut_and_a_resume(rt: HostRuntime) -> Result<(), StateError> {
+    let mut client = new_client(rt.alloc())?;
+    is_cut(rt.alloc(), &mut client)?;
+    is_taken_up(&rt, &mut client)
 }
 
 /// Whether the oldest event is that of the publish.
@@ -357,45 +295,32 @@ fn is_told(client: &mut Client) -> bool {
     client.next_event() == Some(Event::Outgoing(Outgoing::Publish(1)))
 }
 
-/// The number of the fault of a clean before the event of a publish is taken, whether that is the event, and the
-/// number of a clean then; how many ids are in use after it.
-fn cleaned(alloc: Global) -> Result<(u8, bool, u8, u16), StateError> {
-    let mut client = asked(alloc)?;
-    let early = clean_number(&mut client);
-    let told = is_told(&mut client);
-    let late = clean_number(&mut client);
-    Ok((early, told, late, client.state.inflight()))
-}
-
-/// What a clean gives back, once the event is taken.
-fn given_back(client: &mut Client) -> Result<Vec<Request>, StateError> {
-    is_told(client);
-    client.clean()
-}
-
-/// What is sent once the publish is asked for again on another connection.
-fn asked_again(alloc: Global) -> Result<BytesMut, StateError> {
-    let mut client = asked(alloc)?;
-    let mut requests = given_back(&mut client)?;
+/// What a clean gives back last is asked for again.
+fn ask_again(client: &mut Client) -> Result<(), StateError> {
+    let mut requests = client.clean()?;
     match requests.pop() {
-        Some(request) => output_for(alloc, request),
-        None => Ok(BytesMut::new(alloc)),
+        Some(request) => client.request(request, 2),
+        None => Ok(()),
     }
 }
 
-/// What a new client sends for a request.
-fn output_for(alloc: Global, request: Request) -> Result<BytesMut, StateError> {
-    let mut client = new_client(alloc)?;
-    client.request(request, 2)?;
-    Ok(client.output)
+/// A clean is refused before the event of the publish is taken, and then gives the publish back.
+fn is_cleaned(rt: &(impl Abort + AllocGlobal), client: &mut Client) -> Result<(), StateError>
+    requires { IsReady client.old }
+{
+    ask(rt.alloc(), client, QoS::AtLeastOnce)?;
+    assert_eq!(rt; number(client.clean()), 1);
+    assert!(rt; is_told(client));
+    ask_again(client)?;
+    assert_eq!(rt; client.output(), PUBLISH_AGAIN.as_slice());
+    assert_eq!(rt; client.state.inflight(), 1);
+    Ok(())
 }
 
 #[test]
-fn a_clean_gives_back_what_awaits_an_ack(rt: HostRuntime) -> Result<(), Fail> {
-    assert_eq!(rt; cleaned(rt.alloc())?, (1, true, 0, 0));
-    let sent = asked_again(rt.alloc())?;
-    assert_eq!(rt; sent.as_slice(), PUBLISH_AGAIN.as_slice());
-    Ok(())
+fn a_clean_gives_back_what_awaits_an_ack(rt: HostRuntime) -> Result<(), StateError> {
+    let mut client = new_client(rt.alloc())?;
+    is_cleaned(&rt, &mut client)
 }
 
 /// Bytes that no broker sends, with the number of their fault and that of the error in it.
@@ -415,23 +340,22 @@ fn inner(fault: &StateError) -> u8 {
     }
 }
 
-/// The numbers of the fault of a piece, and how many bytes are held after it.
-fn refused(alloc: Global, piece: &[u8]) -> Result<(u8, u8, usize), StateError> {
-    let mut client = new_client(alloc)?;
-    match client.receive(piece, 1) {
-        Ok(()) => Ok((0, 0, client.input.len())),
-        Err(fault) => Ok((
-            state_error_number(&fault),
-            inner(&fault),
-            client.input.len(),
-        )),
+/// The numbers of the fault of a piece.
+fn refused(client: &mut Client, piece: &[u8]) -> (u8, u8)
+    requires { IsReady client.old }
+{
+    match hear(client, piece) {
+        Ok(()) => (0, 0),
+        Err(fault) => (state_error_number(&fault), inner(&fault)),
     }
 }
 
 #[test]
-fn faults_as_numbers(rt: HostRuntime) -> Result<(), Fail> {
+fn faults_as_numbers(rt: HostRuntime) -> Result<(), StateError> {
     for (piece, fault, error) in &REFUSED {
-        assert_eq!(rt; refused(rt.alloc(), piece)?, (*fault, *error, 0));
+        let mut client = new_client(rt.alloc())?;
+        assert_eq!(rt; refused(&mut client, piece), (*fault, *error));
+        assert_eq!(rt; client.input.len(), 0);
     }
     Ok(())
 }

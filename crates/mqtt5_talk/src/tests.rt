@@ -1,5 +1,6 @@
 //! Talks with a broker that sends its bytes piece by piece. Frames are those of MQTT 5.0.
 
+ghost use Rattle.std.specs.Prelude.{OnOk};
 ghost use Rattle.mqtt5_pipe.specs.Pipe.{IsReady};
 
 use crate::{
@@ -8,7 +9,7 @@ use crate::{
 };
 use bytes::Bytes;
 use clap::Command;
-use mqtt5_base::{QoS, Text};
+use mqtt5_base::{Error, QoS, Text};
 use mqtt5_codec::Packet;
 use mqtt5_connect::Connect;
 use mqtt5_flow::Publish;
@@ -189,7 +190,7 @@ fn joined(alloc: Global, frames: &[&[u8]]) -> Result<Vec<u8>, AllocError> {
     Ok(all)
 }
 
-fn connect(alloc: Global) -> Result<Packet, Fail> {
+fn connect(alloc: Global) -> Result<Packet, Error> {
     let connect = Connect {
         keep_alive: 0,
         client_id: Text::from_str(alloc, "")?,
@@ -199,23 +200,50 @@ fn connect(alloc: Global) -> Result<Packet, Fail> {
     Ok(Packet::Connect(connect, None, None))
 }
 
-/// A message of "hi" to "a/b".
-fn message(alloc: Global, quality: QoS) -> Result<Publish, Fail> {
-    let payload = Bytes::copy_from_slice(alloc, b"hi")?;
-    Ok(Publish::new(alloc, "a/b", quality, payload, None)?)
+fn connects(
+    alloc: Global,
+    pipe: &mut Pipe,
+    broker: &mut Broker,
+    written: &mut Vec<u8>,
+) -> Result<(), Trouble>
+    requires { IsReady pipe.old }
+    ensures { OnOk result (IsReady pipe.new) }
+{
+    let connect = connect(alloc)?;
+    open(pipe, &connect, broker, written)
+}
+
+fn message(alloc: Global, topic: &str, quality: QoS, payload: &[u8]) -> Result<Publish, Error> {
+    let payload = Bytes::copy_from_slice(alloc, payload)?;
+    Publish::new(alloc, topic, quality, payload, None)
+}
+
+/// Publishes "hi" to "a/b".
+fn publish_hi(
+    alloc: Global,
+    pipe: &mut Pipe,
+    quality: QoS,
+    broker: &mut Broker,
+    written: &mut Vec<u8>,
+) -> Result<(), Trouble>
+    requires { IsReady pipe.old }
+    ensures { OnOk result (IsReady pipe.new) }
+{
+    let message = message(alloc, "a/b", quality, b"hi")?;
+    publish(pipe, message, broker, written)
 }
 
 fn publishes(
+    alloc: Global,
     pipe: &mut Pipe,
-    connect: &Packet,
-    message: Publish,
+    quality: QoS,
     broker: &mut Broker,
     written: &mut Vec<u8>,
 ) -> Result<(), Trouble>
     requires { IsReady pipe.old }
 {
-    open(pipe, connect, broker, written)?;
-    publish(pipe, message, broker, written)?;
+    connects(alloc, pipe, broker, written)?;
+    publish_hi(alloc, pipe, quality, broker, written)?;
     close(pipe, written)
 }
 
@@ -227,21 +255,25 @@ fn told(alloc: Global, ended: Result<(), Trouble>) -> Result<String, AllocError>
     }
 }
 
+/// Whether a talk ends as it should, with this written.
+fn ended_as(
+    alloc: Global,
+    ended: Result<(), Trouble>,
+    written: &[u8],
+    talk: &Talk,
+) -> Result<bool, AllocError> {
+    let told = told(alloc, ended)?;
+    let wanted = joined(alloc, talk.1)?;
+    Ok(written == wanted.as_slice() && told.as_str() == talk.2)
+}
+
 /// Whether a talk of a publisher is as it should be.
-fn is_published(alloc: Global, quality: QoS, talk: &Talk) -> Result<bool, Fail> {
+fn is_published(alloc: Global, quality: QoS, talk: &Talk) -> Result<bool, AllocError> {
     let mut pipe = new_pipe(alloc, false);
     let mut sender = broker_sending(talk.0);
     let mut written = Vec::new(alloc);
-    let message = message(alloc, quality)?;
-    let ended = publishes(
-        &mut pipe,
-        &connect(alloc)?,
-        message,
-        &mut sender,
-        &mut written,
-    );
-    let wanted = joined(alloc, talk.1)?;
-    Ok(written.as_slice() == wanted.as_slice() && told(alloc, ended)?.as_str() == talk.2)
+    let ended = publishes(alloc, &mut pipe, quality, &mut sender, &mut written);
+    ended_as(alloc, ended, written.as_slice(), talk)
 }
 
 #[test]
@@ -258,38 +290,42 @@ fn messages_are_published(rt: HostRuntime) -> Result<(), Fail> {
     Ok(())
 }
 
+/// Subscribes to "a/#" at QoS 2.
+fn subscribes(alloc: Global, pipe: &mut Pipe, written: &mut Vec<u8>) -> Result<(), Trouble>
+    requires { IsReady pipe.old }
+    ensures { OnOk result (IsReady pipe.new) }
+{
+    let filter = Filter::new(alloc, "a/#", QoS::ExactlyOnce)?;
+    let wanted = Subscribe::new(alloc, filter, None)?;
+    subscribe(pipe, wanted, written)
+}
+
 fn shows<S: Screen>(
+    alloc: Global,
     pipe: &mut Pipe,
-    connect: &Packet,
-    wanted: Subscribe,
     screen: &mut S,
     broker: &mut Broker,
     written: &mut Vec<u8>,
 ) -> Result<(), Trouble>
     requires { IsReady pipe.old }
 {
-    open(pipe, connect, broker, written)?;
-    subscribe(pipe, wanted, written)?;
+    connects(alloc, pipe, broker, written)?;
+    subscribes(alloc, pipe, written)?;
     receive(pipe, screen, 2, broker, written)?;
     close(pipe, written)
 }
 
 /// Whether a talk of a subscriber is as it should be, and what it shows.
-fn is_subscribed<S: Screen>(alloc: Global, screen: &mut S, talk: &Talk) -> Result<bool, Fail> {
+fn is_subscribed<S: Screen>(
+    alloc: Global,
+    screen: &mut S,
+    talk: &Talk,
+) -> Result<bool, AllocError> {
     let mut pipe = new_pipe(alloc, true);
     let mut sender = broker_sending(talk.0);
     let mut written = Vec::new(alloc);
-    let wanted = Subscribe::new(alloc, Filter::new(alloc, "a/#", QoS::ExactlyOnce)?, None)?;
-    let ended = shows(
-        &mut pipe,
-        &connect(alloc)?,
-        wanted,
-        screen,
-        &mut sender,
-        &mut written,
-    );
-    let expected = joined(alloc, talk.1)?;
-    Ok(written.as_slice() == expected.as_slice() && told(alloc, ended)?.as_str() == talk.2)
+    let ended = shows(alloc, &mut pipe, screen, &mut sender, &mut written);
+    ended_as(alloc, ended, written.as_slice(), talk)
 }
 
 #[test]
@@ -324,9 +360,9 @@ const SHOWN: [(&[u8], &[u8]); 6] = [
 ];
 
 fn shown_line(alloc: Global, payload: &[u8]) -> Result<Vec<u8>, Fail> {
+    let message = message(alloc, "t", QoS::AtMostOnce, payload)?;
     let mut screen = lines(alloc, false);
-    let payload = Bytes::copy_from_slice(alloc, payload)?;
-    screen.show(&Publish::new(alloc, "t", QoS::AtMostOnce, payload, None)?)?;
+    screen.show(&message)?;
     Ok(screen.writer)
 }
 
@@ -339,14 +375,14 @@ fn lines_are_text(rt: HostRuntime) -> Result<(), Fail> {
 }
 
 fn shown_raw(alloc: Global, with_topic: bool, with_newline: bool) -> Result<Vec<u8>, Fail> {
+    let message = message(alloc, "t", QoS::AtMostOnce, b"\xff\x00")?;
     let mut screen = Raw {
         alloc,
         writer: Vec::new(alloc),
         with_topic,
         with_newline,
     };
-    let payload = Bytes::copy_from_slice(alloc, b"\xff\x00")?;
-    screen.show(&Publish::new(alloc, "t", QoS::AtMostOnce, payload, None)?)?;
+    screen.show(&message)?;
     Ok(screen.writer)
 }
 
@@ -392,14 +428,19 @@ const WORDS: [(&[&str], &[u8]); 3] = [
     ),
 ];
 
+/// What is written for it.
+fn frame(alloc: Global, connect: &Packet) -> Vec<u8> {
+    let mut pipe = new_pipe(alloc, false);
+    let mut written = Vec::new(alloc);
+    let _ = open(&mut pipe, connect, &mut broker_sending(&[]), &mut written);
+    written
+}
+
 fn connect_bytes(alloc: Global, words: &[&str]) -> Result<Vec<u8>, Fail> {
     let command = Command::new(alloc, "test").no_binary_name(true);
     let matches = connection_options(alloc, command)?.try_get_matches_from(words)?;
     let connect = connect_of(alloc, &matches)?;
-    let mut pipe = new_pipe(alloc, false);
-    let mut written = Vec::new(alloc);
-    let _ = open(&mut pipe, &connect, &mut broker_sending(&[]), &mut written);
-    Ok(written)
+    Ok(frame(alloc, &connect))
 }
 
 #[test]
