@@ -1,9 +1,16 @@
 //! The words of both programs that say how the connection is opened.
 
-ghost use Rattle.std.specs.Prelude.{◌≡◌, IfOk, Some, None, codes};
-ghost use Rattle.clap.specs.Matches.{found_of, first_value};
-ghost use Rattle.mqtt5_base.specs.declared.quality.QoS.TheVariants as quality;
-ghost use Rattle.mqtt5_talk.specs.Connects.{IsConnect};
+ghost use Rattle.std.specs.Prelude.{◌≡◌, IfOk, Some, codes, option_map};
+ghost use Rattle.clap.specs.Matches.{found_of, first_value, one_text};
+ghost use Rattle.mqtt5_talk.specs.Connects.{
+  value_in,
+  IsQuality,
+  IsExpiry,
+  expiring,
+  IsWill,
+  login_in,
+  IsConnect,
+};
 
 use clap::{Arg, ArgAction, ArgMatches, Command, value_parser};
 use mqtt5_base::{Error, QoS, Text};
@@ -103,9 +110,7 @@ fn will_options<'a>(alloc: Global, command: Command<'a>) -> Result<Command<'a>, 
 
 /// The quality of service that an option of this id names; without one 0.
 pub fn quality_of(matches: &ArgMatches<'_>, id: &str) -> QoS
-    ensures none { first_value (found_of matches.now) id.now ≡ None → result ≡ quality.AtMostOnce }
-    ensures one { first_value (found_of matches.now) id.now ≡ Some (codes "1") → result ≡ quality.AtLeastOnce }
-    ensures two { first_value (found_of matches.now) id.now ≡ Some (codes "2") → result ≡ quality.ExactlyOnce }
+    ensures { IsQuality (first_value (found_of matches.now) id.now) result }
 {
     match matches.get_str(id) {
         Some(word) => quality_in(word),
@@ -114,8 +119,7 @@ pub fn quality_of(matches: &ArgMatches<'_>, id: &str) -> QoS
 }
 
 fn quality_in(word: &str) -> QoS
-    ensures one { word.now ≡ codes "1" → result ≡ quality.AtLeastOnce }
-    ensures two { word.now ≡ codes "2" → result ≡ quality.ExactlyOnce }
+    ensures { IsQuality (Some word.now) result }
 {
     match word {
         "1" => QoS::AtLeastOnce,
@@ -125,19 +129,22 @@ fn quality_in(word: &str) -> QoS
 }
 
 /// The value of an option; without one it is empty.
-fn value_of<'a>(matches: &ArgMatches<'a>, id: &str) -> &'a str {
+fn value_of<'a>(matches: &ArgMatches<'a>, id: &str) -> &'a str
+    ensures { result.now ≡ value_in (found_of matches.now) id.now }
+{
     matches.get_str(id).unwrap_or("")
 }
 
 /// The Connect that the words ask for, whose keep alive is 0. E21.
 pub fn connect_of(alloc: Global, matches: &ArgMatches<'_>) -> Result<Packet, Error>
-    ensures { IfOk result IsConnect }
+    ensures { IfOk result (λ connect. IsConnect (found_of matches.now) connect) }
 {
+    let goes_on = matches.get_flag("keep");
     let connect = Connect {
         keep_alive: 0,
         client_id: Text::from_str(alloc, value_of(matches, "id"))?,
-        clean_start: !matches.get_flag("keep"),
-        properties: properties_of(alloc, matches),
+        clean_start: !goes_on,
+        properties: properties_of(alloc, expiry_of(matches, goes_on)),
     };
     let will = will_of(alloc, matches)?;
     let login = login_of(alloc, matches)?;
@@ -145,21 +152,27 @@ pub fn connect_of(alloc: Global, matches: &ArgMatches<'_>) -> Result<Packet, Err
 }
 
 /// How long the broker keeps the session: as the option says, or for ever where the session is gone on with.
-fn expiry_of(matches: &ArgMatches<'_>) -> Option<u32> {
+fn expiry_of(matches: &ArgMatches<'_>, goes_on: bool) -> Option<u32>
+    ensures { IsExpiry (one_text (found_of matches.now) (codes "expiry")) goes_on result }
+{
     match matches.get_one::<u32>("expiry") {
         Some(seconds) => Some(seconds),
-        None if matches.get_flag("keep") => Some(u32::MAX),
+        None if goes_on => Some(u32::MAX),
         None => None,
     }
 }
 
-fn properties_of(alloc: Global, matches: &ArgMatches<'_>) -> Option<ConnectProperties> {
+fn properties_of(alloc: Global, expiry: Option<u32>) -> Option<ConnectProperties>
+    ensures { result ≡ option_map expiring expiry }
+{
     let mut properties = ConnectProperties::new(alloc);
-    properties.session_expiry_interval = Some(expiry_of(matches)?);
+    properties.session_expiry_interval = Some(expiry?);
     Some(properties)
 }
 
-fn will_of(alloc: Global, matches: &ArgMatches<'_>) -> Result<Option<LastWill>, Error> {
+fn will_of(alloc: Global, matches: &ArgMatches<'_>) -> Result<Option<LastWill>, Error>
+    ensures { IfOk result (λ will. IsWill (found_of matches.now) (first_value (found_of matches.now) (codes "will-topic")) will) }
+{
     let Some(topic) = matches.get_str("will-topic") else {
         return Ok(None);
     };
@@ -170,7 +183,9 @@ fn will_of(alloc: Global, matches: &ArgMatches<'_>) -> Result<Option<LastWill>, 
     Ok(Some(will))
 }
 
-fn login_of(alloc: Global, matches: &ArgMatches<'_>) -> Result<Option<Login>, Error> {
+fn login_of(alloc: Global, matches: &ArgMatches<'_>) -> Result<Option<Login>, Error>
+    ensures { IfOk result (λ login. login ≡ login_in (value_in (found_of matches.now) (codes "username")) (value_in (found_of matches.now) (codes "password"))) }
+{
     let username = value_of(matches, "username");
     let password = value_of(matches, "password");
     if username.is_empty() && password.is_empty() {
