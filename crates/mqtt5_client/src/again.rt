@@ -49,7 +49,9 @@ pub(crate) fn given_back(state: &MqttState) -> Result<Vec<Request>, StateError>
     ensures err { IfErr result (λ e. e ≡ OutOfMemory) }
 {
     let mut copy = state.clone()?;
-    let mut requests = copy.clean()?;
+    let requests = copy.clean();
+    drop(copy);
+    let mut requests = requests?;
     if let Some(publish) = state.collision() {
         requests.push(Request::Publish(copied(publish)?))?;
     }

@@ -275,12 +275,12 @@ fn ask(
 ) -> Result<(), StateError>
     ensures { Goes result codec.now (out state.old request at) state.old output.old.items state.new output.new.items }
 {
-    let sent = state.handle_outgoing_packet(request, at);
-    if let Ok(reply) = &sent {
-        return answer(codec, output, reply);
-    }
-    match sent {
-        Ok(_answered) => Ok(()),
+    match state.handle_outgoing_packet(request, at) {
+        Ok(reply) => {
+            let answered = answer(codec, output, &reply);
+            drop(reply);
+            answered
+        }
         Err(fault) => Err(fault),
     }
 }

@@ -73,7 +73,9 @@ pub(crate) fn connect_frame(alloc: Global, options: &MqttOptions) -> Result<Byte
     ensures { IsFrameOf (connect_packet options.now) result }
 {
     let packet = connect_packet(options)?;
-    frame_of(alloc, &packet)
+    let frame = frame_of(alloc, &packet);
+    drop(packet);
+    frame
 }
 
 /// The longest packet that the client takes, where the settings say it.

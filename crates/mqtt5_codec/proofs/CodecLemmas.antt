@@ -1,10 +1,10 @@
 -- What a packet's own reading says of the codec's.
-use Rattle.std.proofs.Common.{◌≡◌, ℕ, ◌/◌, List, take, drop, Option, Some, None, Result, Ok, Err, ◌⊎◌, refl, sym, ap, subst, ◌∙◌, inl, inr}
+use Rattle.std.proofs.Common.{◌≡◌, ℕ, List, take, drop, Option, Some, None, Result, Ok, Err, ◌⊎◌, sym, ap, subst, ◌∙◌, inl, inr}
 use Rattle.mqtt5_base.specs.declared.error.Error.{Error}
 use Rattle.mqtt5_base.specs.declared.error.Error.TheVariants.{OutOfMemory}
 use Rattle.mqtt5_base.specs.declared.header.FixedHeader.{FixedHeader}
-use Rattle.mqtt5_base.specs.Headers.{IsHeader, IsType}
-use Rattle.mqtt5_base.specs.Front.{Front, Whole, front_of_error}
+use Rattle.mqtt5_base.specs.Headers.{IsHeader}
+use Rattle.mqtt5_base.specs.Front.{Front, Whole}
 use Rattle.mqtt5_base.specs.FrontAt.{front}
 use Rattle.mqtt5_base.specs.Frames.{IsWhole}
 use Rattle.mqtt5_base.proofs.FrontLemmas.{front_is}
@@ -14,7 +14,7 @@ use Rattle.mqtt5_codec.specs.PacketsIn.{packet_in}
 use Rattle.mqtt5_codec.specs.Codecs.{FailsFrame, ReadsPacket, Decodes}
 use Rattle.mqtt5_codec.specs.Taken.{ReadsBody}
 use Rattle.mqtt5_codec.proofs.FrameLaws.{frames_read}
-use Rattle.mqtt5_codec.proofs.ReadingLemmas.{frame_read, frame_fault, no_type}
+use Rattle.mqtt5_codec.proofs.ReadingLemmas.{frame_read, frame_fault}
 
 -- what is said of the frame at the front is said of a whole frame
 whole_at : {X : Type 0} (limit : Option ℕ) (s frame new : List ℕ) → front limit s ≡ Whole frame new → ((first : ℕ) (body : List ℕ) → IsWhole frame first body → X) → X
@@ -41,11 +41,6 @@ decoded limit n s new h (Err e) f is left g = inl (by (frame_fault h (take n s) 
     by : IsFaultOf (take n s) e ⊎ (e ≡ OutOfMemory) → FailsFrame e limit s new
     by (inl fault) = inl (take n s, f ∙ ap (λ rest. Whole (take n s) rest) (sym left), fault)
     by (inr memory) = inr (memory, (take n s, drop n s, f, inr left))
-
--- and so is the fault of a frame of type 0
-pub undecoded : (limit : Option ℕ) (n : ℕ) (s new : List ℕ) (h : FixedHeader) (e : Error) → front limit s ≡ Whole (take n s) (drop n s) → IsHeader h (take n s) → new ≡ drop n s → IsType (Err e) (h.byte1 / 16) → Decodes (Err e) limit s new
-undecoded limit n s new h e f is left none =
-    decoded limit n s new h (Err e) f is left (λ memory. no_type h.byte1 (drop h.fixed_header_len (take n s)) none.0 ∙ ap (λ e. Err e) (sym none.1))
 
 -- where a frame is at the front, an error of decoding is one of reading
 pub reads_fault : (limit : Option ℕ) (s new frame rest : List ℕ) (e : Error) → front limit s ≡ Whole frame rest → Decodes (Err e) limit s new → ReadsPacket (Err e) limit s new

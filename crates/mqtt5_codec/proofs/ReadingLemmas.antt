@@ -1,5 +1,5 @@
 -- The packet of a frame that was read by its type's own reader.
-use Rattle.std.proofs.Common.{◌≡◌, ℕ, ◌/◌, List, drop, take, Option, Some, None, Result, Ok, Err, IfOk, ◌⊎◌, inl, inr, refl, sym, ap, subst, ◌∙◌}
+use Rattle.std.proofs.Common.{◌≡◌, ℕ, ◌/◌, List, drop, Some, Result, Ok, Err, IfOk, ◌⊎◌, inl, inr, refl, sym, ap, subst, ◌∙◌}
 use Rattle.mqtt5_base.specs.declared.error.Error.{Error}
 use Rattle.mqtt5_base.specs.declared.header.FixedHeader.{FixedHeader}
 use Rattle.mqtt5_base.specs.Grammar.{Content}

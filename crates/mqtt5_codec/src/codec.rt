@@ -1,14 +1,16 @@
 //! The codec of a stream of packets.
 
-ghost use Rattle.std.specs.Prelude.{◌<◌, length, IfOk, IfSome};
+ghost use Rattle.std.specs.Prelude.{◌<◌, drop, length, IfOk, IfSome};
+ghost use Rattle.mqtt5_base.specs.Headers.{IsHeader};
 ghost use Rattle.mqtt5_base.specs.Puts.{Writes};
 ghost use Rattle.mqtt5_codec.specs.Packets.{writing_under};
 ghost use Rattle.mqtt5_codec.specs.Codecs.{Decodes, Reserves};
+ghost use Rattle.mqtt5_codec.specs.Taken.{ReadsBody};
 
 use crate::packet::Packet;
 use crate::reading;
-use bytes::BytesMut;
-use mqtt5_base::{Error, PacketType, check};
+use bytes::{Bytes, BytesMut};
+use mqtt5_base::{Error, FixedHeader, PacketType, check};
 use std::alloc::Global;
 
 /// Limits on the frames of a stream, in bytes: on the remaining length of what comes in, and on whole
@@ -37,24 +39,7 @@ impl Codec {
             Err(error) => return Err(error),
         };
         let frame = stream.freeze_to(header.frame_length())?;
-        // Each arm returns: as the value of the match the answer would be copied once more.
-        match header.packet_type()? {
-            PacketType::Connect => return reading::read_connect(alloc, header, frame),
-            PacketType::ConnAck => return reading::read_connack(alloc, header, frame),
-            PacketType::Publish => return reading::read_publish(alloc, header, frame),
-            PacketType::PubAck => return reading::read_puback(alloc, header, frame),
-            PacketType::PubRec => return reading::read_pubrec(alloc, header, frame),
-            PacketType::PubRel => return reading::read_pubrel(alloc, header, frame),
-            PacketType::PubComp => return reading::read_pubcomp(alloc, header, frame),
-            PacketType::Subscribe => return reading::read_subscribe(alloc, header, frame),
-            PacketType::SubAck => return reading::read_suback(alloc, header, frame),
-            PacketType::Unsubscribe => return reading::read_unsubscribe(alloc, header, frame),
-            PacketType::UnsubAck => return reading::read_unsuback(alloc, header, frame),
-            PacketType::PingReq => return reading::read_pingreq(header, frame),
-            PacketType::PingResp => return reading::read_pingresp(header, frame),
-            PacketType::Disconnect => return reading::read_disconnect(alloc, header, frame),
-            PacketType::Auth => return reading::read_auth(alloc, header, frame),
-        }
+        read_frame(alloc, header, frame)
     }
 
     /// Appends the packet's frame. E20, E11, E9, E10, E16, E1 or E21, as of `Packet::write` under the
@@ -64,5 +49,31 @@ impl Codec {
     {
         packet.write(buffer, self.max_outgoing_size)?;
         Ok(())
+    }
+}
+
+/// The packet of a whole frame, by its type. E5 of type 0.
+#[inline(always)]
+fn read_frame(alloc: Global, header: FixedHeader, frame: Bytes) -> Result<Option<Packet>, Error>
+    requires { IsHeader header frame }
+    ensures { ReadsBody result header.byte1 (drop header.fixed_header_len frame) }
+{
+    // Each arm returns: as the value of the match the answer would be copied once more.
+    match header.packet_type()? {
+        PacketType::Connect => return reading::read_connect(alloc, header, frame),
+        PacketType::ConnAck => return reading::read_connack(alloc, header, frame),
+        PacketType::Publish => return reading::read_publish(alloc, header, frame),
+        PacketType::PubAck => return reading::read_puback(alloc, header, frame),
+        PacketType::PubRec => return reading::read_pubrec(alloc, header, frame),
+        PacketType::PubRel => return reading::read_pubrel(alloc, header, frame),
+        PacketType::PubComp => return reading::read_pubcomp(alloc, header, frame),
+        PacketType::Subscribe => return reading::read_subscribe(alloc, header, frame),
+        PacketType::SubAck => return reading::read_suback(alloc, header, frame),
+        PacketType::Unsubscribe => return reading::read_unsubscribe(alloc, header, frame),
+        PacketType::UnsubAck => return reading::read_unsuback(alloc, header, frame),
+        PacketType::PingReq => return reading::read_pingreq(header, frame),
+        PacketType::PingResp => return reading::read_pingresp(header, frame),
+        PacketType::Disconnect => return reading::read_disconnect(alloc, header, frame),
+        PacketType::Auth => return reading::read_auth(alloc, header, frame),
     }
 }

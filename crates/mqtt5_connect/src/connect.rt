@@ -117,7 +117,7 @@ impl PropertySet for ConnectProperties {
             Property::UserProperty(key, value) => self.user_properties.push((key, value))?,
             Property::AuthenticationMethod(text) => self.authentication_method = Some(text),
             Property::AuthenticationData(content) => self.authentication_data = Some(content),
-            _other => {}
+            other => drop(other),
         }
         Ok(())
     }

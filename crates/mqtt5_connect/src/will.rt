@@ -91,7 +91,7 @@ impl PropertySet for LastWillProperties {
             Property::ResponseTopic(text) => self.response_topic = Some(text),
             Property::CorrelationData(content) => self.correlation_data = Some(content),
             Property::UserProperty(key, value) => self.user_properties.push((key, value))?,
-            _other => {}
+            other => drop(other),
         }
         Ok(())
     }

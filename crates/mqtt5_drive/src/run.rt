@@ -66,12 +66,12 @@ fn deliver(
 ) -> Result<(), StateError>
     ensures { Goes result codec.now (inc state.old packet at) state.old output.old.items state.new output.new.items }
 {
-    let heard = state.handle_incoming_packet(packet, at);
-    if let Ok(reply) = &heard {
-        return answer(codec, output, reply);
-    }
-    match heard {
-        Ok(_answered) => Ok(()),
+    match state.handle_incoming_packet(packet, at) {
+        Ok(reply) => {
+            let answered = answer(codec, output, &reply);
+            drop(reply);
+            answered
+        }
         Err(error) => Err(error),
     }
 }
@@ -89,12 +89,12 @@ fn ask(
     let Ok(request) = copied(request) else {
         return Err(StateError::OutOfMemory);
     };
-    let sent = state.handle_outgoing_packet(request, at);
-    if let Ok(reply) = &sent {
-        return answer(codec, output, reply);
-    }
-    match sent {
-        Ok(_answered) => Ok(()),
+    match state.handle_outgoing_packet(request, at) {
+        Ok(reply) => {
+            let answered = answer(codec, output, &reply);
+            drop(reply);
+            answered
+        }
         Err(error) => Err(error),
     }
 }

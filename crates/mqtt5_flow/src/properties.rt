@@ -47,7 +47,7 @@ impl PropertySet for AckProperties {
         match property {
             Property::ReasonString(text) => self.reason_string = Some(text),
             Property::UserProperty(key, value) => self.user_properties.push((key, value))?,
-            _other => {}
+            other => drop(other),
         }
         Ok(())
     }

@@ -97,7 +97,7 @@ impl PropertySet for PublishProperties {
             Property::UserProperty(key, value) => self.user_properties.push((key, value))?,
             Property::SubscriptionIdentifier(n) => self.subscription_identifiers.push(n)?,
             Property::ContentType(text) => self.content_type = Some(text),
-            _other => {}
+            other => drop(other),
         }
         Ok(())
     }

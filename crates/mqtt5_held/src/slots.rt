@@ -249,7 +249,10 @@ fn as_packet(request: Request) -> Option<Packet>
     match request {
         Request::Publish(publish) => Some(Packet::Publish(publish)),
         Request::PubRel(release) => Some(Packet::PubRel(release)),
-        _other => None,
+        other => {
+            drop(other);
+            None
+        }
     }
 }
 

@@ -84,7 +84,7 @@ impl PropertySet for AuthProperties {
             Property::AuthenticationData(content) => self.auth_data = Some(content),
             Property::ReasonString(text) => self.reason = Some(text),
             Property::UserProperty(key, value) => self.user_properties.push((key, value))?,
-            _other => {}
+            other => drop(other),
         }
         Ok(())
     }

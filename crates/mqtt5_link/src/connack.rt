@@ -204,7 +204,7 @@ impl PropertySet for ConnAckProperties {
             Property::ServerReference(text) => self.server_reference = Some(text),
             Property::AuthenticationMethod(text) => self.authentication_method = Some(text),
             Property::AuthenticationData(content) => self.authentication_data = Some(content),
-            _other => {}
+            other => drop(other),
         }
         Ok(())
     }

@@ -135,7 +135,7 @@ impl PropertySet for DisconnectProperties {
             Property::ReasonString(text) => self.reason_string = Some(text),
             Property::UserProperty(key, value) => self.user_properties.push((key, value))?,
             Property::ServerReference(text) => self.server_reference = Some(text),
-            _other => {}
+            other => drop(other),
         }
         Ok(())
     }

@@ -6,7 +6,7 @@ ghost use Rattle.mqtt5_flow.specs.declared.publish.Publish.{Publish};
 ghost use Rattle.mqtt5_world.specs.World.{start, run, losses};
 ghost use Rattle.mqtt5_world.specs.Delivery.{times};
 ghost use Rattle.mqtt5_world.specs.Happens.{Happens, IsReport};
-ghost use Rattle.mqtt5_progress.specs.Progress.{IsIdle, upward, downward, round, settle};
+ghost use Rattle.mqtt5_progress.specs.Progress.{IsIdle, Settled, upward, downward, round, settle};
 
 use mqtt5_session::StateError;
 use mqtt5_world::{Report, World, WorldEvent};
@@ -22,6 +22,8 @@ pub fn play_out(alloc: Global, limit: u16, events: &[WorldEvent]) -> Result<Repo
     ensures refused { IfOk result (λ r. r.refused.items ≡ (run events.now (start limit)).refused) }
     ensures state { IfOk result (λ r. r.state ≡ (settle 4 (run events.now (start limit))).session) }
     ensures memory { IfErr result (λ e. e ≡ StateError.OutOfMemory) }
+    // Nothing is on its way, the broker awaits no release, and nothing was refused.
+    ensures nothing_left { IfOk result (λ _. Settled (settle 4 (run events.now (start limit)))) }
     // No id is in use, and nothing waits.
     ensures settled { IfOk result (λ r. IsIdle r.state.core) }
     // A content of QoS 2 was handed on exactly as often as it was accepted.
@@ -43,8 +45,14 @@ fn played_out(alloc: Global, limit: u16, events: &[WorldEvent]) -> Result<Report
     ensures err { IfErr result (λ e. e ≡ StateError.OutOfMemory) }
 {
     let mut world = World::new(alloc, limit)?;
-    world.play_all(alloc, events)?;
-    go_rounds(alloc, &mut world)?;
+    if let Err(fault) = world.play_all(alloc, events) {
+        drop(world);
+        return Err(fault);
+    }
+    if let Err(fault) = go_rounds(alloc, &mut world) {
+        drop(world);
+        return Err(fault);
+    }
     Ok(world.report())
 }
 

@@ -273,15 +273,19 @@ impl MqttState {
             Request::Disconnect => self.send_disconnect(at),
             Request::PubAck(ack) => self.send_puback(ack, at),
             Request::PubRec(ack) => self.send_pubrec(ack, at),
-            _other => Err(StateError::InvalidState),
+            other => {
+                drop(other);
+                Err(StateError::InvalidState)
+            }
         }
     }
 
     /// Takes a packet from the broker at a moment, tells of it, and answers what to send. A publish of QoS 2
-    /// under an id of one that the broker hasn't released is a duplicate: it is answered, and isn't told of
-    /// again. A PubRel of an id that isn't there is answered so. S2: an ack of an id that awaits none. S4: an Auth, or a packet that a broker never sends. S10: a
-    /// Disconnect. S11: a ConnAck that refuses the connection. S12, which leaves the session unchanged; after
-    /// another refusal the packet's event stands, and nothing else is changed.
+    /// under an id of one that the broker hasn't released is a duplicate: it isn't told of again, and is answered,
+    /// unless the acks are the user's; then there is neither event nor answer, and `incoming_pub` has the id. A PubRel
+    /// of an id that isn't there is answered so. S2: an ack of an id that awaits none. S4: an Auth, or a packet that a
+    /// broker never sends. S10: a Disconnect. S11: a ConnAck that refuses the connection. S12, which leaves the session
+    /// unchanged; after another refusal the packet's event stands, and nothing else is changed.
     pub fn handle_incoming_packet(
         &mut self,
         packet: Incoming,
@@ -371,7 +375,6 @@ impl Clone for MqttState {
     fn clone(&self) -> Result<MqttState, AllocError> {
         Ok(MqttState {
             slots: self.slots.clone()?,
-            waiting: copied(&self.waiting)?,
             last_pkid: self.last_pkid,
             current: self.current,
             aliases: self.aliases.clone()?,
@@ -383,6 +386,7 @@ impl Clone for MqttState {
             events: copied_queue(&self.events)?,
             last_incoming: self.last_incoming,
             last_outgoing: self.last_outgoing,
+            waiting: copied(&self.waiting)?,
         })
     }
 }

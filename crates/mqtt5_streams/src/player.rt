@@ -78,7 +78,10 @@ fn played(
         max_outgoing_size: outgoing,
     };
     let mut world = ByteWorld::new(alloc, limit)?;
-    world.play_all(alloc, &codec, events)?;
+    if let Err(fault) = world.play_all(alloc, &codec, events) {
+        drop(world);
+        return Err(fault);
+    }
     Ok(world.report())
 }
 

@@ -112,10 +112,23 @@ impl ByteWorld {
         ensures { Does result (asks_bytes codec.now self.old publish.now) self.new }
     {
         let asked = copied(publish)?;
-        let request = Request::Publish(copied(publish)?);
-        match self.state.handle_outgoing_packet(request, 0) {
-            Ok(reply) => self.accept(codec, asked, &reply),
-            Err(StateError::OutOfMemory) => Err(StateError::OutOfMemory),
+        let Ok(publish) = copied(publish) else {
+            drop(asked);
+            return Err(StateError::OutOfMemory);
+        };
+        match self
+            .state
+            .handle_outgoing_packet(Request::Publish(publish), 0)
+        {
+            Ok(reply) => {
+                let accepted = self.accept(codec, asked, &reply);
+                drop(reply);
+                accepted
+            }
+            Err(StateError::OutOfMemory) => {
+                drop(asked);
+                Err(StateError::OutOfMemory)
+            }
             Err(error) => self.refuse(asked, error),
         }
     }
@@ -174,7 +187,9 @@ impl ByteWorld {
             return Err(StateError::OutOfMemory);
         };
         drop(packet);
-        self.down.reply(None, &reply)
+        let sent = self.down.reply(None, &reply);
+        drop(reply);
+        sent
     }
 
     fn come_down(&mut self, alloc: Global, codec: &Codec, n: usize) -> Result<(), StateError>
@@ -207,7 +222,9 @@ impl ByteWorld {
         ensures down { self.new.down ≡ self.old.down }
     {
         let reply = self.state.handle_incoming_packet(packet, 0)?;
-        self.up.reply(codec.max_outgoing_size, &reply)
+        let sent = self.up.reply(codec.max_outgoing_size, &reply);
+        drop(reply);
+        sent
     }
 
     fn lose(

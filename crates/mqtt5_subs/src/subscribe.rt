@@ -56,7 +56,7 @@ impl PropertySet for SubscribeProperties {
         match property {
             Property::SubscriptionIdentifier(n) => self.id = Some(n),
             Property::UserProperty(key, value) => self.user_properties.push((key, value))?,
-            _other => {}
+            other => drop(other),
         }
         Ok(())
     }

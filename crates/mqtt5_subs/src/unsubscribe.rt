@@ -53,7 +53,7 @@ impl PropertySet for UnsubscribeProperties {
     fn add(&mut self, property: Property) -> Result<(), AllocError> {
         match property {
             Property::UserProperty(key, value) => self.user_properties.push((key, value))?,
-            _other => {}
+            other => drop(other),
         }
         Ok(())
     }

@@ -42,6 +42,9 @@ fn played(alloc: Global, limit: u16, events: &[WorldEvent]) -> Result<Report, St
     ensures err { IfErr result (λ e. e ≡ StateError.OutOfMemory) }
 {
     let mut world = World::new(alloc, limit)?;
-    world.play_all(alloc, events)?;
+    if let Err(fault) = world.play_all(alloc, events) {
+        drop(world);
+        return Err(fault);
+    }
     Ok(world.report())
 }

@@ -12,7 +12,8 @@ use mqtt5_codec::Packet;
 use mqtt5_session::{MqttState, Request, StateError};
 use std::alloc::Global;
 
-/// A law, which does nothing when it is called: a session may be resumed at any time.
+/// A law, which does nothing when it is called: a session may be resumed after any calls, on a new connection. A resume
+/// sends again what is stored, so on a connection that stands it would send it twice (MQTT 5.0 section 4.4).
 pub fn twin_law()
     // Where no stored alias is above the broker's maximum, the resume is accepted.
     ensures within { (limit at : ℕ) (manual : Bool) (calls : List Call) → aliases_over (after_calls calls (fresh limit manual)) ≡ [] → IsOk (resume_of (after_calls calls (fresh limit manual)) at) }
@@ -47,7 +48,9 @@ pub fn twin(
     ensures err { IfErr result (λ e. (e ≡ StateError.OutOfMemory) ⊎ (resume_of (after_calls before.now (fresh limit manual)) 0 ≡ Err e)) }
 {
     let mut state = started(alloc, limit, manual, before)?;
-    both(alloc, &mut state, after)
+    let twin = both(alloc, &mut state, after);
+    drop(state);
+    twin
 }
 
 /// A new session after calls. S12.
@@ -57,8 +60,16 @@ fn started(alloc: Global, limit: u16, manual: bool, calls: &[Call]) -> Result<Mq
     ensures err { IfErr result (λ e. e ≡ StateError.OutOfMemory) }
 {
     let mut state = MqttState::new(alloc, limit, manual)?;
-    let _replies = run(alloc, &mut state, calls)?;
-    Ok(state)
+    match run(alloc, &mut state, calls) {
+        Ok(replies) => {
+            drop(replies);
+            Ok(state)
+        }
+        Err(fault) => {
+            drop(state);
+            Err(fault)
+        }
+    }
 }
 
 /// Runs calls without a resume and with one.
@@ -84,7 +95,9 @@ fn run_copy(alloc: Global, state: &MqttState, calls: &[Call]) -> Result<Vec<Repl
     ensures err { IfErr result (λ e. e ≡ StateError.OutOfMemory) }
 {
     let mut copy = state.clone()?;
-    run(alloc, &mut copy, calls)
+    let replies = run(alloc, &mut copy, calls);
+    drop(copy);
+    replies
 }
 
 /// Runs calls, and answers the replies. S12.

@@ -125,10 +125,19 @@ impl World {
         ensures { Happens result self.new (asks self.old publish.now) }
     {
         let asked = copied(publish)?;
-        let request = Request::Publish(copied(publish)?);
-        match self.state.handle_outgoing_packet(request, 0) {
+        let Ok(publish) = copied(publish) else {
+            drop(asked);
+            return Err(StateError::OutOfMemory);
+        };
+        match self
+            .state
+            .handle_outgoing_packet(Request::Publish(publish), 0)
+        {
             Ok(reply) => self.accept(asked, reply),
-            Err(StateError::OutOfMemory) => Err(StateError::OutOfMemory),
+            Err(StateError::OutOfMemory) => {
+                drop(asked);
+                Err(StateError::OutOfMemory)
+            }
             Err(error) => self.refuse(asked, error),
         }
     }
@@ -137,7 +146,10 @@ impl World {
         ensures ok { OnOk result (self.new ≡ record self.old { up = self.old.up ++ option_to_list reply; accepted = self.old.accepted ++ publish ∷ [] }) }
         ensures err { IfErr result (λ e. e ≡ StateError.OutOfMemory) }
     {
-        send(&mut self.up, reply)?;
+        if let Err(refused) = send(&mut self.up, reply) {
+            drop(publish);
+            return Err(StateError::from(refused));
+        }
         self.accepted.push(publish)?;
         Ok(())
     }
@@ -154,7 +166,11 @@ impl World {
         ensures { Happens result self.new (arrives self.old self.old.up) }
     {
         match self.up.pop_front() {
-            Some(packet) => self.arrive(&packet),
+            Some(packet) => {
+                let arrived = self.arrive(&packet);
+                drop(packet);
+                arrived
+            }
             None => Ok(()),
         }
     }

@@ -69,9 +69,13 @@ impl MqttState {
     {
         let max = self.alias_max;
         if let Some(alias) = alias_over(&publish, max) {
+            drop(publish);
             return Err(StateError::InvalidAlias { alias, max });
         }
-        self.tell_at(Outgoing::Publish(publish.pkid), at)?;
+        if let Err(refused) = self.tell_at(Outgoing::Publish(publish.pkid), at) {
+            drop(publish);
+            return Err(StateError::from(refused));
+        }
         Ok(Some(as_publish(publish)))
     }
 
@@ -165,7 +169,10 @@ impl MqttState {
         requires counted { publish.qos ≢ AtMostOnce }
         ensures { Sends result self.old self.new (Ok None, awaits self.old publish last at) }
     {
-        self.events.reserve(1)?;
+        if let Err(refused) = self.events.reserve(1) {
+            drop(publish);
+            return Err(StateError::from(refused));
+        }
         self.events
             .push_back_reserved(Event::Outgoing(Outgoing::AwaitAck(publish.pkid)));
         self.waiting = Some(publish);

@@ -4,5 +4,5 @@ use Rattle.mqtt5_streams.proofs.player.played.Goals as goal
 
 pub returns-clause-ok : goal.returns-clause-ok
 returns-clause-ok c =
-    reported (codec_of c.args.incoming c.args.outgoing) c.args.limit c.args.events.now _ _ c.play_all.new.self c.in_ok-world.ensures.ok c.in_ok-play_all.ensures
+    reported (codec_of c.args.incoming c.args.outgoing) c.args.limit c.args.events.now _ _ c.play_all.new.self c.in_ok-world.ensures.ok c.in_default.ensures
     (record { handed = c.report.ensures.handed; accepted = c.report.ensures.accepted; refused = c.report.ensures.refused; state = c.report.ensures.state })
