@@ -3,6 +3,7 @@
 mod courses;
 mod delivery;
 mod frames;
+mod laws;
 mod pairs;
 mod sets;
 mod twins;

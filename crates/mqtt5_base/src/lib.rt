@@ -14,8 +14,6 @@ mod quality;
 mod sequence;
 mod stream;
 mod tagged;
-#[cfg(test)]
-mod tests;
 mod text;
 mod value;
 

@@ -5,8 +5,6 @@ mod again;
 mod client;
 mod connecting;
 mod numbers;
-#[cfg(test)]
-mod tests;
 
 pub use client::{Client, one_run};
 pub use mqtt5_session::{Event, MqttState, Request, StateError};

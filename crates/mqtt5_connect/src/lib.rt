@@ -5,8 +5,6 @@ mod connect;
 mod connect_part;
 mod exact;
 mod login;
-#[cfg(test)]
-mod tests;
 mod will;
 
 pub use connect::{Connect, ConnectProperties};

@@ -3,8 +3,6 @@
 
 mod limit;
 mod run;
-#[cfg(test)]
-mod tests;
 
 pub use limit::take_limit;
 pub use run::{Input, Step, calls_law, cutting, drive, may_start, twice};

@@ -1,6 +1,7 @@
 //! Frames as rows of text, walked by few functions: a frame more is a line of `frames`. The parts of a row stand
 //! between blanks; bytes are two digits each, and `-` is none.
 
+mod changed;
 mod frames;
 mod made;
 mod read;
@@ -13,7 +14,8 @@ use mqtt5_base::Error;
 use mqtt5_codec::{Codec, Packet};
 use std::alloc::Global;
 
-/// The debug forms of packets and faults, and what the packets are written as, each one after the other.
+/// The debug forms of packets and faults, and what the packets are written as behind a byte `AA`, each one after the
+/// other.
 #[derive(Drop)]
 struct Notes {
     shown: String,
@@ -22,18 +24,18 @@ struct Notes {
 }
 
 impl Notes {
-    fn new(alloc: Global) -> Notes {
-        Notes {
+    fn new(alloc: Global) -> Result<Notes, Error> {
+        Ok(Notes {
             shown: String::new(alloc),
-            written: BytesMut::new(alloc),
-            encoded: BytesMut::new(alloc),
-        }
+            written: BytesMut::copy_from_slice(alloc, &[0xAA])?,
+            encoded: BytesMut::copy_from_slice(alloc, &[0xAA])?,
+        })
     }
 
     fn are(&self, shown: &str, written: &[u8]) -> bool {
         self.shown.as_str() == shown
-            && self.written.as_slice() == written
-            && self.encoded.as_slice() == written
+            && is_behind(self.written.as_slice(), written)
+            && is_behind(self.encoded.as_slice(), written)
     }
 
     /// Writes a packet under a limit on frames, and notes it. E16 where its size isn't what was written, or it
@@ -66,6 +68,14 @@ impl Notes {
             write!(self.shown, "{fault:?}")?;
         }
         Ok(())
+    }
+}
+
+/// Whether all bytes are a byte `AA` and these.
+fn is_behind(all: &[u8], bytes: &[u8]) -> bool {
+    match all {
+        [first, rest @ ..] => *first == 0xAA && rest == bytes,
+        [] => false,
     }
 }
 

@@ -9,8 +9,6 @@ mod exact;
 mod ids;
 mod slot;
 mod slots;
-#[cfg(test)]
-mod tests;
 
 pub use aliases::{Aliases, alias_of, alias_over};
 pub use error::StateError;

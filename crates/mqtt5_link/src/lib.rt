@@ -6,8 +6,6 @@ mod connack;
 mod disconnect;
 mod exact;
 mod optional;
-#[cfg(test)]
-mod tests;
 
 pub use auth::{Auth, AuthProperties, AuthReasonCode};
 pub use connack::{ConnAck, ConnAckProperties, ConnectReturnCode};

@@ -3,7 +3,5 @@
 
 mod connect_options;
 mod options;
-#[cfg(test)]
-mod tests;
 
 pub use options::MqttOptions;

@@ -3,8 +3,6 @@
 
 mod fault;
 mod pipe;
-#[cfg(test)]
-mod tests;
 
 pub use fault::Fault;
 pub use pipe::{Pipe, one_call};

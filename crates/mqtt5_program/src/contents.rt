@@ -2,8 +2,10 @@
 //! takes no memory.
 
 use crate::report::write_message;
-use mqtt5::{ByteEvent, MqttState, Report, WorldEvent};
 use mqtt5_flow::Publish;
+use mqtt5_session::MqttState;
+use mqtt5_streams::ByteEvent;
+use mqtt5_world::{Report, WorldEvent};
 use std::io;
 use std::io::Write;
 

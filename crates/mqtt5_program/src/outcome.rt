@@ -1,8 +1,9 @@
 //! What came of a script.
 
 use bytes::BytesMut;
-use mqtt5::{MqttState, StateError, Step, drive, may_start};
 use mqtt5_codec::Codec;
+use mqtt5_drive::{Step, drive, may_start};
+use mqtt5_session::{MqttState, StateError};
 use std::alloc::Global;
 use std::num::NonZeroU16;
 

@@ -3,10 +3,10 @@
 ghost use Rattle.std.specs.Prelude.{◌≤◌, length};
 
 use crate::outcome::Outcome;
-use mqtt5::{Event, Outgoing, StateError};
 use mqtt5_base::Error;
 use mqtt5_codec::Packet;
 use mqtt5_flow::Publish;
+use mqtt5_session::{Event, Outgoing, StateError};
 use std::io;
 use std::io::Write;
 

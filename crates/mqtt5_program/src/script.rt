@@ -8,10 +8,13 @@ ghost use Rattle.mqtt5_program.specs.declared.script.LineError.TheVariants as li
 
 use bytes::Bytes;
 use hex::FromHexError;
-use mqtt5::{ByteEvent, Input, Request, Step, WorldEvent};
 use mqtt5_base::{Error, QoS, qos};
+use mqtt5_drive::{Input, Step};
 use mqtt5_flow::{PubAck, PubRec, PubRel, Publish};
+use mqtt5_session::Request;
+use mqtt5_streams::ByteEvent;
 use mqtt5_subs::{Filter, Subscribe, Unsubscribe};
+use mqtt5_world::WorldEvent;
 use std::alloc::{AllocFailed, Global};
 use std::io::{ErrorKind, Read};
 

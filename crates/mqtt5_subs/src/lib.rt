@@ -8,8 +8,6 @@ mod list_body;
 mod listed;
 mod suback;
 mod subscribe;
-#[cfg(test)]
-mod tests;
 mod unsuback;
 mod unsubscribe;
 

@@ -7,8 +7,6 @@ mod program;
 mod publishing;
 mod show;
 mod subscribing;
-#[cfg(test)]
-mod tests;
 mod trouble;
 mod words;
 

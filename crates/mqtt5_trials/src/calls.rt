@@ -7,9 +7,9 @@
 use crate::frames::frame;
 use crate::telling::{Failure, after, answer, may};
 use bytes::BytesMut;
-use mqtt5::{MqttState, Request, StateError};
 use mqtt5_base::Sequence;
 use mqtt5_codec::Packet;
+use mqtt5_session::{MqttState, Request, StateError};
 use std::alloc::Global;
 use std::fmt::Debug;
 use std::io::Write;

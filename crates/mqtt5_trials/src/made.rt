@@ -2,10 +2,11 @@
 
 use crate::telling::{Failure, after, answer, may};
 use bytes::Bytes;
-use mqtt5::{MqttOptions, MqttState};
 use mqtt5_base::QoS;
 use mqtt5_connect::{LastWill, Login};
 use mqtt5_flow::Publish;
+use mqtt5_options::MqttOptions;
+use mqtt5_session::MqttState;
 use mqtt5_subs::{Filter, Subscribe, Unsubscribe};
 use std::alloc::Global;
 use std::io::Write;

@@ -3,13 +3,13 @@
 use crate::calls::{blank, numbered, packet, request};
 use crate::telling::{Failure, after, answer, may};
 use bytes::{Bytes, BytesMut};
-use mqtt5::{
-    Call, Input, MqttState, Request, StateError, Step, WorldEvent, drive, may_start, play,
-    play_out, twin,
-};
 use mqtt5_base::{QoS, qos};
 use mqtt5_codec::Codec;
+use mqtt5_drive::{Input, Step, drive, may_start};
 use mqtt5_flow::Publish;
+use mqtt5_progress::play_out;
+use mqtt5_session::{MqttState, Request, StateError};
+use mqtt5_world::{Call, WorldEvent, play, twin};
 use std::alloc::Global;
 use std::io::Write;
 

@@ -3,8 +3,8 @@
 use crate::parts::will;
 use crate::telling::{Failure, after, answer, may};
 use bytes::Bytes;
-use mqtt5::MqttOptions;
 use mqtt5_base::{Error, Sequence, Text};
+use mqtt5_options::MqttOptions;
 use std::alloc::Global;
 use std::io::Write;
 

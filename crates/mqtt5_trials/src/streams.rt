@@ -3,9 +3,9 @@
 use crate::calls::numbered;
 use crate::telling::{Failure, after, answer, may};
 use bytes::Bytes;
-use mqtt5::{ByteEvent, play_bytes};
 use mqtt5_base::{QoS, qos};
 use mqtt5_flow::Publish;
+use mqtt5_streams::{ByteEvent, play_bytes};
 use std::alloc::Global;
 use std::io::Write;
 

@@ -1,7 +1,7 @@
 //! What a trial prints.
 
-use mqtt5::StateError;
 use mqtt5_base::Error;
+use mqtt5_session::StateError;
 use std::alloc::{AllocError, AllocFailed};
 use std::fmt::Debug;
 use std::io;

@@ -2,14 +2,27 @@
 
 ghost use Rattle.std.specs.Prelude.{◌<◌};
 
-use crate::mqttbytes::QoS;
-use crate::mqttbytes::v5::{Packet, PubCompReason, Publish};
-use crate::{Event, MqttState, Report, StateError, WorldEvent, delivery_law, play, tokens_law};
+use super::walk::{add_fault, cut};
+use crate::mqttbytes::v5::{Packet, Publish};
+use crate::mqttbytes::{Error, QoS};
+use crate::{Event, MqttState, Report, StateError, WorldEvent, play};
 use bytes::Bytes;
-use std::alloc::Global;
+use std::alloc::{AllocError, Global};
 use std::test::Fail;
 
-/// The packet identifier that is asked for: 2 and 3 of `b` and `c`, and the next one of other names.
+/// The greatest id, a quality of service and events by their letters, and what is then reported. `^` and `v` are Up and
+/// Down, `!` is a loss, `2` a loss after which the receive maximum is 2, and another is the name of a publish, which asks
+/// for id 2 as `b` and for 3 as `c`. Publishes are told by their names and refused ones with their fault, `dups` has a 1
+/// for each that is handed on with `dup`, `reason` is that of the PubComp heard last, and `under` has the ids of the
+/// publishes that await an ack under 1 to 5. In the rows one waits and one is refused; one is handed on once over two
+/// losses; ids stand over a smaller maximum; and ids are asked for, over a loss.
+const RUNS: &str = "1 2 A^vBC^v^v^v handed=AB accepted=AB refused=C:S1 ids=0
+1 2 A^!^v^!^v handed=A reason=PacketIdentifierNotFound ids=0
+5 1 ABCD^2E^ handed=AA dups=01 under=12345 ids=5 last=0 maximum=2
+2 2 cb^!^v^v handed=b accepted=b refused=c:S2(3) ids=0 last=0
+";
+
+/// The packet identifier that is asked for.
 fn given_id(name: u8) -> u16 {
     match name {
         b'b' => 2,
@@ -19,16 +32,14 @@ fn given_id(name: u8) -> u16 {
 }
 
 /// A request to publish one byte, its name.
-fn named(alloc: Global, name: u8, qos: QoS) -> Result<WorldEvent, StateError> {
+fn named(alloc: Global, name: u8, qos: QoS) -> Result<WorldEvent, Error> {
     let payload = Bytes::copy_from_slice(alloc, &[name])?;
     let mut publish = Publish::new(alloc, "a", qos, payload, None)?;
     publish.pkid = given_id(name);
     Ok(WorldEvent::Publish(publish))
 }
 
-/// An event by a letter: `^` and `v` are Up and Down, `!` is a loss, `2` a loss after which the receive
-/// maximum is 2, and another is the name of a publish.
-fn event(alloc: Global, letter: u8, qos: QoS) -> Result<WorldEvent, StateError> {
+fn event(alloc: Global, letter: u8, qos: QoS) -> Result<WorldEvent, Error> {
     match letter {
         b'^' => Ok(WorldEvent::Up),
         b'v' => Ok(WorldEvent::Down),
@@ -38,122 +49,139 @@ fn event(alloc: Global, letter: u8, qos: QoS) -> Result<WorldEvent, StateError> 
     }
 }
 
-fn events(alloc: Global, letters: &[u8], qos: QoS) -> Result<Vec<WorldEvent>, StateError> {
+fn events(alloc: Global, letters: &str, qos: QoS) -> Result<Vec<WorldEvent>, Error> {
     let mut events = Vec::new(alloc);
-    for letter in letters {
+    for letter in letters.as_bytes() {
         events.push(event(alloc, *letter, qos)?)?;
     }
     Ok(events)
 }
 
-fn plays(alloc: Global, limit: u16, letters: &[u8], qos: QoS) -> Result<Report, StateError>
+/// Adds the name of a publish.
+fn add_name(publish: &Publish, text: &mut String) -> Result<(), AllocError> {
+    for byte in publish.payload.as_slice() {
+        text.push(char::from(*byte))?;
+    }
+    Ok(())
+}
+
+fn add_names(publishes: &[Publish], text: &mut String) -> Result<(), AllocError> {
+    for publish in publishes {
+        add_name(publish, text)?;
+    }
+    Ok(())
+}
+
+fn add_dups(publishes: &[Publish], text: &mut String) -> Result<(), AllocError> {
+    for publish in publishes {
+        write!(text, "{}", u8::from(publish.dup))?;
+    }
+    Ok(())
+}
+
+fn add_refused(refused: &[(Publish, StateError)], text: &mut String) -> Result<(), AllocError> {
+    for (publish, fault) in refused {
+        add_name(publish, text)?;
+        text.push(':')?;
+        add_fault(fault, text)?;
+    }
+    Ok(())
+}
+
+fn add_reason(state: &MqttState, text: &mut String) -> Result<(), AllocError> {
+    match state.events().back() {
+        Some(Event::Incoming(Packet::PubComp(ack))) => write!(text, "{:?}", ack.reason),
+        _other => Ok(()),
+    }
+}
+
+fn add_under(state: &MqttState, text: &mut String) -> Result<(), AllocError> {
+    for id in 1..=5 {
+        if let Some(publish) = state.outgoing_pub(id) {
+            write!(text, "{}", publish.pkid)?;
+        }
+    }
+    Ok(())
+}
+
+/// Adds what is asked for of a report.
+fn add_look(report: &Report, look: &str, text: &mut String) -> Result<(), AllocError> {
+    match look {
+        "handed" => add_names(report.handed.as_slice(), text),
+        "accepted" => add_names(report.accepted.as_slice(), text),
+        "dups" => add_dups(report.handed.as_slice(), text),
+        "refused" => add_refused(report.refused.as_slice(), text),
+        "reason" => add_reason(&report.state, text),
+        "under" => add_under(&report.state, text),
+        "ids" => write!(text, "{}", report.state.inflight()),
+        "last" => write!(text, "{}", report.state.last_pkid()),
+        _maximum => write!(text, "{}", report.state.max_outgoing_inflight()),
+    }
+}
+
+/// Adds what is asked for, one after another.
+fn add_looks(report: &Report, looks: &str, text: &mut String) -> Result<(), AllocError> {
+    for look in looks.split(' ') {
+        let (name, _told) = look.split_once('=').unwrap_or((look, ""));
+        write!(text, " {name}=")?;
+        add_look(report, name, text)?;
+    }
+    Ok(())
+}
+
+fn add_played(
+    alloc: Global,
+    limit: u16,
+    events: &[WorldEvent],
+    looks: &str,
+    text: &mut String,
+) -> Result<(), Error>
     requires { 0 < limit }
 {
+    let Ok(report) = play(alloc, limit, events) else {
+        return Err(Error::OutOfMemory);
+    };
+    let added = add_looks(&report, looks, text);
+    drop(report);
+    Ok(added?)
+}
+
+/// Adds the reports of a run.
+fn add_run(
+    alloc: Global,
+    limit: u16,
+    letters: &str,
+    looks: &str,
+    qos: QoS,
+    text: &mut String,
+) -> Result<(), Error> {
     let events = events(alloc, letters, qos)?;
-    play(alloc, limit, events.as_slice())
+    let added = add_played(alloc, limit.max(1), events.as_slice(), looks, text);
+    drop(events);
+    added
 }
 
-fn name_of(publish: &Publish) -> Option<u8> {
-    publish.payload.as_slice().first().copied()
-}
-
-/// Whether publishes have these names, in this order.
-fn are_named(publishes: &[Publish], names: &[u8]) -> bool {
-    let mut same = publishes.len() == names.len();
-    for (publish, name) in publishes.iter().zip(names) {
-        same = same && name_of(publish) == Some(*name);
-    }
-    same
-}
-
-/// Whether the publishes with `dup` are those after the first.
-fn first_lacks_dup(publishes: &[Publish]) -> bool {
-    let mut right = true;
-    for (i, publish) in publishes.iter().enumerate() {
-        right = right && publish.dup == (i > 0);
-    }
-    right
-}
-
-/// The name of the first publish that was refused in state S1.
-fn refused_name(report: &Report) -> Option<u8> {
-    match report.refused.first() {
-        Some((publish, StateError::InvalidState)) => name_of(publish),
-        _other => None,
-    }
-}
-
-/// The id of the first publish that was refused as above the limit.
-fn refused_id(report: &Report) -> Option<u16> {
-    match report.refused.first() {
-        Some((_, StateError::Unsolicited(id))) => Some(*id),
-        _other => None,
-    }
-}
-
-/// The reason of the PubComp that was heard last.
-fn last_reason(report: &Report) -> Option<PubCompReason> {
-    match report.state.events().back() {
-        Some(Event::Incoming(Packet::PubComp(ack))) => Some(ack.reason),
-        _other => None,
-    }
-}
-
-/// The id of the publish that awaits an ack under an id; 0 where there is none.
-fn id_under(state: &MqttState, id: u16) -> u16 {
-    match state.outgoing_pub(id) {
-        Some(publish) => publish.pkid,
-        None => 0,
-    }
+fn is_run(alloc: Global, row: &str) -> Result<bool, Error> {
+    let (limit, rest) = cut(row);
+    let (quality, rest) = cut(rest);
+    let (letters, looks) = cut(rest);
+    let Ok(ids) = limit.parse::<u16>() else {
+        return Ok(false);
+    };
+    let qos = if quality == "1" {
+        QoS::AtLeastOnce
+    } else {
+        QoS::ExactlyOnce
+    };
+    let mut text = format!(in alloc; "{limit} {quality} {letters}")?;
+    add_run(alloc, ids, letters, looks, qos, &mut text)?;
+    Ok(text.as_str() == row)
 }
 
 #[test]
-fn one_waits_and_one_is_refused(rt: HostRuntime) -> Result<(), Fail> {
-    tokens_law();
-    delivery_law();
-    let report = plays(rt.alloc(), 1, b"A^vBC^v^v^v", QoS::ExactlyOnce)?;
-    assert!(rt; are_named(report.handed.as_slice(), b"AB"));
-    assert!(rt; are_named(report.accepted.as_slice(), b"AB"));
-    assert_eq!(rt; refused_name(&report), Some(b'C'));
-    assert_eq!(rt; report.refused.len(), 1);
-    assert_eq!(rt; report.state.inflight(), 0);
-    Ok(())
-}
-
-#[test]
-fn handed_on_once_over_two_losses(rt: HostRuntime) -> Result<(), Fail> {
-    let report = plays(rt.alloc(), 1, b"A^!^v^!^v", QoS::ExactlyOnce)?;
-    assert!(rt; are_named(report.handed.as_slice(), b"A"));
-    assert_eq!(rt;
-        last_reason(&report),
-        Some(PubCompReason::PacketIdentifierNotFound)
-    );
-    assert_eq!(rt; report.state.inflight(), 0);
-    Ok(())
-}
-
-#[test]
-fn ids_over_a_smaller_maximum(rt: HostRuntime) -> Result<(), Fail> {
-    let report = plays(rt.alloc(), 5, b"ABCD^2E^", QoS::AtLeastOnce)?;
-    assert!(rt; are_named(report.handed.as_slice(), b"AA"));
-    assert!(rt; first_lacks_dup(report.handed.as_slice()));
-    for id in 1..=5 {
-        assert_eq!(rt; id_under(&report.state, id), id);
+fn runs(rt: HostRuntime) -> Result<(), Fail> {
+    for row in RUNS.lines() {
+        assert!(rt; is_run(rt.alloc(), row)?, "of {row}");
     }
-    assert_eq!(rt; report.state.inflight(), 5);
-    assert_eq!(rt; report.state.last_pkid(), 0);
-    assert_eq!(rt; report.state.max_outgoing_inflight(), 2);
-    Ok(())
-}
-
-#[test]
-fn given_ids_over_a_loss(rt: HostRuntime) -> Result<(), Fail> {
-    let report = plays(rt.alloc(), 2, b"cb^!^v^v", QoS::ExactlyOnce)?;
-    assert!(rt; are_named(report.handed.as_slice(), b"b"));
-    assert!(rt; are_named(report.accepted.as_slice(), b"b"));
-    assert_eq!(rt; refused_id(&report), Some(3));
-    assert_eq!(rt; report.refused.len(), 1);
-    assert_eq!(rt; report.state.inflight(), 0);
-    assert_eq!(rt; report.state.last_pkid(), 0);
     Ok(())
 }

@@ -6,20 +6,26 @@ use bytes::{Bytes, BytesMut};
 use std::alloc::Global;
 use std::test::Fail;
 
-/// The bytes of a set of two ids, read and written again by the public paths.
-fn set_again(alloc: Global) -> Result<BytesMut, Error> {
-    let mut block = Bytes::from_static(&[0x05, 0x01, 0x01, 0x23, 0x00, 0x02]);
-    let mut buffer = BytesMut::new(alloc);
-    if let Some(set) = PublishProperties::read(alloc, &mut block)? {
-        set.write(&mut buffer)?;
+/// A set of two ids.
+const BLOCK: &[u8] = &[0x05, 0x01, 0x01, 0x23, 0x00, 0x02];
+
+/// Reads a set by the public paths, and writes it again.
+fn set_again(alloc: Global, buffer: &mut BytesMut) -> Result<(), Error> {
+    let mut block = Bytes::from_static(BLOCK);
+    match PublishProperties::read(alloc, &mut block)? {
+        Some(set) => {
+            let written = set.write(buffer);
+            drop(set);
+            written
+        }
+        None => Ok(()),
     }
-    Ok(buffer)
 }
 
 #[test]
 fn a_property_set_by_the_public_paths(rt: HostRuntime) -> Result<(), Fail> {
-    let buffer = set_again(rt.alloc())?;
-    let block = [0x05, 0x01, 0x01, 0x23, 0x00, 0x02];
-    assert_eq!(rt; buffer.as_slice(), block.as_slice());
+    let mut buffer = BytesMut::new(rt.alloc());
+    set_again(rt.alloc(), &mut buffer)?;
+    assert!(rt; buffer.as_slice() == BLOCK);
     Ok(())
 }

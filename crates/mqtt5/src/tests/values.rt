@@ -1,63 +1,49 @@
 //! Sessions and events as values.
 
-use super::walk::{add_row, after_calls, standing};
-use crate::{Event, MqttState, Outgoing, StateError, ledger_law};
+use super::walk::{is_row, makes};
+use crate::mqttbytes::Error;
+use crate::{Event, MqttState, Outgoing};
 use mqtt5_base::{copied, same};
-use std::alloc::{AllocError, Global};
+use std::alloc::Global;
 use std::test::Fail;
+
+fn has_nothing_else(state: &MqttState) -> bool {
+    state.manual_acks()
+        && !state.await_pingresp()
+        && state.collision_ping_count() == 0
+        && state.broker_topic_alias_max() == 0
+        && state.collision().is_none()
+        && state.topic_alises(1).is_none()
+        && !state.outgoing_rel(1)
+        && !state.incoming_pub(1)
+}
 
 #[test]
 fn nothing_else_at_first(rt: HostRuntime) -> Result<(), Fail> {
-    ledger_law();
     let state = MqttState::new(rt.alloc(), 2, true)?;
-    assert!(rt; state.manual_acks() && !state.await_pingresp());
-    assert_eq!(rt; state.collision_ping_count(), 0);
-    assert_eq!(rt; state.broker_topic_alias_max(), 0);
-    assert!(rt; state.collision().is_none() && state.topic_alises(1).is_none());
-    assert!(rt; !state.outgoing_rel(1) && !state.incoming_pub(1));
+    let right = has_nothing_else(&state);
+    drop(state);
+    assert!(rt; right);
     Ok(())
 }
 
-/// The row of an ack to the clone, and what stands in the session.
-fn parted(alloc: Global, state: &MqttState, copy: &mut MqttState) -> Result<String, StateError> {
-    let mut text = String::new(alloc);
-    add_row(alloc, copy, "<A", &mut text)?;
-    text.push_str(standing(alloc, state)?.as_str())?;
-    Ok(text)
-}
-
-fn parted_from_clone(alloc: Global, state: &MqttState) -> Result<String, StateError> {
+/// Whether an ack to a clone leaves the session as it was, and the session is shown as one.
+fn is_its_own(alloc: Global, state: &mut MqttState) -> Result<bool, Error> {
+    makes(alloc, state, "*B")?;
     let mut copy = state.clone()?;
-    let text = parted(alloc, state, &mut copy);
+    let acked = is_row(alloc, &mut copy, "<A - A ../0@1");
     drop(copy);
-    text
-}
-
-fn sent_and_cloned(alloc: Global) -> Result<String, StateError> {
-    let state = after_calls(alloc, "*B")?;
-    let text = parted_from_clone(alloc, &state);
-    drop(state);
-    text
+    let shown = format!(in alloc; "{state:?}")?;
+    let stands = is_row(alloc, state, "| B./1@1 - =")?;
+    Ok(acked? && stands && shown.as_str().starts_with("MqttState { "))
 }
 
 #[test]
 fn a_clone_goes_its_own_way(rt: HostRuntime) -> Result<(), Fail> {
-    let came = sent_and_cloned(rt.alloc())?;
-    assert_eq!(rt; came.as_str(), "<A - A ../0@1\nB./1@1");
-    Ok(())
-}
-
-fn shown(alloc: Global) -> Result<String, StateError> {
-    let state = after_calls(alloc, "")?;
-    let text = format!(in alloc; "{state:?}");
+    let mut state = MqttState::new(rt.alloc(), 2, false)?;
+    let right = is_its_own(rt.alloc(), &mut state);
     drop(state);
-    Ok(text?)
-}
-
-#[test]
-fn a_session_is_shown(rt: HostRuntime) -> Result<(), Fail> {
-    let text = shown(rt.alloc())?;
-    assert!(rt; text.as_str().starts_with("MqttState { "));
+    assert!(rt; right?);
     Ok(())
 }
 
@@ -65,17 +51,24 @@ fn told(pkid: u16) -> Event {
     Event::Outgoing(Outgoing::Publish(pkid))
 }
 
-fn is_its_copy(event: &Event) -> Result<bool, AllocError> {
-    let copy = copied(event)?;
-    Ok(same(event, &copy))
+fn is_its_copy(event: &Event) -> bool {
+    let copy = copied(event);
+    let right = match &copy {
+        Ok(copy) => same(event, copy),
+        Err(_) => false,
+    };
+    drop(copy);
+    right
 }
 
-fn told_is_its_copy() -> Result<bool, AllocError> {
-    is_its_copy(&told(1))
-}
-
-fn told_of_two_ids() -> bool {
-    same(&told(1), &told(2))
+/// Whether an event equals its copy, and the same of another id.
+fn are_told() -> (bool, bool) {
+    let first = told(1);
+    let second = told(2);
+    let compared = (is_its_copy(&first), same(&first, &second));
+    drop(first);
+    drop(second);
+    compared
 }
 
 fn noted(left: Outgoing, right: Outgoing) -> bool {
@@ -84,10 +77,9 @@ fn noted(left: Outgoing, right: Outgoing) -> bool {
 
 #[test]
 fn events_are_compared(rt: HostRuntime) -> Result<(), Fail> {
-    assert_eq!(rt; told_is_its_copy(), Ok(true));
-    assert!(rt; !told_of_two_ids());
-    assert!(rt; noted(Outgoing::PingReq, Outgoing::PingReq));
-    assert!(rt; !noted(Outgoing::Publish(1), Outgoing::PubAck(1)));
-    assert!(rt; !noted(Outgoing::Publish(1), Outgoing::Publish(2)));
+    let pinged = noted(Outgoing::PingReq, Outgoing::PingReq);
+    let acked = noted(Outgoing::Publish(1), Outgoing::PubAck(1));
+    let published = noted(Outgoing::Publish(1), Outgoing::Publish(2));
+    assert!(rt; are_told() == (true, false) && pinged && !acked && !published);
     Ok(())
 }

@@ -108,7 +108,7 @@ fn is_noted(
     form: &str,
     bytes: &[u8],
 ) -> Result<bool, Error> {
-    let mut notes = Notes::new(alloc);
+    let mut notes = Notes::new(alloc)?;
     let added = notes.add(made(alloc, letter), max);
     let noted = notes.are(form, bytes);
     drop(notes);

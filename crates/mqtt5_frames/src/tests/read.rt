@@ -33,7 +33,7 @@ fn is_read(
     again: &[u8],
     form: &str,
 ) -> Result<bool, Error> {
-    let mut notes = Notes::new(alloc);
+    let mut notes = Notes::new(alloc)?;
     let mut left = BytesMut::new(alloc);
     let read = note_read(alloc, &mut left, stream, max, &mut notes);
     let noted = notes.are(form, again) && left.as_slice() == rest;
@@ -49,7 +49,8 @@ fn is_row(alloc: Global, row: &str) -> Result<bool, Error> {
     let (again, form) = cut(rest);
     let mut stream = bytes_of(alloc, frame)?;
     stream.push(b'z')?;
-    let again = bytes_of(alloc, if again == "=" { frame } else { again })?;
+    let as_read = again == "=" || again == "*";
+    let again = bytes_of(alloc, if as_read { frame } else { again })?;
     let answer = is_read(alloc, stream.as_slice(), None, b"z", again.as_slice(), form);
     drop(again);
     drop(stream);

@@ -117,7 +117,7 @@ fn take_in(
 
 /// Whether all packets are read of a stream in pieces, each with the piece that makes it whole.
 fn in_pieces(alloc: Global, all: &Frames, at: usize) -> Result<bool, Error> {
-    let mut notes = Notes::new(alloc);
+    let mut notes = Notes::new(alloc)?;
     let mut stream = BytesMut::new(alloc);
     let taken = take_in(alloc, &mut stream, &mut notes, all, at);
     let noted = notes.are(all.forms.as_str(), all.bytes.as_slice());

@@ -1,12 +1,7 @@
-//! What comes of each input in each state, in the words of `walk`.
+//! What comes of each call in each state, in the words of `walk`.
 
-/// Inputs that every state answers alike, and that leave what stood.
-pub const ALIKE_INPUTS: &str =
-    "<0 <1 <k <s <u <D <d <H <h <N <P <S <U >0 >3 >4 >5 >A >a >R >r >C >c >p *S >s >u >D";
-
-/// What comes of them.
-pub const ALIKE: &str = "\
-<0 - 0 =
+/// Rows that every state has alike, and that leave what stood.
+pub const ALIKE: &str = "<0 - 0 =
 <1 A 1,PubAck(1) =
 <k S11(ServerBusy) k =
 <s - s =
@@ -33,32 +28,12 @@ pub const ALIKE: &str = "\
 *S S6 - =
 >s S1 - =
 >u S1 - =
->D D Disconnect =
-";
+>D D Disconnect =";
 
-/// The other inputs.
-pub const INPUTS: &str = "<A <a <R <n <r <C <c <L <l <2 <K <p >1 >2 *1 *2 >L >l *L >P >S >U *U >E";
-
-/// The states: the calls that lead to each, what stands there, and what comes of each of those inputs.
-pub const STATES: [(&str, &str, &str); 14] = [
-    ("", "../0", FREE),
-    (">1", "1./1", SENT_ONCE),
-    (">2", "2./1", SENT_TWICE),
-    (">2 <R", "r./1", RELEASED),
-    (">1 >w ^", "..+w/0", FREE_AWAITED),
-    (">1 >w", "1.+w/1", SENT_ONCE_AWAITED),
-    (">2 >w", "2.+w/1", SENT_TWICE_AWAITED),
-    (">2 >w <R", "r.+w/1", RELEASED_AWAITED),
-    (">o >v", ".o+v/1", FREE_BESIDE),
-    (">o >v >1", "1o+v/2", SENT_ONCE_BESIDE),
-    (">o >v >2", "2o+v/2", SENT_TWICE_BESIDE),
-    (">2 <R >o >v", "ro+v/2", RELEASED_BESIDE),
-    ("<2 >P", "../0i1p1", FREE_RECEIVED),
-    (">2 >w >P <2", "2.+w/1i1p1c1", SENT_TWICE_RECEIVED),
-];
-
-/// Free, and no publish waits.
-const FREE: &str = "\
+/// The states, of an id that is free, sent under at QoS 1 or 2, or released, while no publish waits or one does for this
+/// or another id, and with an id of the broker: the calls that lead to each, what stands there, and the other rows.
+pub const STATES: &str = "after
+| ../0 - =
 <A S2(1) A =
 <a S2(1) a =
 <R S2(1) R =
@@ -83,10 +58,9 @@ const FREE: &str = "\
 >U U Unsubscribe(1) ../0@1
 *U U Unsubscribe(1) ../0@1
 >E E Unsubscribe(1) ../0@1
-";
 
-/// Sent at QoS 1, and no publish waits.
-const SENT_ONCE: &str = "\
+after >1
+| 1./1 - =
 <A - A ../0
 <a - a ../0
 <R L R,PubRel(1) r./1
@@ -111,10 +85,9 @@ const SENT_ONCE: &str = "\
 >U U Unsubscribe(1) 1./1@1
 *U U Unsubscribe(1) 1./1@1
 >E E Unsubscribe(1) 1./1@1
-";
 
-/// Sent at QoS 2, and no publish waits.
-const SENT_TWICE: &str = "\
+after >2
+| 2./1 - =
 <A - A ../0
 <a - a ../0
 <R L R,PubRel(1) r./1
@@ -139,10 +112,9 @@ const SENT_TWICE: &str = "\
 >U U Unsubscribe(1) 2./1@1
 *U U Unsubscribe(1) 2./1@1
 >E E Unsubscribe(1) 2./1@1
-";
 
-/// Released, and no publish waits.
-const RELEASED: &str = "\
+after >2 <R
+| r./1 - =
 <A S2(1) A =
 <a S2(1) a =
 <R S2(1) R =
@@ -167,10 +139,9 @@ const RELEASED: &str = "\
 >U U Unsubscribe(1) r./1@1
 *U U Unsubscribe(1) r./1@1
 >E E Unsubscribe(1) r./1@1
-";
 
-/// Free after a clean, and a publish waits for it still.
-const FREE_AWAITED: &str = "\
+after >1 >w ^
+| ..+w/0 - =
 <A S2(1) A =
 <a S2(1) a =
 <R S2(1) R =
@@ -195,10 +166,9 @@ const FREE_AWAITED: &str = "\
 >U U Unsubscribe(1) ..+w/0@1
 *U U Unsubscribe(1) ..+w/0@1
 >E E Unsubscribe(1) ..+w/0@1
-";
 
-/// Sent at QoS 1, and a publish waits for it.
-const SENT_ONCE_AWAITED: &str = "\
+after >1 >w
+| 1.+w/1 - =
 <A w A,Publish(1) w./1
 <a w a,Publish(1) w./1
 <R L R,PubRel(1) r.+w/1
@@ -223,10 +193,9 @@ const SENT_ONCE_AWAITED: &str = "\
 >U U Unsubscribe(1) 1.+w/1@1
 *U U Unsubscribe(1) 1.+w/1@1
 >E E Unsubscribe(1) 1.+w/1@1
-";
 
-/// Sent at QoS 2, and a publish waits for it.
-const SENT_TWICE_AWAITED: &str = "\
+after >2 >w
+| 2.+w/1 - =
 <A w A,Publish(1) w./1
 <a w a,Publish(1) w./1
 <R L R,PubRel(1) r.+w/1
@@ -251,10 +220,9 @@ const SENT_TWICE_AWAITED: &str = "\
 >U U Unsubscribe(1) 2.+w/1@1
 *U U Unsubscribe(1) 2.+w/1@1
 >E E Unsubscribe(1) 2.+w/1@1
-";
 
-/// Released, and a publish waits for it.
-const RELEASED_AWAITED: &str = "\
+after >2 >w <R
+| r.+w/1 - =
 <A S2(1) A =
 <a S2(1) a =
 <R S2(1) R =
@@ -279,10 +247,9 @@ const RELEASED_AWAITED: &str = "\
 >U U Unsubscribe(1) r.+w/1@1
 *U U Unsubscribe(1) r.+w/1@1
 >E E Unsubscribe(1) r.+w/1@1
-";
 
-/// Free, and a publish waits for the other id.
-const FREE_BESIDE: &str = "\
+after >o >v
+| .o+v/1 - =
 <A S2(1) A =
 <a S2(1) a =
 <R S2(1) R =
@@ -307,10 +274,9 @@ const FREE_BESIDE: &str = "\
 >U U Unsubscribe(1) .o+v/1@1
 *U U Unsubscribe(1) .o+v/1@1
 >E E Unsubscribe(1) .o+v/1@1
-";
 
-/// Sent at QoS 1, and a publish waits for the other id.
-const SENT_ONCE_BESIDE: &str = "\
+after >o >v >1
+| 1o+v/2 - =
 <A - A .o+v/1
 <a - a .o+v/1
 <R L R,PubRel(1) ro+v/2
@@ -335,10 +301,9 @@ const SENT_ONCE_BESIDE: &str = "\
 >U U Unsubscribe(1) 1o+v/2@1
 *U U Unsubscribe(1) 1o+v/2@1
 >E E Unsubscribe(1) 1o+v/2@1
-";
 
-/// Sent at QoS 2, and a publish waits for the other id.
-const SENT_TWICE_BESIDE: &str = "\
+after >o >v >2
+| 2o+v/2 - =
 <A - A .o+v/1
 <a - a .o+v/1
 <R L R,PubRel(1) ro+v/2
@@ -363,10 +328,9 @@ const SENT_TWICE_BESIDE: &str = "\
 >U U Unsubscribe(1) 2o+v/2@1
 *U U Unsubscribe(1) 2o+v/2@1
 >E E Unsubscribe(1) 2o+v/2@1
-";
 
-/// Released, and a publish waits for the other id.
-const RELEASED_BESIDE: &str = "\
+after >2 <R >o >v
+| ro+v/2 - =
 <A S2(1) A =
 <a S2(1) a =
 <R S2(1) R =
@@ -391,10 +355,9 @@ const RELEASED_BESIDE: &str = "\
 >U U Unsubscribe(1) ro+v/2@1
 *U U Unsubscribe(1) ro+v/2@1
 >E E Unsubscribe(1) ro+v/2@1
-";
 
-/// Free, and no publish waits; the broker's id 1 is held, and a ping isn't answered.
-const FREE_RECEIVED: &str = "\
+after <2 >P
+| ../0i1p1 - =
 <A S2(1) A =
 <a S2(1) a =
 <R S2(1) R =
@@ -419,10 +382,9 @@ const FREE_RECEIVED: &str = "\
 >U U Unsubscribe(1) ../0@1i1p1
 *U U Unsubscribe(1) ../0@1i1p1
 >E E Unsubscribe(1) ../0@1i1p1
-";
 
-/// Sent at QoS 2, and a publish waits for it; the broker's id 1 is held, and a ping isn't answered.
-const SENT_TWICE_RECEIVED: &str = "\
+after >2 >w >P <2
+| 2.+w/1i1p1c1 - =
 <A w A,Publish(1) w./1i1p1
 <a w a,Publish(1) w./1i1p1
 <R L R,PubRel(1) r.+w/1i1p1c1
@@ -446,5 +408,4 @@ const SENT_TWICE_RECEIVED: &str = "\
 >S S Subscribe(1) 2.+w/1@1i1p1c1
 >U U Unsubscribe(1) 2.+w/1@1i1p1c1
 *U U Unsubscribe(1) 2.+w/1@1i1p1c1
->E E Unsubscribe(1) 2.+w/1@1i1p1c1
-";
+>E E Unsubscribe(1) 2.+w/1@1i1p1c1";

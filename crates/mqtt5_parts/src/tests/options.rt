@@ -3,12 +3,12 @@
 ghost use Rattle.std.specs.Prelude.{◌≡◌, Some, false};
 ghost use Rattle.mqtt5_options.specs.Options.{properties_of, with_properties};
 
-use crate::MqttOptions;
+use super::write_line;
 use bytes::Bytes;
 use mqtt5_base::{Error, QoS, Sequence, Text};
 use mqtt5_connect::{ConnectProperties, LastWill, Login};
+use mqtt5_options::MqttOptions;
 use std::alloc::Global;
-use std::fmt::{Debug, Write};
 use std::test::Fail;
 use std::time::Duration;
 
@@ -44,24 +44,19 @@ Ok(MqttOptions { broker_addr: "localhost", port: 1883, keep_alive: 60s, clean_st
 Ok(Login { username: "u", password: "p" })
 "#;
 
-/// Debug of a value, which is then let go, in a line of its own.
-fn show<T: Debug + Drop>(text: &mut String, value: T) -> Result<(), Error> {
-    writeln!(text, "{value:?}").map_err(|_| Error::OutOfMemory)
-}
-
 /// A clone of the settings, and each of them.
 fn show_all(text: &mut String, options: &MqttOptions) -> Result<(), Error> {
-    show(text, options.clone()?)?;
-    show(text, numbers(options))?;
-    show(text, connect_numbers(options))?;
-    show(text, options.broker_address())?;
-    show(text, options.client_id())?;
-    show(text, options.last_will())?;
-    show(text, options.credentials())?;
-    show(text, options.connect_properties())?;
-    show(text, options.user_properties())?;
-    show(text, options.authentication_method())?;
-    show(text, options.authentication_data())
+    write_line(text, options.clone()?)?;
+    write_line(text, numbers(options))?;
+    write_line(text, connect_numbers(options))?;
+    write_line(text, options.broker_address())?;
+    write_line(text, options.client_id())?;
+    write_line(text, options.last_will())?;
+    write_line(text, options.credentials())?;
+    write_line(text, options.connect_properties())?;
+    write_line(text, options.user_properties())?;
+    write_line(text, options.authentication_method())?;
+    write_line(text, options.authentication_data())
 }
 
 fn numbers(options: &MqttOptions) -> (Duration, Duration, bool, bool, usize, u64, Option<u16>) {
@@ -151,9 +146,9 @@ fn set_texts(alloc: Global, options: &mut MqttOptions) -> Result<(), Error> {
 fn show_steps(alloc: Global, text: &mut String, options: &mut MqttOptions) -> Result<(), Error> {
     show_all(text, options)?;
     chain(options);
-    show(text, options.connect_properties())?;
+    write_line(text, options.connect_properties())?;
     options.set_connect_properties(ConnectProperties::new(alloc));
-    show(text, options.topic_alias_max())?;
+    write_line(text, options.topic_alias_max())?;
     set_numbers(options);
     set_texts(alloc, options)?;
     show_all(text, options)
@@ -165,8 +160,8 @@ fn shown(alloc: Global) -> Result<String, Error> {
     let steps = show_steps(alloc, &mut text, &mut options);
     drop(options);
     steps?;
-    show(&mut text, MqttOptions::new(alloc, "", "localhost", 1883))?;
-    show(&mut text, Login::new(alloc, "u", "p"))?;
+    write_line(&mut text, MqttOptions::new(alloc, "", "localhost", 1883))?;
+    write_line(&mut text, Login::new(alloc, "u", "p"))?;
     Ok(text)
 }
 

@@ -1,0 +1,283 @@
+//! A client, call by call.
+
+ghost use Rattle.std.specs.Prelude.{OnOk};
+ghost use Rattle.std.specs.Bool.{Decides};
+ghost use Rattle.mqtt5_client.specs.Client.{IsReady};
+
+use super::drive::{drives, takes_limit};
+use super::first::{hear, publish_first};
+use super::{add_bytes, bytes_of, cut, number_of, publish_hi, quality_of};
+use mqtt5_base::{Error, QoS, check};
+use mqtt5_client::{Client, Event, Request, StateError, error_number, state_error_number};
+use mqtt5_connect::LastWill;
+use mqtt5_options::MqttOptions;
+use std::alloc::{AllocError, Global};
+use std::test::Fail;
+use std::time::Duration;
+
+/// A client of ten ids. `connect` is of client "c" with keep alive 60 and clean start (3.1); `parts` adds a will of "m" to
+/// "w", QoS 1, retain, and the login "u", "p"; `again` has no clean start, a keep alive of 70,000 seconds and a maximum
+/// packet size of 100 (3.1.2.11.4). `ask` is a publish of "hi" to "a/b" at a quality of service (3.3), `hear` a piece that
+/// comes in, and `clean` asks again for what is given back last. `limits` are those of what comes in and what is sent,
+/// `maxima` those of publishes in flight and of topic aliases.
+const CALLS: &str = "connect; output=100E00044D5154540502003C00000163; limits=None/None
+connect:parts; output=101B00044D51545405EE003C000001630000017700016D000175000170; limits=None/None
+connect:again; output=101300044D5154540500FFFF052700000064000163; limits=Some(100)/None
+hear:200E00000B21000227; hear:0000000B220003; maxima=2/3; limits=None/Some(11); ask:1=S9(12,11)
+ask:0; hear:-; hear:-; output=30080003612F62006869; ids=0
+ask:1; hear:400200; hear:01; output=320A0003612F620001006869; ids=0
+ask:2; hear:50020001; hear:70020001; output=340A0003612F62000100686962020001; ids=0
+hear:3005000161; hear:0078; output=-; ids=0
+hear:3207000161; hear:00070078; output=40020007; ids=0
+hear:340700016100070078; hear:62020007; output=5002000770020007; ids=0
+ask:1; sent:0; output=320A0003612F620001006869
+ask:1; sent:5; output=2F620001006869
+ask:1; sent:12; output=-
+ask:1; sent:100; output=-
+ask:1; sent:5; hear:4002; connect:again; output=101300044D5154540500FFFF052700000064000163; sent:21; hear:2003010000; resume; output=3A0A0003612F620001006869; ids=1; hear:40020001; ids=0
+ask:1; clean=S1; event=Publish(1); clean; output=3A0A0003612F620001006869; ids=1
+hear:40020005=S2(5); held=-
+hear:C000=S4; held=-
+hear:30FFFFFFFF=S7E17; held=-
+hear:E0028B00=S10; held=-
+hear:2003008700=S11; held=-
+";
+
+/// Adds a will and a login.
+fn add_parts(alloc: Global, options: &mut MqttOptions) -> Result<(), Error> {
+    let message = Vec::from_slice(alloc, b"m")?;
+    let will = LastWill::new(alloc, "w", message, QoS::AtLeastOnce, true, None)?;
+    options.set_last_will(will);
+    options.set_credentials("u", "p")
+}
+
+fn change(options: &mut MqttOptions) {
+    options.set_clean_start(false);
+    options.set_keep_alive(Duration::from_secs(70000));
+    options.set_max_packet_size(Some(100));
+}
+
+/// Makes the settings those of this name.
+fn set(alloc: Global, options: &mut MqttOptions, name: &str) -> Result<(), Error> {
+    match name {
+        "parts" => add_parts(alloc, options),
+        "again" => Ok(change(options)),
+        _plain => Ok(()),
+    }
+}
+
+fn begins(
+    alloc: Global,
+    client: &mut Client,
+    options: &mut MqttOptions,
+    name: &str,
+) -> Result<(), StateError> {
+    set(alloc, options, name)?;
+    client.connect(options)
+}
+
+fn connects(alloc: Global, client: &mut Client, name: &str) -> Result<(), StateError> {
+    let mut options = MqttOptions::new(alloc, "c", "localhost", 1883)?;
+    let begun = begins(alloc, client, &mut options, name);
+    drop(options);
+    begun
+}
+
+fn asks(alloc: Global, client: &mut Client, quality: &str) -> Result<(), StateError>
+    requires { IsReady client.old }
+{
+    let publish = publish_hi(alloc, quality_of(quality))?;
+    client.request(Request::Publish(publish), 1)
+}
+
+fn hears(alloc: Global, client: &mut Client, digits: &str) -> Result<(), StateError>
+    requires { IsReady client.old }
+{
+    let piece = bytes_of(alloc, digits)?;
+    client.receive(piece.as_slice(), 5)
+}
+
+/// What a clean gives back last.
+fn given_back(client: &mut Client) -> Result<Option<Request>, StateError>
+    ensures { OnOk result (IsReady client.new) }
+{
+    let mut requests = client.clean()?;
+    let last = requests.pop();
+    drop(requests);
+    Ok(last)
+}
+
+/// That is asked for again.
+fn cleans(client: &mut Client) -> Result<(), StateError> {
+    match given_back(client)? {
+        Some(request) => client.request(request, 2),
+        None => Ok(()),
+    }
+}
+
+/// Whether the input needs more bytes, as an empty one does.
+fn is_ready(client: &Client) -> bool
+    ensures { Decides result (IsReady client.now) }
+{
+    match check(client.input.as_slice(), client.codec.max_incoming_size) {
+        Err(Error::InsufficientBytes(_)) => true,
+        _other => false,
+    }
+}
+
+/// Makes a call.
+fn calls(alloc: Global, client: &mut Client, name: &str, argument: &str) -> Result<(), StateError>
+    requires { IsReady client.old }
+{
+    match name {
+        "connect" => connects(alloc, client, argument),
+        "ask" => asks(alloc, client, argument),
+        "hear" => hears(alloc, client, argument),
+        "resume" => client.resume(4),
+        "clean" => cleans(client),
+        _drive => drives(alloc, client, argument),
+    }
+}
+
+/// Sets a limit of the codec, or takes bytes out of the output.
+fn sets(client: &mut Client, name: &str, number: u32) {
+    match name {
+        "in" => client.codec.max_incoming_size = Some(number),
+        "out" => client.codec.max_outgoing_size = Some(number),
+        _sent => client.sent(number as usize),
+    }
+}
+
+/// Adds a fault by its number, with what it carries.
+fn add_fault(fault: &StateError, text: &mut String) -> Result<(), AllocError> {
+    write!(text, "=S{}", state_error_number(fault))?;
+    match fault {
+        StateError::Unsolicited(id) => write!(text, "({id})"),
+        StateError::OutgoingPacketTooLarge { pkt_size, max } => write!(text, "({pkt_size},{max})"),
+        StateError::Deserialization(error) => add_error(error, text),
+        _other => Ok(()),
+    }
+}
+
+fn add_error(error: &Error, text: &mut String) -> Result<(), AllocError> {
+    write!(text, "E{}", error_number(error))?;
+    match error {
+        Error::PayloadSizeLimitExceeded { pkt_size, max } => write!(text, "({pkt_size},{max})"),
+        _other => Ok(()),
+    }
+}
+
+/// Makes a call, and adds its fault.
+fn makes(
+    alloc: Global,
+    client: &mut Client,
+    name: &str,
+    argument: &str,
+    text: &mut String,
+) -> Result<(), AllocError>
+    requires { IsReady client.old }
+{
+    let ended = calls(alloc, client, name, argument);
+    let added = match &ended {
+        Ok(()) => Ok(()),
+        Err(fault) => add_fault(fault, text),
+    };
+    drop(ended);
+    added
+}
+
+/// Takes the oldest event out, and adds it where it says what was sent.
+fn add_event(client: &mut Client, text: &mut String) -> Result<(), AllocError> {
+    let event = client.next_event();
+    let added = match &event {
+        Some(Event::Outgoing(sent)) => write!(text, "={sent:?}"),
+        _other => text.push('='),
+    };
+    drop(event);
+    added
+}
+
+/// Adds what is asked for of a client.
+fn looks(alloc: Global, client: &Client, name: &str, text: &mut String) -> Result<(), AllocError> {
+    let state = &client.state;
+    let codec = &client.codec;
+    match name {
+        "output" => add_bytes(alloc, client.output(), text),
+        "held" => add_bytes(alloc, client.input.as_slice(), text),
+        "ids" => write!(text, "={}", state.inflight()),
+        "maxima" => write!(
+            text,
+            "={}/{}",
+            state.max_outgoing_inflight(),
+            state.broker_topic_alias_max()
+        ),
+        _limits => write!(
+            text,
+            "={:?}/{:?}",
+            codec.max_incoming_size, codec.max_outgoing_size
+        ),
+    }
+}
+
+/// Makes a call of a row, and adds its answer.
+fn takes(alloc: Global, client: &mut Client, call: &str, text: &mut String) -> Result<(), Error> {
+    let (name, argument) = cut(call, ':');
+    match name {
+        "in" | "out" | "sent" => sets(client, name, number_of(argument)?),
+        "limit" => takes_limit(client),
+        "event" => add_event(client, text)?,
+        "output" | "held" | "ids" | "maxima" | "limits" => looks(alloc, client, name, text)?,
+        _call if is_ready(client) => makes(alloc, client, name, argument, text)?,
+        _call => text.push('!')?,
+    }
+    Ok(())
+}
+
+/// Makes the calls of a row, and writes it anew.
+fn walks(alloc: Global, client: &mut Client, row: &str, text: &mut String) -> Result<(), Error> {
+    for (i, part) in row.split("; ").enumerate() {
+        if i > 0 {
+            text.push_str("; ")?;
+        }
+        let (call, _answer) = cut(part, '=');
+        text.push_str(call)?;
+        takes(alloc, client, call, text)?;
+    }
+    Ok(())
+}
+
+/// Whether each call of a row has its answer.
+pub(super) fn is_row(alloc: Global, row: &str) -> Result<bool, Error> {
+    let Ok(mut client) = Client::new(alloc, 10, false) else {
+        return Err(Error::OutOfMemory);
+    };
+    let mut text = String::new(alloc);
+    let walked = walks(alloc, &mut client, row, &mut text);
+    drop(client);
+    walked?;
+    Ok(text.as_str() == row)
+}
+
+#[test]
+fn clients(rt: HostRuntime) -> Result<(), Fail> {
+    for row in CALLS.lines() {
+        assert!(rt; is_row(rt.alloc(), row)?, "of {row}");
+    }
+    Ok(())
+}
+
+/// The first message of a client, and its ack in two pieces (3.4).
+fn is_acked(alloc: Global, client: &mut Client) -> Result<bool, StateError>
+    requires { IsReady client.old }
+{
+    publish_first(alloc, client)?;
+    let awaited = hear(client, &[0x40, 0x02])?;
+    Ok(awaited == 1 && hear(client, &[0x00, 0x01])? == 0)
+}
+
+#[test]
+fn first_message(rt: HostRuntime) -> Result<(), Fail> {
+    let mut client = Client::new(rt.alloc(), 10, false)?;
+    assert!(rt; is_acked(rt.alloc(), &mut client)?);
+    Ok(())
+}

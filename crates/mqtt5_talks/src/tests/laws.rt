@@ -1,0 +1,18 @@
+//! The laws of runs, which do nothing when they are called.
+
+use mqtt5_base::front_laws;
+use mqtt5_client::one_run;
+use mqtt5_drive::{cutting, may_start, twice};
+use mqtt5_pipe::one_call;
+use std::test::Fail;
+
+#[test]
+fn laws(_rt: HostRuntime) -> Result<(), Fail> {
+    front_laws();
+    cutting();
+    may_start();
+    twice();
+    one_call();
+    one_run();
+    Ok(())
+}
