@@ -86,6 +86,26 @@ warn_of_memory() {
         warn "$(gigabytes "$free") of memory are free, and proving took up to $(gigabytes $memory_taken): with less it takes longer, or a job is killed; end other programs, and if it was killed run this again, which goes on from there"
 }
 
+# The processors that this may run on, or fewer by the quota of its control group.
+processors() {
+    local found quota period
+    found=$(nproc)
+    if read -r quota period 2> /dev/null < /sys/fs/cgroup/cpu.max && [ "$quota" != max ]; then
+        quota=$((quota > period ? quota / period : 1))
+        [ "$found" -le "$quota" ] || found=$quota
+    fi
+    echo "$found"
+}
+
+# How many jobs that take so many kilobytes each fit: one for each processor, and fewer where memory is short.
+jobs_that_fit() {
+    local most free
+    most=$(processors)
+    free=$(free_memory)
+    if [ -n "$free" ] && [ "$((free / $1))" -lt "$most" ]; then most=$((free / $1)); fi
+    echo $((most > 1 ? most : 1))
+}
+
 free_disk() { df -Pk "$here" 2> /dev/null | sed -n '$s/.* \([0-9][0-9]*\)  *[0-9][0-9]*% .*/\1/p'; }
 
 # What the out/ folders hold already, in kilobytes.

@@ -47,6 +47,7 @@ crates=()
 
 read_crates() {
     local name rest
+    crates=()
     while IFS=: read -r name rest; do
         name=${name%% *}
         case $name in '' | '#'*) continue ;; esac
@@ -55,7 +56,7 @@ read_crates() {
     done < "$here/crates.txt"
 }
 
-# The crates that one stands on, each after its own, and that one: the order in which `rt run` proves them.
+# The crates that one stands on, each after its own, and that one: the order in which they are proved.
 order=()
 
 put_in_order() {
@@ -67,7 +68,7 @@ put_in_order() {
     order+=("$1")
 }
 
-# ---- The lines of `rt run`, which tells where it begins a crate. ----
+# ---- The lines of a build, which begin each crate with a line `library NAME`. ----
 
 at='' began=0 is_built=0
 
@@ -86,10 +87,15 @@ begin() {
     tell "$at"
 }
 
+# What a first build takes, which comes first, and what answers sooner.
+tell_first() {
+    tell "proving ${#order[@]} crates${1:+ takes some $1 here}, once${2:+; $2 answers in a minute or two, unproved}"
+}
+
 hear_run() {
     printf '%s\n' "$1" >&3
     case $1 in
-        'rt: chose --jobs '*) begin "$(place_of "${1##* }")" ;;
+        'library '*) begin "$(place_of "${1#library }")" ;;
         'rt: running '*) is_built=1 ;;
         'rt: '*waiting*) tell "${1#rt: }" ;;
     esac
@@ -97,21 +103,18 @@ hear_run() {
 
 still_run() { tell "${at:-looking at what changed}: $(since "$began")"; }
 
-# Reads what `rt run` says of a program into a log, and answers whether it is built. Where it never was, there is a line
-# at once, since rt first reads all sources, and says nothing meanwhile.
+# Reads what a build of a program says into a log, and answers whether it is built.
 tell_run() {
-    local name
-    read_crates
-    put_in_order "$1"
-    if [ "$3" = new ]; then
-        for name in "${order[@]}"; do
-            [ -f "$here/crates/$name/out/rlib/stamp" ] || break
-        done
-        begin "reading all sources, and then $(place_of "$name")"
-    fi
-    exec 3> "$2"
+    exec 3> "$1"
     follow hear_run still_run
     [ "$is_built" = 1 ]
+}
+
+# Tells every so often that something goes on, until it is killed.
+keep_telling() {
+    began=$SECONDS
+    # (a sleep that outlives this one keeps nothing open)
+    while sleep "$quiet" > /dev/null 2>&1; do tell "$1: $(since "$began")"; done
 }
 
 # ---- The lines of `rt ci`, which proves crates side by side and tells where one is done. ----
