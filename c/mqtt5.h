@@ -12,8 +12,8 @@ extern "C" {
 #endif
 
 /* What every call answers. 1 to 12 are the session's refusals S1 to S12, of which 7 (a frame that can't be read, a
-   packet that can't be written) is told as 100 + n of E1 to E21, which says why: docs/SESSION.md and docs/DEFINITIONS.md
-   name them. */
+   packet that can't be written) is told as 100 + n of E1 to E21, which says why: docs/PROGRAM.md has
+   both as tables. */
 enum {
     MQTT5_DONE = 0,
     MQTT5_OUT_OF_MEMORY = 12,
@@ -90,7 +90,8 @@ uint32_t mqtt5_client_subscribe(mqtt5_client *h, const uint8_t *filter, size_t f
 /* Asks for the end of a subscription. */
 uint32_t mqtt5_client_unsubscribe(mqtt5_client *h, const uint8_t *filter, size_t filter_len, uint64_t at);
 
-/* With manual acks: answers a publish that came, of QoS 1 by a PubAck and of QoS 2 by a PubRec. */
+/* With manual acks: answers a publish that came, of QoS 1 by a PubAck and of QoS 2 by a PubRec. One of QoS 2 that comes
+   again before its PubRel has no event: after a resume answer each that was told of and isn't released again. */
 uint32_t mqtt5_client_puback(mqtt5_client *h, uint16_t pkid, uint64_t at);
 uint32_t mqtt5_client_pubrec(mqtt5_client *h, uint16_t pkid, uint64_t at);
 
