@@ -185,12 +185,12 @@ tell_ci() {
     follow hear_ci still_ci
 }
 
-# ---- The lines of a test, which go to standard output. ----
+# ---- A test, until there is the file of its end. ----
 
-hear_test() { printf '%s\n' "$1"; }
-still_test() { tell "$at: $(since "$began")"; }
-
-tell_test() {
-    at="running tests/$1" began=$SECONDS
-    follow hear_test still_test
+await_test() {
+    at="running tests/$1" began=$SECONDS due=$((SECONDS + quiet))
+    until [ -s "$2" ]; do
+        sleep 0.2
+        [ "$SECONDS" -lt "$due" ] || tell "$at: $(since "$began")"
+    done
 }
