@@ -2,13 +2,9 @@
 #![tactic(auto)]
 
 mod late;
-#[cfg(test)]
-mod late_tests;
 mod laws;
 mod player;
 mod subscribers;
-#[cfg(test)]
-mod tests;
 
 pub use late::{LateBroker, late_delivery_law, late_law, late_progress_law};
 pub use laws::{any_order_law, progress_law};

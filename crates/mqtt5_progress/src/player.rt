@@ -22,7 +22,7 @@ pub fn play_out(alloc: Global, limit: u16, events: &[WorldEvent]) -> Result<Repo
     ensures refused { IfOk result (λ r. r.refused.items ≡ (run events.now (start limit)).refused) }
     ensures state { IfOk result (λ r. r.state ≡ (settle 4 (run events.now (start limit))).session) }
     ensures memory { IfErr result (λ e. e ≡ StateError.OutOfMemory) }
-    // Nothing is on its way, the broker awaits no release, and nothing was refused.
+    // Nothing is on its way, the broker awaits no release, and no packet from it and no resume was refused.
     ensures nothing_left { IfOk result (λ _. Settled (settle 4 (run events.now (start limit)))) }
     // No id is in use, and nothing waits.
     ensures settled { IfOk result (λ r. IsIdle r.state.core) }

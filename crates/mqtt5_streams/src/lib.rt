@@ -4,8 +4,6 @@
 mod event;
 mod laws;
 mod player;
-#[cfg(test)]
-mod tests;
 mod way;
 mod world;
 

@@ -5,7 +5,7 @@ ghost use Rattle.std.specs.Prelude.{◌<◌};
 use super::walk::{add_fault, cut};
 use crate::mqttbytes::v5::{Packet, Publish};
 use crate::mqttbytes::{Error, QoS};
-use crate::{Event, MqttState, Report, StateError, WorldEvent, play};
+use crate::{Event, MqttState, Report, StateError, WorldEvent, play, play_out};
 use bytes::Bytes;
 use std::alloc::{AllocError, Global};
 use std::test::Fail;
@@ -22,6 +22,23 @@ const RUNS: &str = "1 2 A^vBC^v^v^v handed=AB accepted=AB refused=C:S1 ids=0
 2 2 cb^!^v^v handed=b accepted=b refused=c:S2(3) ids=0 last=0
 ";
 
+/// The same, played on until nothing is on its way, stored or waiting: two of which one waits, and for each quality of
+/// service one whose ack is lost.
+const ENDS: &str = "1 2 AB handed=AB accepted=AB ids=0
+1 0 A^! handed=A accepted=A ids=0
+1 1 A^! handed=AA accepted=A ids=0
+1 2 A^! handed=A accepted=A ids=0
+";
+
+/// The quality of service of this digit.
+pub(super) fn quality(digit: &str) -> QoS {
+    match digit {
+        "0" => QoS::AtMostOnce,
+        "1" => QoS::AtLeastOnce,
+        _two => QoS::ExactlyOnce,
+    }
+}
+
 /// The packet identifier that is asked for.
 fn given_id(name: u8) -> u16 {
     match name {
@@ -31,12 +48,12 @@ fn given_id(name: u8) -> u16 {
     }
 }
 
-/// A request to publish one byte, its name.
-fn named(alloc: Global, name: u8, qos: QoS) -> Result<WorldEvent, Error> {
+/// A publish of one byte, its name, to "a": of 9 bytes at QoS 1 and 2.
+pub(super) fn named(alloc: Global, name: u8, qos: QoS) -> Result<Publish, Error> {
     let payload = Bytes::copy_from_slice(alloc, &[name])?;
     let mut publish = Publish::new(alloc, "a", qos, payload, None)?;
     publish.pkid = given_id(name);
-    Ok(WorldEvent::Publish(publish))
+    Ok(publish)
 }
 
 fn event(alloc: Global, letter: u8, qos: QoS) -> Result<WorldEvent, Error> {
@@ -45,7 +62,7 @@ fn event(alloc: Global, letter: u8, qos: QoS) -> Result<WorldEvent, Error> {
         b'v' => Ok(WorldEvent::Down),
         b'!' => Ok(WorldEvent::Loss(None)),
         b'2' => Ok(WorldEvent::Loss(Some(2))),
-        name => named(alloc, name, qos),
+        name => Ok(WorldEvent::Publish(named(alloc, name, qos)?)),
     }
 }
 
@@ -120,7 +137,7 @@ fn add_look(report: &Report, look: &str, text: &mut String) -> Result<(), AllocE
 }
 
 /// Adds what is asked for, one after another.
-fn add_looks(report: &Report, looks: &str, text: &mut String) -> Result<(), AllocError> {
+pub(super) fn add_looks(report: &Report, looks: &str, text: &mut String) -> Result<(), AllocError> {
     for look in looks.split(' ') {
         let (name, _told) = look.split_once('=').unwrap_or((look, ""));
         write!(text, " {name}=")?;
@@ -129,16 +146,32 @@ fn add_looks(report: &Report, looks: &str, text: &mut String) -> Result<(), Allo
     Ok(())
 }
 
+fn played(
+    alloc: Global,
+    limit: u16,
+    events: &[WorldEvent],
+    to_end: bool,
+) -> Result<Report, StateError>
+    requires { 0 < limit }
+{
+    if to_end {
+        play_out(alloc, limit, events)
+    } else {
+        play(alloc, limit, events)
+    }
+}
+
 fn add_played(
     alloc: Global,
     limit: u16,
     events: &[WorldEvent],
+    to_end: bool,
     looks: &str,
     text: &mut String,
 ) -> Result<(), Error>
     requires { 0 < limit }
 {
-    let Ok(report) = play(alloc, limit, events) else {
+    let Ok(report) = played(alloc, limit, events, to_end) else {
         return Err(Error::OutOfMemory);
     };
     let added = add_looks(&report, looks, text);
@@ -146,42 +179,33 @@ fn add_played(
     Ok(added?)
 }
 
-/// Adds the reports of a run.
-fn add_run(
-    alloc: Global,
-    limit: u16,
-    letters: &str,
-    looks: &str,
-    qos: QoS,
-    text: &mut String,
-) -> Result<(), Error> {
-    let events = events(alloc, letters, qos)?;
-    let added = add_played(alloc, limit.max(1), events.as_slice(), looks, text);
-    drop(events);
-    added
-}
-
-fn is_run(alloc: Global, row: &str) -> Result<bool, Error> {
+fn is_run(alloc: Global, row: &str, to_end: bool) -> Result<bool, Error> {
     let (limit, rest) = cut(row);
-    let (quality, rest) = cut(rest);
+    let (digit, rest) = cut(rest);
     let (letters, looks) = cut(rest);
     let Ok(ids) = limit.parse::<u16>() else {
         return Ok(false);
     };
-    let qos = if quality == "1" {
-        QoS::AtLeastOnce
-    } else {
-        QoS::ExactlyOnce
-    };
-    let mut text = format!(in alloc; "{limit} {quality} {letters}")?;
-    add_run(alloc, ids, letters, looks, qos, &mut text)?;
+    let mut text = format!(in alloc; "{limit} {digit} {letters}")?;
+    let events = events(alloc, letters, quality(digit))?;
+    let added = add_played(alloc, ids.max(1), &events, to_end, looks, &mut text);
+    drop(events);
+    added?;
     Ok(text.as_str() == row)
 }
 
 #[test]
 fn runs(rt: HostRuntime) -> Result<(), Fail> {
     for row in RUNS.lines() {
-        assert!(rt; is_run(rt.alloc(), row)?, "of {row}");
+        assert!(rt; is_run(rt.alloc(), row, false)?, "of {row}");
+    }
+    Ok(())
+}
+
+#[test]
+fn runs_to_their_end(rt: HostRuntime) -> Result<(), Fail> {
+    for row in ENDS.lines() {
+        assert!(rt; is_run(rt.alloc(), row, true)?, "of {row}");
     }
     Ok(())
 }

@@ -1,9 +1,9 @@
-//! What the program does with its words, its input and its output.
+//! A client that publishes: what it does with the words after `pub`, its input and its output.
 
 ghost use Rattle.std.specs.Prelude.{◌<◌, OnOk};
 ghost use Rattle.mqtt5_pipe.specs.Pipe.{IsReady};
 
-use crate::words::parse;
+use crate::words::parse_pub;
 use bytes::Bytes;
 use clap::ArgMatches;
 use mqtt5_base::{QoS, valid_topic};
@@ -27,7 +27,7 @@ struct Task<'a> {
     by_lines: bool,
 }
 
-/// Runs the program, and answers its exit status: 0; 1 after a fault; 2 where the words are refused. The log tells why,
+/// Publishes, and answers the exit status: 0; 1 after a fault; 2 where the words are refused. The log tells why,
 /// and has the help where that is asked for.
 pub fn run<F: Files + AllocGlobal, R: Read, W: Write, E: Write>(
     rt: &F,
@@ -38,7 +38,7 @@ pub fn run<F: Files + AllocGlobal, R: Read, W: Write, E: Write>(
 ) -> u8
     ensures { result < 3 }
 {
-    match parse(rt.alloc(), words) {
+    match parse_pub(rt.alloc(), words) {
         Ok(matches) => run_matches(rt, &matches, reader, writer, log),
         Err(error) => refuse(&error, log),
     }

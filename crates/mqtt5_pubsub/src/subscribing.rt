@@ -1,9 +1,9 @@
-//! What the program does with its words, its input and its output.
+//! A client that subscribes: what it does with the words after `sub`, its input and its output.
 
 ghost use Rattle.std.specs.Prelude.{◌<◌};
 ghost use Rattle.mqtt5_pipe.specs.Pipe.{IsReady};
 
-use crate::words::parse;
+use crate::words::parse_sub;
 use clap::ArgMatches;
 use mqtt5_base::{Error, Sequence, valid_filter};
 use mqtt5_codec::Packet;
@@ -18,7 +18,7 @@ use std::io::{Read, Write};
 use std::rt::Files;
 use std::{fs, io};
 
-/// Runs the program, and answers its exit status: 0; 1 after a fault; 2 where the words are refused. The log has the
+/// Subscribes, and answers the exit status: 0; 1 after a fault; 2 where the words are refused. The log has the
 /// messages, tells why the program ended, and has the help where that is asked for.
 pub fn run<F: Files + AllocGlobal, R: Read, W: Write, E: Write>(
     rt: &F,
@@ -29,7 +29,7 @@ pub fn run<F: Files + AllocGlobal, R: Read, W: Write, E: Write>(
 ) -> u8
     ensures { result < 3 }
 {
-    match parse(rt.alloc(), words) {
+    match parse_sub(rt.alloc(), words) {
         Ok(matches) => run_matches(rt, &matches, reader, writer, log),
         Err(error) => refuse(&error, log),
     }

@@ -1,8 +1,10 @@
-//! The program `mqtt5 pub`: a client that publishes. Its standard input is what the broker sends, and its standard output
-//! goes to the broker; faults are told on standard error.
+//! The program of `mqtt5 pub` and `mqtt5 sub`: a client that publishes or subscribes. Its standard input is what the broker
+//! sends, and its standard output goes to the broker; messages and faults are told on standard error.
 #![tactic(auto)]
 
+mod publishing;
 pub mod run;
+mod subscribing;
 mod words;
 
 use mqtt5_talk::refuse_words;

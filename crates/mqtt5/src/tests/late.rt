@@ -1,12 +1,9 @@
 //! A broker that hands on at the release, and what reaches a subscriber, on worked packets.
 
-use crate::{
-    LateBroker, late_delivery_law, late_law, late_progress_law, reaches, received, subscribers_law,
-};
+use crate::mqttbytes::v5::{Packet, PingReq, PubRel, Publish, Text};
+use crate::mqttbytes::{Error, QoS};
 use bytes::Bytes;
-use mqtt5_base::{Error, QoS, Text};
-use mqtt5_codec::Packet;
-use mqtt5_flow::{PingReq, PubRel, Publish};
+use mqtt5_progress::{LateBroker, reaches, received};
 use std::alloc::Global;
 use std::test::Fail;
 
@@ -50,9 +47,6 @@ fn released(alloc: Global) -> Result<(usize, Vec<u16>), Error> {
 
 #[test]
 fn hands_on_at_the_release(rt: HostRuntime) -> Result<(), Fail> {
-    late_law();
-    late_delivery_law();
-    late_progress_law();
     let (replies, ids) = released(rt.alloc())?;
     assert_eq!(rt; replies, 7);
     assert_eq!(rt; ids.as_slice(), [2, 3, 1].as_slice());
@@ -85,7 +79,6 @@ fn reached(alloc: Global) -> Result<(usize, bool), Error> {
 
 #[test]
 fn reaches_once(rt: HostRuntime) -> Result<(), Fail> {
-    subscribers_law();
     assert_eq!(rt; reached(rt.alloc()), Ok((2, false)));
     Ok(())
 }
