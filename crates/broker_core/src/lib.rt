@@ -7,9 +7,11 @@ mod broker;
 mod client;
 mod error;
 mod filters;
+mod laws;
 mod publishes;
 #[cfg(test)]
 mod tests;
 
 pub use broker::{Broker, LONGEST};
 pub use error::BrokerError;
+pub use laws::broker_error_equality;

@@ -1,5 +1,6 @@
 -- What the grammar promises, for every row, first byte, length and body (MQTT 5.0 sections 1.5, 2, 3 and 4.3).
-use Rattle.std.specs.Prelude.{◌≡◌, ◌↔◌, ℕ, true, false, List, [], ◌∷◌, ◌++◌, length, Result, Ok, Err, ◌⊎◌, ◌≤◌, ◌<◌}
+use Rattle.std.specs.Prelude.{◌≡◌, ◌↔◌, ℕ, Bool, true, false, List, [], ◌∷◌, ◌++◌, length, Result, Ok, Err, ◌⊎◌, ◌≤◌, ◌<◌}
+use Rattle.std.specs.Bool.{Decides}
 use Rattle.std.specs.Int.{Width}
 use Rattle.std.specs.Ordering.{nat_cmp}
 use Rattle.mqtt5_base.specs.declared.error.Error.{Error}
@@ -55,3 +56,7 @@ pub record IsShortest : Type 0 where
 pub record IsQos : Type 0 where
   pub ordered : (q r : QoS) → order.cmp-value.it q r ≡ nat_cmp (qos_number q) (qos_number r)
   pub unsaid : (q : QoS) → default.is_default-value.it q → q ≡ AtMostOnce
+
+-- a test that holds of equal values, and of them alone
+abbrev pub IsEquality : {A : Type 0} → (A → A → Bool) → Type 0
+IsEquality {A} E = (x y : A) → Decides (E x y) (x ≡ y)

@@ -21,3 +21,5 @@ pub mod Sound
 pub mod Items
 pub mod Tidy
 pub mod Topics
+pub mod Variants
+pub mod ErrorSound

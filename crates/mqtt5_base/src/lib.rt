@@ -22,7 +22,7 @@ pub use exact::{Exact, copied, same};
 pub use fields::{read_bytes, read_text, read_u8, read_u16, read_u32, read_varint};
 pub use frame::{frame_size, start_frame};
 pub use header::{FixedHeader, PacketType};
-pub use laws::{grammar_laws, qos_laws, shortest_form};
+pub use laws::{error_equality, grammar_laws, qos_laws, shortest_form};
 pub use mqttbytes::{
     has_wildcards, matches, matching_laws, qos, read_qos, valid_filter, valid_topic,
 };

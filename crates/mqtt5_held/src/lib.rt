@@ -7,6 +7,7 @@ mod error;
 mod event;
 mod exact;
 mod ids;
+mod laws;
 mod slot;
 mod slots;
 
@@ -14,5 +15,6 @@ pub use aliases::{Aliases, alias_of, alias_over};
 pub use error::StateError;
 pub use event::{Event, Incoming, Outgoing, Request};
 pub use ids::Ids;
+pub use laws::state_error_equality;
 pub use slot::Slot;
 pub use slots::Slots;
