@@ -1,8 +1,9 @@
 //! Fields at the front of bytes. A reader answers the field's value and leaves the bytes after it.
 //! After a refusal the bytes are unchanged.
 
-ghost use Rattle.std.specs.Prelude.{◌≡◌, ◌+◌, ◌*◌, ◌^◌, ◌<◌, ◌≤◌, ℕ, take, drop, length, OnErr, IfOk};
+ghost use Rattle.std.specs.Prelude.{◌≡◌, ◌≢◌, ◌+◌, ◌*◌, ◌^◌, ◌<◌, ◌≤◌, ℕ, take, drop, length, OnErr, IfOk, IfErr, IsOk, IsErrOf};
 ghost use Rattle.std.specs.Int.{w8, w16, w32};
+ghost use Rattle.mqtt5_base.specs.declared.error.Error.TheVariants.{OutOfMemory};
 ghost use Rattle.mqtt5_base.specs.Answers.{Finds, Gives};
 ghost use Rattle.mqtt5_base.specs.Reading.{number_at, bytes_at, text_at, var_int_at};
 ghost use Rattle.mqtt5_base.specs.Lengths.{length_at};
@@ -52,6 +53,7 @@ fn front_slice(stream: &[u8]) -> Result<&[u8], Error>
     ensures read { Gives (λ b. (b.now, drop (2 + length b.now) stream.now)) result (bytes_at stream.now) }
     ensures place { IfOk result (λ b. b.now ≡ take (length b.now) (drop 2 stream.now)) }
     ensures within { IfOk result (λ b. 2 + length b.now ≤ length stream.now) }
+    ensures fault { IfErr result (λ e. e ≢ OutOfMemory) }
 {
     match stream {
         [high, low, rest @ ..] => {
@@ -66,10 +68,12 @@ fn front_slice(stream: &[u8]) -> Result<&[u8], Error>
 }
 
 /// A two byte length and that many bytes, cut from the stream. E16 where the length is cut short,
-/// E15 with the length where fewer bytes are there, E21. After a refusal the bytes are unchanged.
+/// E15 with the length where fewer bytes are there, E21 only where all are. After a refusal the bytes
+/// are unchanged.
 pub fn read_bytes(stream: &mut Bytes) -> Result<Bytes, Error>
     ensures read { Gives (λ b. (b, stream.new)) result (bytes_at stream.old) }
     ensures kept { OnErr result (stream.new ≡ stream.old) }
+    ensures memory { IsErrOf result OutOfMemory → IsOk (bytes_at stream.old) }
 {
     let len = front_slice(stream.as_slice())?.len();
     let mut content = stream.clone()?;
@@ -80,12 +84,13 @@ pub fn read_bytes(stream: &mut Bytes) -> Result<Bytes, Error>
 }
 
 /// A text: a two byte length and that many bytes. E16 where the length is cut short, E15 with the
-/// length where fewer bytes are there, E14 where they aren't UTF-8, E21. After a refusal the bytes are
-/// unchanged.
+/// length where fewer bytes are there, E14 where they aren't UTF-8, E21 only where a text is there.
+/// After a refusal the bytes are unchanged.
 #[tactic(auto, using(crate::proofs::Utf8Lemmas::utf8), unfolding(crate::specs::Reading::text_at))]
 pub fn read_text(alloc: Global, stream: &mut Bytes) -> Result<Text, Error>
     ensures read { Gives (λ t. (t.bytes, stream.new)) result (text_at stream.old) }
     ensures kept { OnErr result (stream.new ≡ stream.old) }
+    ensures memory { IsErrOf result OutOfMemory → IsOk (text_at stream.old) }
 {
     let content = front_slice(stream.as_slice())?;
     let len = content.len();

@@ -135,9 +135,10 @@ pub trait PropertySet: Drop {
         ensures { result ≡ allows table id };
 
     /// Adds an item that was read: to a list at its end, else in place of the last value. One that isn't
-    /// of the set changes nothing. Err where memory is refused; of the set nothing is said then.
+    /// of the set changes nothing. Err where memory is refused; the set is then unchanged.
     fn add(&mut self, property: Property) -> Result<(), AllocError>
-        ensures { OnOk result (found self.new ≡ with_item table (item_of property).0 (item_of property).1 (found self.old)) };
+        ensures added { OnOk result (found self.new ≡ with_item table (item_of property).0 (item_of property).1 (found self.old)) }
+        ensures kept { OnErr result (self.new ≡ self.old) };
 
     /// Whether each of its values can be written: no text or bytes are over 65,535 bytes, and no
     /// subscription identifier is over 268,435,455.
