@@ -23,3 +23,4 @@ pub mod Tidy
 pub mod Topics
 pub mod Variants
 pub mod ErrorSound
+pub mod Numbers

@@ -94,6 +94,45 @@ pub enum Error {
     OutOfMemory,
 }
 
+impl Error {
+    ghost use Rattle.mqtt5_base.specs.Numbers.{error_number};
+
+    /// Its number, n of En: 1 to 21; 0 of one that is never answered. Takes no memory.
+    pub fn number(&self) -> u8
+        ensures { result ≡ error_number self.now }
+    {
+        match self {
+            Error::InvalidConnectReturnCode(_) => 1,
+            Error::InvalidProtocol => 2,
+            Error::InvalidProtocolLevel(_) => 3,
+            Error::IncorrectPacketFormat => 4,
+            Error::InvalidPacketType(_) => 5,
+            Error::InvalidRetainForwardRule(_) => 6,
+            Error::InvalidQoS(_) => 7,
+            Error::InvalidSubscribeReasonCode(_) => 8,
+            Error::PacketIdZero => 9,
+            Error::EmptySubscription => 10,
+            Error::PayloadTooLong => 11,
+            Error::PayloadSizeLimitExceeded { .. } => 12,
+            Error::PayloadRequired => 13,
+            Error::TopicNotUtf8 => 14,
+            Error::BoundaryCrossed(_) => 15,
+            Error::MalformedPacket => 16,
+            Error::MalformedRemainingLength => 17,
+            Error::InvalidPropertyType(_) => 18,
+            Error::InsufficientBytes(_) => 19,
+            Error::OutgoingPacketTooLarge { .. } => 20,
+            Error::OutOfMemory => 21,
+            Error::InvalidReason(_)
+            | Error::InvalidRemainingLength(_)
+            | Error::SubscriptionIdZero
+            | Error::PayloadSizeIncorrect
+            | Error::PayloadNotUtf8
+            | Error::Io => 0,
+        }
+    }
+}
+
 impl From<AllocError> for Error {
     ghost from_gives = { λ _ e. e ≡ OutOfMemory };
 

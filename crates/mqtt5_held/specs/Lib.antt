@@ -5,3 +5,4 @@ pub mod Aliases
 pub mod Unacked
 pub mod Resent
 pub mod Sound
+pub mod Numbers

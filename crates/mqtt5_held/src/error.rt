@@ -76,6 +76,35 @@ pub enum StateError {
     OutOfMemory,
 }
 
+impl StateError {
+    ghost use Rattle.mqtt5_held.specs.Numbers.{state_error_number};
+
+    /// Its number, n of Sn: 1 to 12; 0 of one that is never answered. Why a frame can't be read or a packet can't
+    /// be written (7) has a number of its own. Takes no memory.
+    pub fn number(&self) -> u8
+        ensures { result ≡ state_error_number self.now }
+    {
+        match self {
+            StateError::InvalidState => 1,
+            StateError::Unsolicited(_) => 2,
+            StateError::AwaitPingResp => 3,
+            StateError::WrongPacket => 4,
+            StateError::CollisionTimeout => 5,
+            StateError::EmptySubscription => 6,
+            StateError::Deserialization(_) => 7,
+            StateError::InvalidAlias { .. } => 8,
+            StateError::OutgoingPacketTooLarge { .. } => 9,
+            StateError::ServerDisconnect { .. } => 10,
+            StateError::ConnFail { .. } => 11,
+            StateError::OutOfMemory => 12,
+            StateError::Io
+            | StateError::Coversion
+            | StateError::IncomingPacketTooLarge { .. }
+            | StateError::ConnectionAborted => 0,
+        }
+    }
+}
+
 /// E20 is S9, E21 is S12, every other S7.
 impl From<Error> for StateError {
     ghost from_gives = { λ e s. s ≡ state_error e };
