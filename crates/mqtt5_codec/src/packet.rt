@@ -32,7 +32,7 @@ pub enum Packet {
 impl Packet {
     ghost use Rattle.std.specs.Prelude.{◌≡◌, ◌<◌, length, min, IfOk};
     ghost use Rattle.mqtt5_base.specs.Puts.{Writes};
-    ghost use Rattle.mqtt5_codec.specs.Packets.{packet_len, packet_writing, writing_under};
+    ghost use Rattle.mqtt5_codec.specs.Packets.{packet_len, packet_type, packet_writing, writing_under};
     ghost use Rattle.mqtt5_codec.specs.Codecs.{ReadsPacket};
 
     /// Takes the frame at the front of the stream out and answers its packet. E12, E17 or E19 of
@@ -77,6 +77,29 @@ impl Packet {
             Packet::Unsubscribe(unsubscribe) => unsubscribe.size(),
             Packet::UnsubAck(ack) => ack.size(),
             Packet::Disconnect(disconnect) => disconnect.size(),
+        }
+    }
+
+    /// The number of its type, 1 to 15 (MQTT 5.0 section 2.1.2). Takes no memory.
+    pub fn packet_type(&self) -> u8
+        ensures { result ≡ packet_type self.now }
+    {
+        match self {
+            Packet::Connect(_, _, _) => 1,
+            Packet::ConnAck(_) => 2,
+            Packet::Publish(_) => 3,
+            Packet::PubAck(_) => 4,
+            Packet::PubRec(_) => 5,
+            Packet::PubRel(_) => 6,
+            Packet::PubComp(_) => 7,
+            Packet::Subscribe(_) => 8,
+            Packet::SubAck(_) => 9,
+            Packet::Unsubscribe(_) => 10,
+            Packet::UnsubAck(_) => 11,
+            Packet::PingReq(_) => 12,
+            Packet::PingResp(_) => 13,
+            Packet::Disconnect(_) => 14,
+            Packet::Auth(_) => 15,
         }
     }
 
