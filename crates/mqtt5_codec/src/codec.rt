@@ -1,6 +1,9 @@
 //! The codec of a stream of packets.
 
-ghost use Rattle.std.specs.Prelude.{◌<◌, drop, length, IfOk, IfSome};
+ghost use Rattle.std.specs.Prelude.{◌≡◌, ◌<◌, drop, length, IfOk, IfSome};
+ghost use Rattle.std.specs.Bool.{Decides};
+ghost use Rattle.mqtt5_base.specs.Front.{IsMore};
+ghost use Rattle.mqtt5_base.specs.FrontAt.{front};
 ghost use Rattle.mqtt5_base.specs.Headers.{IsHeader};
 ghost use Rattle.mqtt5_base.specs.Puts.{Writes};
 ghost use Rattle.mqtt5_codec.specs.Packets.{writing_under};
@@ -24,6 +27,26 @@ pub struct Codec {
 }
 
 impl Codec {
+    /// A codec without limits. Takes no memory.
+    pub fn new() -> Codec
+        ensures { result ≡ record { max_incoming_size = None; max_outgoing_size = None } }
+    {
+        Codec {
+            max_incoming_size: None,
+            max_outgoing_size: None,
+        }
+    }
+
+    /// Whether more bytes are needed: no frame is whole yet, and none is refused. Takes no memory.
+    pub fn needs_more(&self, input: &BytesMut) -> bool
+        ensures { Decides result (IsMore (front self.now.max_incoming_size input.now.items)) }
+    {
+        match check(input.as_slice(), self.max_incoming_size) {
+            Err(Error::InsufficientBytes(_)) => true,
+            _other => false,
+        }
+    }
+
     /// Takes the frame at the front of the stream out and answers its packet, or None, with the stream
     /// unchanged and nothing reserved, where more bytes are needed. Errors as of `Packet::read`, but
     /// E19.
