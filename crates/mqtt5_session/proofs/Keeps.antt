@@ -34,7 +34,7 @@ use Rattle.mqtt5_session.specs.Requests.{out, next_id, unless, over_maximum, Ver
 use Rattle.mqtt5_session.specs.Packets.{inc, heard, hears, notes, told, freed_for, on_puback, on_received, on_pubrec, on_pubcomp, on_pubrel, on_publish, on_qos, answers, on_connack, is_taken, topic_of}
 use Rattle.mqtt5_session.specs.Cleaning.{cleaned, marked, resume_of}
 use Rattle.mqtt5_session.specs.Again.{sent_unless}
-use Rattle.mqtt5_session.specs.Ledger.{owed, one_of, Call, Ask, Hear, Error, Clean, Resume, kept_by, after, added, taken, after_all, added_by, taken_by, IsLedger}
+use Rattle.mqtt5_session.specs.Ledger.{owed, one_of, Call, Ask, Hear, Error, Clean, Resume, Pop, SetAcks, kept_by, after, added, taken, after_all, added_by, taken_by, IsLedger}
 use Rattle.mqtt5_session.proofs.Resume.{resumes}
 use Rattle.mqtt5_session.proofs.Owed.{choose, Judges, judges, out_adds, inc_takes}
 
@@ -189,6 +189,8 @@ after_sound s (Hear packet at) i = inc_sound s packet at i
 after_sound s Error i = i
 after_sound s Clean i = (none_used s.core.limit, i.1)
 after_sound s (Resume at) i = resume_either Sound s at i (marked_sound s.core i) i
+after_sound s Pop i = i
+after_sound s (SetAcks manual) i = i
 
 one_call : (s : Session) (call : Call) → Sound s.core → owed (after s call).core + taken s call ≡ owed s.core + added s call
 one_call s (Ask request at) i = let e = out_adds s request at in omega arith
@@ -196,6 +198,8 @@ one_call s (Hear packet at) i = let e = inc_takes s packet at in omega arith
 one_call s Error i = omega arith
 one_call s Clean i = let e = requests_len s.core.limit s.core.held i.0 in let none : len no_ids ≡ 0 = len-empty nat_cmp _ in omega arith
 one_call s (Resume at) i = let e = resume_either (λ c. owed c ≡ owed s.core) s at i (owed_marked s.core) refl in omega arith
+one_call s Pop i = omega arith
+one_call s (SetAcks manual) i = omega arith
 
 adds_up : (s : Session) (calls : List Call) → Sound s.core → owed (after_all s calls).core + taken_by s calls ≡ owed s.core + added_by s calls
 adds_up s [] i = omega arith

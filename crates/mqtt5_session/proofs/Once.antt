@@ -36,7 +36,7 @@ use Rattle.mqtt5_session.specs.Session.{Session, Answer, Hears, Sends, tells}
 use Rattle.mqtt5_session.specs.Requests.{out, unless, over_maximum, Verdict, Refuse, Wait, Store, out_acked, out_publish, out_known, id_for, last_after, counts_ping, ping_fault, disconnect_of}
 use Rattle.mqtt5_session.specs.Packets.{inc, heard, hears, notes, told, is_exactly_once, pubrec_of, pubcomp_of, topics_with, freed_for, on_puback, on_received, on_pubrec, on_pubcomp, on_pubrel, on_released, on_publish, on_qos, answers, on_connack, is_taken, topic_of, ids_with}
 use Rattle.mqtt5_session.specs.Cleaning.{cleaned, Sendings, with_reply, send_all, resume_of}
-use Rattle.mqtt5_session.specs.Ledger.{Call, Ask, Hear, Error, Clean, Resume, kept_by, accepted, after, after_all}
+use Rattle.mqtt5_session.specs.Ledger.{Call, Ask, Hear, Error, Clean, Resume, Pop, SetAcks, kept_by, accepted, after, after_all}
 use Rattle.mqtt5_session.specs.Once.{one_if, kept_id, is_notice, notices, notified, released, notified_in, released_in, notified_by, released_by}
 use Rattle.mqtt5_session.proofs.Owed.{choose}
 use Rattle.mqtt5_session.proofs.Sets.{insert-again}
@@ -351,6 +351,8 @@ module _ (id : ℕ) where
   one_call s Error = omega arith
   one_call s Clean = omega arith
   one_call s (Resume at) = let e = ap (λ ids. one_if (set.contains ids id)) (resume_keeps s at) in omega (arith, e)
+  one_call s Pop = omega arith
+  one_call s (SetAcks manual) = omega arith
 
   pub adds_up : (s : Session) (calls : List Call) → kept_id id (after_all s calls).core + released_by id s calls ≡ kept_id id s.core + notified_by id s calls
   adds_up s [] = omega arith

@@ -1,5 +1,5 @@
 -- What is owed, and what each call adds to it and takes from it (MQTT 5.0 section 4.3).
-use Rattle.std.specs.Prelude.{◌≡◌, ℕ, ◌+◌, Bool, List, [], ◌∷◌, length, Option, Some, None, Result, Ok, Err, if◌then◌else◌}
+use Rattle.std.specs.Prelude.{◌≡◌, ℕ, ◌+◌, Bool, List, [], ◌∷◌, drop, length, Option, Some, None, Result, Ok, Err, if◌then◌else◌}
 use Rattle.std.specs.FinMap as map
 use Rattle.mqtt5_base.specs.declared.quality.QoS.{QoS}
 use Rattle.mqtt5_base.specs.declared.quality.QoS.TheVariants.{AtMostOnce}
@@ -49,13 +49,16 @@ accepted (Err e) n = 0
 
 -- ---- any list of calls
 
--- a call of the session
+-- A call of the session: a request, a packet from the broker, a protocol error, a clean, a resume; the oldest event is
+-- taken out; and the user sends the acks from now on, or doesn't.
 pub data Call : Type 0 where
   Ask : Request → ℕ → Call
   Hear : Packet → ℕ → Call
   Error : Call
   Clean : Call
   Resume : ℕ → Call
+  Pop : Call
+  SetAcks : Bool → Call
 
 -- the session after a resume
 abbrev pub kept_by : Session → Sendings → Session
@@ -69,6 +72,8 @@ after s (Hear packet at) = (inc s packet at).1
 after s Error = (protocol_error s).1
 after s Clean = cleaned s
 after s (Resume at) = kept_by s (resume_of s at)
+after s Pop = record s { events = drop 1 s.events }
+after s (SetAcks manual) = record s { core = record s.core { manual_acks = manual } }
 
 -- what a call adds
 abbrev pub added : Session → Call → ℕ

@@ -9,13 +9,15 @@ ghost use Rattle.mqtt5_session.specs.Packets.{topic_of};
 ghost use Rattle.mqtt5_session.specs.Ledger.{Call, Hear, IsLedger, after};
 ghost use Rattle.mqtt5_session.specs.Once.{IsOnce, kept_id, notified_by, released_by};
 
-/// A law, which does nothing when it is called: over any calls of a new session, what is owed (the ids in
-/// use and the publish that waits) and what was taken are together what was added.
+/// A law, which does nothing when it is called: over any calls of a new session, between which events are
+/// taken out and the acks are made the user's or not, what is owed (the ids in use and the publish that waits)
+/// and what was taken are together what was added.
 pub fn ledger_law()
     ensures { (limit : ℕ) (manual : Bool) (calls : List Call) → IsLedger limit manual calls }
 {}
 
-/// A law, which does nothing when it is called: a publish of QoS 2 from the broker is handed on once.
+/// A law, which does nothing when it is called: a publish of QoS 2 from the broker is handed on once, whether
+/// its event is taken out before it comes again or not.
 pub fn once_law()
     // Over any calls, each id that is kept or was released was kept before or handed on.
     ensures counts { (s : Session) (calls : List Call) → IsOnce s calls }
