@@ -4,3 +4,9 @@ pub mod Entries
 pub mod Marked
 pub mod Parts
 pub mod Counts
+pub mod Maps
+pub mod Below
+pub mod PlacesOf
+pub mod Standing
+pub mod ById
+pub mod Retained

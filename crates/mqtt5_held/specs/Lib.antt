@@ -1,5 +1,7 @@
 pub mod Errors
 pub mod Held
+pub mod Paged
+pub mod Placed
 pub mod Codes
 pub mod Aliases
 pub mod Unacked

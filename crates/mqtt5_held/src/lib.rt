@@ -8,8 +8,11 @@ mod event;
 mod exact;
 mod ids;
 mod laws;
+mod page;
+mod pages;
 mod slot;
 mod slots;
+mod table;
 
 pub use aliases::{Aliases, alias_of, alias_over};
 pub use error::StateError;

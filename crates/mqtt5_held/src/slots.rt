@@ -1,35 +1,32 @@
-//! The packet identifiers in use, and what is known of each, in an ordered map.
+//! The packet identifiers in use, and what is known of each.
 
-ghost use Rattle.std.specs.Prelude.{◌≡◌, ◌<◌, ◌≤◌, IsTrue, IsSome, IfOk, IsOk, OnOk, OnErr, ◌++◌, slice_get, length, ℕ, Some};
-ghost use Rattle.std.specs.Ordering.{nat_cmp};
-ghost use Rattle.std.specs.BTreeMap.{IsOrdered};
+ghost use Rattle.std.specs.Prelude.{◌≡◌, ◌≢◌, ◌<◌, ◌≤◌, IsTrue, IsSome, IfNone, IfOk, IfSome, IsOk, OnOk, OnErr, ◌++◌, slice_get, length, ℕ, None, Some};
 ghost use Rattle.std.specs.FinMap as map;
-ghost use Rattle.std.specs.List.{flat_map};
 ghost use Rattle.std.specs.Option.{option_copied, option_to_list};
+ghost use Rattle.mqtt5_base.specs.declared.quality.QoS.TheVariants.{AtMostOnce};
 ghost use Rattle.mqtt5_held.specs.Held.{HasId, IsWithin, awaiting_ack, is_released};
-ghost use Rattle.mqtt5_held.specs.Unacked.{again, alias_again, by_id, held_again, publish_again, release_again, requests_of, slot_again};
+ghost use Rattle.mqtt5_held.specs.Unacked.{again, alias_again, by_id, held_again, publish_again, release_again, requests_of};
 ghost use Rattle.mqtt5_held.specs.Resent.{packet_for, packets_of};
 
 use crate::aliases::alias_over;
 use crate::event::Request;
 use crate::slot::Slot;
-use mqtt5_base::{Exact, copied};
+use crate::table::Table;
+use mqtt5_base::copied;
 use mqtt5_codec::Packet;
 use mqtt5_flow::{PubRel, Publish};
 use std::alloc::{AllocError, Global};
-use std::collections::BTreeMap;
 use std::marker::Model;
 
 /// The ids in use, each within the limit. Contracts see a map.
 #[derive(Debug, Drop)]
 pub struct Slots {
     limit: u16,
-    held: BTreeMap<u16, Slot>,
+    held: Table,
     alloc: Global,
 }
 
 impl Model for Slots {
-    ghost use Rattle.std.specs.FinMap as map;
     ghost use Rattle.mqtt5_held.specs.Held.{IsWithin};
     ghost use Rattle.mqtt5_held.specs.Codes.{IdMap, coded_ids};
 
@@ -37,9 +34,9 @@ impl Model for Slots {
 
     ghost coded = { coded_ids };
 
-    ghost view = { λ a. record { limit = a.limit; held = map.from_entries a.held.entries } };
+    ghost view = { λ a. record { limit = a.limit; held = a.held } };
 
-    ghost invariant = { λ a. IsWithin a.limit (map.from_entries a.held.entries) };
+    ghost invariant = { λ a. IsWithin a.limit a.held };
 }
 
 impl Slots {
@@ -49,7 +46,7 @@ impl Slots {
     {
         Slots {
             limit,
-            held: BTreeMap::new(alloc),
+            held: Table::new(alloc),
             alloc,
         }
     }
@@ -77,7 +74,18 @@ impl Slots {
         ensures low { IsSome result → 0 < id }
         ensures high { IsSome result → id ≤ self.now.limit }
     {
-        self.held.get(&id)
+        self.held.get(id)
+    }
+
+    /// The first id in use above another, and what is known of it.
+    fn next_after(&self, after: u16) -> Option<(u16, &Slot)>
+        ensures above { IfSome result (λ e. (after < e.0) × (e.0 ≤ self.now.limit)) }
+        ensures found { IfSome result (λ e. map.get self.now.held e.0 ≡ Some e.1.now) }
+        ensures first { IfSome result (λ e. (q : ℕ) → after < q → q < e.0 → map.get self.now.held q ≡ None) }
+        ensures last { IfNone result ((q : ℕ) → after < q → map.get self.now.held q ≡ None) }
+        ensures within { IsWithin self.now.limit self.now.held }
+    {
+        self.held.next_after(after)
     }
 
     /// Whether an id is in use.
@@ -116,8 +124,8 @@ impl Slots {
         ensures count { IfOk result (λ v. length v.items ≡ map.len self.now.held) }
     {
         let mut requests = Vec::with_capacity(self.alloc, self.held.len())?;
-        push_sent(&mut requests, &self.held)?;
-        push_released(&mut requests, &self.held)?;
+        push_sent(&mut requests, self)?;
+        push_released(&mut requests, self)?;
         Ok(requests)
     }
 
@@ -140,7 +148,14 @@ impl Slots {
         ensures first { result ≡ slice_get (by_id (alias_again max) self.now.limit self.now.held) 0 }
         ensures within { IsWithin self.now.limit self.now.held }
     {
-        first_alias(&self.held, max)
+        let mut after = 0;
+        while let Some((id, slot)) = self.next_after(after) {
+            if let Some(alias) = alias_in(slot, max) {
+                return Some(alias);
+            }
+            after = id;
+        }
+        None
     }
 
     /// Sets what is known of an id. Only an id that wasn't in use may take memory.
@@ -156,14 +171,24 @@ impl Slots {
         Ok(())
     }
 
+    /// Stores a copy of a publish under an id, which becomes its own. Only an id that wasn't in use may take memory besides the copy's.
+    pub fn insert_copy(&mut self, id: u16, publish: &Publish) -> Result<(), AllocError>
+        requires low { 0 < id }
+        requires high { id ≤ self.old.limit }
+        requires counted { publish.now.qos ≢ AtMostOnce }
+        ensures ok { OnOk result (self.new ≡ record self.old { held = map.insert self.old.held id (Slot.Sent (record publish.now { pkid = id })) }) }
+        ensures err { OnErr result (self.new ≡ self.old) }
+    {
+        let copy = copied_under(id, publish)?;
+        self.held.insert(id, copy)?;
+        Ok(())
+    }
+
     /// Sets `dup` of each publish, as it is when that is sent again.
     pub fn mark_again(&mut self)
         ensures { self.new ≡ record self.old { held = held_again self.old.held } }
     {
-        self.held.retain(|_, slot| {
-            mark_again(slot);
-            true
-        });
+        self.held.mark_again();
     }
 
     /// Makes each id free.
@@ -177,7 +202,7 @@ impl Slots {
     pub fn remove(&mut self, id: u16)
         ensures { self.new ≡ record self.old { held = map.remove self.old.held id } }
     {
-        self.held.remove(&id);
+        self.held.remove(id);
     }
 }
 
@@ -187,29 +212,41 @@ impl Clone for Slots {
     fn clone(&self) -> Result<Slots, AllocError> {
         Ok(Slots {
             limit: self.limit,
-            held: copied_map(&self.held)?,
+            held: self.held.clone()?,
             alloc: self.alloc,
         })
     }
 }
 
-/// A clone of a map, which has the same entries.
-fn copied_map<T: Exact>(map: &BTreeMap<u16, T>) -> Result<BTreeMap<u16, T>, AllocError>
-    ensures { IfOk result (λ copy. copy.entries ≡ map.now.entries) }
-{
-    map.clone()
-}
-
 /// Adds the publishes that await an ack.
-fn push_sent(requests: &mut Vec<Request>, held: &BTreeMap<u16, Slot>) -> Result<(), AllocError>
-    ensures { OnOk result (requests.new.items ≡ requests.old.items ++ flat_map (λ e. publish_again e.0 (Some e.1)) held.now.entries) }
+fn push_sent(requests: &mut Vec<Request>, slots: &Slots) -> Result<(), AllocError>
+    ensures { OnOk result (requests.new.items ≡ requests.old.items ++ by_id publish_again slots.now.limit slots.now.held) }
 {
-    for (_, slot) in held {
-        if let Slot::Sent(publish) = slot {
-            requests.push(sent_again(publish)?)?;
-        }
+    let mut after = 0;
+    while let Some((id, slot)) = slots.next_after(after) {
+        push_publish(requests, id, slot)?;
+        after = id;
     }
     Ok(())
+}
+
+/// Adds the publish of an id, if it awaits its ack.
+fn push_publish(requests: &mut Vec<Request>, id: u16, slot: &Slot) -> Result<(), AllocError>
+    ensures { OnOk result (requests.new.items ≡ requests.old.items ++ publish_again id (Some slot.now)) }
+{
+    if let Slot::Sent(publish) = slot {
+        requests.push(sent_again(publish)?)?;
+    }
+    Ok(())
+}
+
+/// A copy of a publish under an id.
+fn copied_under(id: u16, publish: &Publish) -> Result<Slot, AllocError>
+    ensures { IfOk result (λ slot. slot ≡ Slot.Sent (record publish.now { pkid = id })) }
+{
+    let mut copy = copied(publish)?;
+    copy.pkid = id;
+    Ok(Slot::Sent(copy))
 }
 
 /// The request that sends a publish again.
@@ -221,23 +258,24 @@ fn sent_again(publish: &Publish) -> Result<Request, AllocError>
     Ok(Request::Publish(copy))
 }
 
-/// Sets `dup` of a publish that awaits an ack.
-fn mark_again(slot: &mut Slot)
-    ensures { slot.new ≡ slot_again slot.old }
+/// Adds the releases.
+fn push_released(requests: &mut Vec<Request>, slots: &Slots) -> Result<(), AllocError>
+    ensures { OnOk result (requests.new.items ≡ requests.old.items ++ by_id release_again slots.now.limit slots.now.held) }
 {
-    if let Slot::Sent(publish) = slot {
-        publish.dup = true;
+    let mut after = 0;
+    while let Some((id, slot)) = slots.next_after(after) {
+        push_release(requests, id, slot)?;
+        after = id;
     }
+    Ok(())
 }
 
-/// Adds the releases.
-fn push_released(requests: &mut Vec<Request>, held: &BTreeMap<u16, Slot>) -> Result<(), AllocError>
-    ensures { OnOk result (requests.new.items ≡ requests.old.items ++ flat_map (λ e. release_again e.0 (Some e.1)) held.now.entries) }
+/// Adds the release of an id, if it is released.
+fn push_release(requests: &mut Vec<Request>, id: u16, slot: &Slot) -> Result<(), AllocError>
+    ensures { OnOk result (requests.new.items ≡ requests.old.items ++ release_again id (Some slot.now)) }
 {
-    for (id, slot) in held {
-        if let Slot::Released = slot {
-            requests.push(Request::PubRel(PubRel::new(*id, None)))?;
-        }
+    if let Slot::Released = slot {
+        requests.push(Request::PubRel(PubRel::new(id, None)))?;
     }
     Ok(())
 }
@@ -254,19 +292,6 @@ fn as_packet(request: Request) -> Option<Packet>
             None
         }
     }
-}
-
-/// The first topic alias above a maximum.
-fn first_alias(held: &BTreeMap<u16, Slot>, max: u16) -> Option<u16>
-    ensures ordered { IsOrdered nat_cmp held.now }
-    ensures first { result ≡ slice_get (flat_map (λ e. alias_again max e.0 (Some e.1)) held.now.entries) 0 }
-{
-    for (_, slot) in held {
-        if let Some(alias) = alias_in(slot, max) {
-            return Some(alias);
-        }
-    }
-    None
 }
 
 /// The topic alias of a publish that awaits its ack, where it is above a maximum.

@@ -1,15 +1,26 @@
-use Rattle.std.proofs.Common.{refl, sym, ap, ◌∙◌, subst}
+use Rattle.std.proofs.Common.{refl, sym, ap, ◌∙◌, ◌++◌}
 use Rattle.std.specs.Prelude.{slice_get}
-use Rattle.mqtt5_held.specs.Held.{IsWithin}
-use Rattle.mqtt5_held.specs.Unacked.{by_id, alias_again}
-use Rattle.mqtt5_held.proofs.Entries.{by_tree}
+use Rattle.mqtt5_held.specs.Unacked.{alias_again}
+use Rattle.mqtt5_held.proofs.ById.{by_id_free, by_id_next, by_id_first}
 use Rattle.mqtt5_held.proofs.slots.Slots.alias_over.Goals as goal
+
+pub returns-in-Some-alias_in-clause-first : goal.returns-in-Some-alias_in-clause-first
+returns-in-Some-alias_in-clause-first c =
+    let s = c.args.self.now in
+    let id = c.in-Some.id in
+    let e = c.in-Some.ensures in
+    sym (by_id_first (alias_again c.args.max) (λ _. refl) s.held s.limit c.loop-id.after id c.in-Some-alias_in.alias c.loop-id.invariant.0 e.above.0 e.above.1 e.first
+    (ap (alias_again c.args.max id) e.found ∙ sym (c.in-Some-alias_in.ensures id)))
+
+pub loop-id-preserved : goal.loop-id-preserved
+loop-id-preserved c =
+    let s = c.args.self.now in
+    let id = c.in-Some.id in
+    let e = c.in-Some.ensures in
+    let none = ap (alias_again c.args.max id) e.found ∙ sym (c.in_default-alias_in.ensures id) in
+    (by_id_next (alias_again c.args.max) (λ _. refl) s.held id c.loop-id.after e.above.0 e.first ∙ (λ i. c.loop-id.invariant.0 i ++ none i), e.above.1)
 
 pub returns-clause-first : goal.returns-clause-first
 returns-clause-first c =
-    c.first_alias.ensures.first
-    ∙ ap (λ l. slice_get l 0) (sym (by_tree (alias_again c.args.max) (λ _. refl) c.self.inside.limit c.self.inside.held c.first_alias.ensures.ordered c.self.invariant))
-    ∙ ap (λ m. slice_get (by_id (alias_again c.args.max) m.limit m.held) 0) c.self.view_is
-
-pub returns-clause-within : goal.returns-clause-within
-returns-clause-within c = subst (λ m. IsWithin m.limit m.held) c.self.view_is c.self.invariant
+    let s = c.args.self.now in
+    sym (ap (λ l. slice_get l 0) (by_id_free (alias_again c.args.max) (λ _. refl) s.held s.limit c.loop-id.after c.loop-id.invariant.1 (λ q a _. c.in_default.ensures.last q a) ∙ c.loop-id.invariant.0))
