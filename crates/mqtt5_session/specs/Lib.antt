@@ -1,6 +1,8 @@
 pub mod Session
 pub mod Requests
 pub mod Packets
+pub mod Replies
+pub mod Frequent
 pub mod Cleaning
 pub mod Again
 pub mod Ledger

@@ -3,6 +3,7 @@
 
 mod laws;
 mod packed;
+mod reply;
 mod state;
 
 pub use laws::{ledger_law, once_law};

@@ -9,10 +9,13 @@ ghost use Rattle.mqtt5_held.specs.Unacked.{requests_of};
 ghost use Rattle.mqtt5_session.specs.Session.{Sends, Hears, fresh, tells};
 ghost use Rattle.mqtt5_session.specs.Requests.{out, protocol_error};
 ghost use Rattle.mqtt5_session.specs.Packets.{inc};
+ghost use Rattle.mqtt5_session.specs.Frequent.{IsAll};
 ghost use Rattle.mqtt5_session.specs.Cleaning.{cleaned, resume_of, Resumes};
 ghost use Rattle.mqtt5_session.specs.Ledger.{owed, adds, ends, accepted};
 ghost use Rattle.mqtt5_session.specs.Once.{kept_id, notified, released};
 
+/// The packets that come most.
+mod frequent;
 /// What each packet from the broker makes of the session.
 mod packets;
 /// What each request makes of it.
@@ -22,6 +25,7 @@ mod resuming;
 
 use crate::packed::as_disconnect;
 use bytes::Bytes;
+use frequent::Effect;
 use mqtt5_base::{Exact, copied};
 use mqtt5_codec::Packet;
 use mqtt5_flow::Publish;
@@ -286,6 +290,7 @@ impl MqttState {
     /// of an id that isn't there is answered so. S2: an ack of an id that awaits none. S4: an Auth, or a packet that a
     /// broker never sends. S10: a Disconnect. S11: a ConnAck that refuses the connection. S12, which leaves the session
     /// unchanged; after another refusal the packet's event stands, and nothing else is changed.
+    #[inline(always)]
     pub fn handle_incoming_packet(
         &mut self,
         packet: Incoming,
@@ -298,8 +303,35 @@ impl MqttState {
         self.hear(packet, at)
     }
 
-    #[tactic(auto, unfolding(crate::specs::Packets::inc))]
+    #[inline(always)]
     fn hear(&mut self, packet: Incoming, at: u64) -> Result<Option<Packet>, StateError>
+        ensures { Hears result self.old self.new (inc self.old packet at) }
+    {
+        match self.prepare(&packet, at) {
+            Some(effect) => self.hear_frequent(effect, packet, at),
+            None => self.hear_any(packet, at),
+        }
+    }
+
+    /// A packet of which this is all.
+    #[inline(always)]
+    fn hear_frequent(
+        &mut self,
+        effect: Effect,
+        packet: Incoming,
+        at: u64,
+    ) -> Result<Option<Packet>, StateError>
+        requires { IsAll self.old packet at effect }
+        ensures { Hears result self.old self.new (inc self.old packet at) }
+    {
+        self.carry_out(effect, packet, at)?;
+        Ok(effect.reply.packet())
+    }
+
+    /// A packet, whatever it does.
+    #[inline(never)]
+    #[tactic(auto, unfolding(crate::specs::Packets::inc))]
+    fn hear_any(&mut self, packet: Incoming, at: u64) -> Result<Option<Packet>, StateError>
         ensures { Hears result self.old self.new (inc self.old packet at) }
     {
         match packet {

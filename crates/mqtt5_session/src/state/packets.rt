@@ -337,7 +337,7 @@ impl MqttState {
 }
 
 /// Whether a publish was taken.
-fn is_taken(reason: PubRecReason) -> bool
+pub(super) fn is_taken(reason: PubRecReason) -> bool
     ensures { result ≡ is_taken reason }
 {
     matches!(

@@ -1,0 +1,63 @@
+-- This file serves the logic alone: the packets that come most, and what each does beside its event.
+use Rattle.std.specs.Prelude.{◌≡◌, ℕ, ◌<◌, ◌≤◌, Bool, false, List, [], ◌∷◌, ◌++◌, Ok}
+use Rattle.std.specs.Ordering.{nat_cmp}
+use Rattle.std.specs.FinMap as map
+use Rattle.std.specs.FinSet as set
+use Rattle.mqtt5_codec.specs.declared.packet.Packet.{Packet}
+use Rattle.mqtt5_held.specs.declared.event.Event.{Event}
+use Rattle.mqtt5_held.specs.declared.event.Event.TheVariants as events
+use Rattle.mqtt5_held.specs.declared.event.Outgoing.TheVariants as outgoing
+use Rattle.mqtt5_held.specs.declared.slot.Slot.TheVariants.{Released}
+use Rattle.mqtt5_held.specs.Held.{Held}
+use Rattle.mqtt5_session.specs.declared.reply.Reply.{Reply}
+use Rattle.mqtt5_session.specs.declared.reply.Reply.TheVariants.{PubAck, PubRec, PubRel, PubComp}
+use Rattle.mqtt5_session.specs.declared.state.frequent.Change.{Change}
+use Rattle.mqtt5_session.specs.declared.state.frequent.Change.TheVariants.{Pong, Free, Release, Keep, Complete}
+use Rattle.mqtt5_session.specs.declared.state.frequent.Effect.{Effect}
+use Rattle.mqtt5_session.specs.Session.{Session}
+use Rattle.mqtt5_session.specs.Packets.{hears, inc}
+use Rattle.mqtt5_session.specs.Replies.{made_of, packet_of}
+
+-- the ids in use after it
+abbrev pub held_by : Change → Held → Held
+held_by (Free id) held = map.remove held id
+held_by (Release id) held = map.insert held id Released
+held_by change held = held
+
+-- the ids of the broker after it
+abbrev pub ids_by : Change → set.FinSet nat_cmp → set.FinSet nat_cmp
+ids_by (Keep id) ids = set.insert ids id
+ids_by (Complete id) ids = set.remove ids id
+ids_by change ids = ids
+
+-- whether a ping isn't answered after it
+abbrev pub awaits_by : Change → Bool → Bool
+awaits_by Pong awaits = false
+awaits_by change awaits = awaits
+
+-- an ack is told
+abbrev pub events_by : Reply → List Event → List Event
+events_by (PubAck id) es = es ++ events.Outgoing (outgoing.PubAck id) ∷ []
+events_by (PubRec id) es = es ++ events.Outgoing (outgoing.PubRec id) ∷ []
+events_by (PubRel id) es = es ++ events.Outgoing (outgoing.PubRel id) ∷ []
+events_by (PubComp id reason) es = es ++ events.Outgoing (outgoing.PubComp id) ∷ []
+events_by reply es = es
+
+-- the session after a packet that was told
+abbrev pub does : Effect → Session → ℕ → Session
+does e s at = record s {
+  core = record s.core { held = held_by e.change s.core.held; incoming = ids_by e.change s.core.incoming };
+  awaits_ping = awaits_by e.change s.awaits_ping;
+  events = events_by e.reply s.events;
+  last_incoming = at;
+}
+
+-- an id that is released lies in 1..=limit
+abbrev pub FitsIn : ℕ → Change → Type 0
+FitsIn limit (Release id) = (0 < id) × (id ≤ limit)
+FitsIn limit change = Unit {0}
+
+-- this is all that a packet does
+abbrev pub IsAll : Session → Packet → ℕ → Effect → Type 0
+IsAll s packet at e =
+    (inc s packet at ≡ (Ok (made_of e.reply), does e (hears s packet) at)) × (packet_of e.reply (does e (hears s packet) at) ≡ made_of e.reply) × FitsIn s.core.limit e.change
