@@ -3,3 +3,4 @@ pub mod Resume
 pub mod Owed
 pub mod Once
 pub mod Keeps
+pub mod Short

@@ -2,7 +2,9 @@ pub mod Session
 pub mod Requests
 pub mod Packets
 pub mod Replies
+pub mod Short
 pub mod Frequent
+pub mod Planned
 pub mod Cleaning
 pub mod Again
 pub mod Ledger

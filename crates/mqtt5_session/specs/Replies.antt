@@ -1,8 +1,9 @@
 -- What is to be sent, in short, and the packet that it stands for.
-use Rattle.std.specs.Prelude.{Option, Some, None, option_map}
+use Rattle.std.specs.Prelude.{ℕ, Option, Some, None, Result, Ok, Err, option_map}
 use Rattle.std.specs.FinMap as map
 use Rattle.mqtt5_codec.specs.declared.packet.Packet.{Packet}
 use Rattle.mqtt5_codec.specs.declared.packet.Packet.TheVariants as packets
+use Rattle.mqtt5_held.specs.declared.error.StateError.{StateError}
 use Rattle.mqtt5_held.specs.Held.{awaiting_ack}
 use Rattle.mqtt5_session.specs.declared.reply.Reply.{Reply}
 use Rattle.mqtt5_session.specs.declared.reply.Reply.TheVariants.{Publish, PubAck, PubRec, PubRel, PubComp, Disconnect}
@@ -23,3 +24,8 @@ made_of reply = None
 abbrev pub packet_of : Reply → Session → Option Packet
 packet_of (Publish id) s = option_map packets.Publish (awaiting_ack (map.get s.core.held id))
 packet_of reply s = made_of reply
+
+-- an answer in short, as that of the packet
+abbrev pub in_full : Result Reply StateError → Session → Result (Option Packet) StateError
+in_full (Ok reply) s = Ok (packet_of reply s)
+in_full (Err e) s = Err e

@@ -8,4 +8,5 @@ mod state;
 
 pub use laws::{ledger_law, once_law};
 pub use mqtt5_held::{Event, Ids, Incoming, Outgoing, Request, StateError};
+pub use reply::Reply;
 pub use state::MqttState;

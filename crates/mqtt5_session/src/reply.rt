@@ -2,6 +2,7 @@
 
 ghost use Rattle.std.specs.Prelude.{◌≡◌};
 ghost use Rattle.mqtt5_session.specs.Replies.{made_of};
+ghost use Rattle.mqtt5_session.specs.Short.{in_short};
 
 use crate::packed::{as_disconnect, as_puback, as_pubcomp, as_pubrec, as_release};
 use mqtt5_codec::Packet;
@@ -57,5 +58,20 @@ impl Reply {
             })),
             Reply::Disconnect(code) => Some(as_disconnect(code)),
         }
+    }
+}
+
+/// What an answer is in short.
+pub fn in_short(answer: &Option<Packet>) -> Reply
+    ensures { result ≡ in_short answer.now }
+{
+    match answer {
+        Some(Packet::Publish(publish)) => Reply::Publish(publish.pkid),
+        Some(Packet::PubAck(ack)) => Reply::PubAck(ack.pkid),
+        Some(Packet::PubRec(ack)) => Reply::PubRec(ack.pkid),
+        Some(Packet::PubRel(release)) => Reply::PubRel(release.pkid),
+        Some(Packet::PubComp(ack)) => Reply::PubComp(ack.pkid, ack.reason),
+        Some(Packet::Disconnect(disconnect)) => Reply::Disconnect(disconnect.reason_code),
+        _other => Reply::Nothing,
     }
 }

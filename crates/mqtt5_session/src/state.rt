@@ -1,6 +1,6 @@
 //! The session.
 
-ghost use Rattle.std.specs.Prelude.{◌≡◌, ◌+◌, ◌<◌, length, IfOk, IfErr, OnOk, OnErr, drop, slice_get, Ok, ℕ};
+ghost use Rattle.std.specs.Prelude.{◌≡◌, ◌≢◌, ◌+◌, ◌<◌, length, IfOk, IfErr, OnOk, OnErr, drop, slice_get, Ok, ℕ};
 ghost use Rattle.std.specs.FinMap as map;
 ghost use Rattle.std.specs.FinSet as set;
 ghost use Rattle.std.specs.Option.{option_copied};
@@ -8,8 +8,11 @@ ghost use Rattle.mqtt5_held.specs.Held.{IsWithin, awaiting_ack, is_released};
 ghost use Rattle.mqtt5_held.specs.Unacked.{requests_of};
 ghost use Rattle.mqtt5_session.specs.Session.{Sends, Hears, fresh, tells};
 ghost use Rattle.mqtt5_session.specs.Requests.{out, protocol_error};
+ghost use Rattle.mqtt5_base.specs.declared.quality.QoS.TheVariants.{AtMostOnce};
 ghost use Rattle.mqtt5_session.specs.Packets.{inc};
+ghost use Rattle.mqtt5_session.specs.Replies.{in_full};
 ghost use Rattle.mqtt5_session.specs.Frequent.{IsAll};
+ghost use Rattle.mqtt5_session.specs.Planned.{IsLeft, sent_as};
 ghost use Rattle.mqtt5_session.specs.Cleaning.{cleaned, resume_of, Resumes};
 ghost use Rattle.mqtt5_session.specs.Ledger.{owed, adds, ends, accepted};
 ghost use Rattle.mqtt5_session.specs.Once.{kept_id, notified, released};
@@ -23,7 +26,8 @@ mod requests;
 /// What is sent again on a new connection.
 mod resuming;
 
-use crate::packed::as_disconnect;
+use crate::packed::{as_disconnect, as_ping, as_publish};
+use crate::reply::{Reply, in_short};
 use bytes::Bytes;
 use frequent::Effect;
 use mqtt5_base::{Exact, copied};
@@ -252,6 +256,7 @@ impl MqttState {
     /// S6: a subscribe without filters. S8: a publish whose topic alias is above the broker's maximum. S12.
     /// After a refusal the session is unchanged, but a ping that was refused while a publish waits is
     /// counted.
+    #[inline(always)]
     pub fn handle_outgoing_packet(
         &mut self,
         request: Request,
@@ -264,16 +269,32 @@ impl MqttState {
         self.send(request, at)
     }
 
-    #[tactic(auto, unfolding(crate::specs::Requests::out))]
+    #[inline(always)]
     fn send(&mut self, request: Request, at: u64) -> Result<Option<Packet>, StateError>
         ensures { Sends result self.old self.new (out self.old request at) }
     {
+        match self.plan(&request, at) {
+            Ok(Some(id)) => Ok(Some(as_sent(request, id))),
+            Ok(None) => self.send_rest(request, at),
+            Err(refused) => {
+                drop(request);
+                Err(refused)
+            }
+        }
+    }
+
+    /// A request that isn't done.
+    #[inline(never)]
+    #[tactic(auto, unfolding(crate::specs::Requests::out))]
+    fn send_rest(&mut self, request: Request, at: u64) -> Result<Option<Packet>, StateError>
+        requires { IsLeft request self.old }
+        ensures { Sends result self.old self.new (out self.old request at) }
+    {
         match request {
-            Request::Publish(publish) => self.send_publish(publish, at),
+            Request::Publish(publish) => self.send_waiting(publish, at),
             Request::PubRel(release) => self.send_pubrel(release.pkid, at),
             Request::Subscribe(subscribe) => self.send_subscribe(subscribe, at),
             Request::Unsubscribe(unsubscribe) => self.send_unsubscribe(unsubscribe, at),
-            Request::PingReq => self.send_ping(at),
             Request::Disconnect => self.send_disconnect(at),
             Request::PubAck(ack) => self.send_puback(ack, at),
             Request::PubRec(ack) => self.send_pubrec(ack, at),
@@ -347,6 +368,68 @@ impl MqttState {
             Packet::Disconnect(disconnect) => self.hear_disconnect(disconnect),
             other => self.refuse(other),
         }
+    }
+
+    /// As `handle_incoming_packet`, and answers what to send in short.
+    #[inline(always)]
+    pub fn hear_packet(&mut self, packet: Incoming, at: u64) -> Result<Reply, StateError>
+        ensures step { Hears (in_full result self.new) self.old self.new (inc self.old packet at) }
+        ensures ledger { owed self.new.core + accepted result (ends packet) ≡ owed self.old.core }
+        ensures once { (id : ℕ) → kept_id id self.new.core + accepted result (released id self.old.core packet) ≡ kept_id id self.old.core + notified id self.old (in_full result self.new) self.new }
+    {
+        self.hear_in_short(packet, at)
+    }
+
+    #[inline(always)]
+    fn hear_in_short(&mut self, packet: Incoming, at: u64) -> Result<Reply, StateError>
+        ensures { Hears (in_full result self.new) self.old self.new (inc self.old packet at) }
+    {
+        match self.prepare(&packet, at) {
+            Some(effect) => self.frequent_in_short(effect, packet, at),
+            None => self.hear_rare(packet, at),
+        }
+    }
+
+    /// A packet of which this is all.
+    #[inline(always)]
+    fn frequent_in_short(
+        &mut self,
+        effect: Effect,
+        packet: Incoming,
+        at: u64,
+    ) -> Result<Reply, StateError>
+        requires { IsAll self.old packet at effect }
+        ensures { Hears (in_full result self.new) self.old self.new (inc self.old packet at) }
+    {
+        self.carry_out(effect, packet, at)?;
+        Ok(effect.reply)
+    }
+
+    /// A packet, whatever it does.
+    #[inline(never)]
+    #[tactic(auto, using(crate::proofs::Short::hears_short))]
+    fn hear_rare(&mut self, packet: Incoming, at: u64) -> Result<Reply, StateError>
+        ensures { Hears (in_full result self.new) self.old self.new (inc self.old packet at) }
+    {
+        match self.hear_any(packet, at) {
+            Ok(answer) => {
+                let reply = in_short(&answer);
+                drop(answer);
+                Ok(reply)
+            }
+            Err(refused) => Err(refused),
+        }
+    }
+
+    /// As `handle_outgoing_packet` of a publish of QoS 1 or 2, of which a copy is sent, and answers what to send in
+    /// short.
+    pub fn send_copy(&mut self, publish: &Publish, at: u64) -> Result<Reply, StateError>
+        requires { publish.now.qos ≢ AtMostOnce }
+        ensures step { Sends (in_full result self.new) self.old self.new (out self.old (Request.Publish publish.now) at) }
+        ensures ledger { owed self.new.core ≡ owed self.old.core + accepted result (adds self.old.core (Request.Publish publish.now)) }
+        ensures once { (id : ℕ) → kept_id id self.new.core ≡ kept_id id self.old.core }
+    {
+        self.copy_out(publish, at)
     }
 
     /// Tells of a Disconnect with ProtocolError, and answers it to send. S12; the session is then unchanged.
@@ -428,4 +511,20 @@ fn copied_queue<T: Exact>(queue: &VecDeque<T>) -> Result<VecDeque<T>, AllocError
     ensures { IfOk result (λ copy. copy.items ≡ queue.now.items) }
 {
     queue.clone()
+}
+
+/// The packet of a publish with this id, or of a ping.
+fn as_sent(request: Request, id: u16) -> Packet
+    ensures { result ≡ sent_as request id }
+{
+    match request {
+        Request::Publish(mut publish) => {
+            publish.pkid = id;
+            as_publish(publish)
+        }
+        other => {
+            drop(other);
+            as_ping()
+        }
+    }
 }

@@ -3,17 +3,19 @@
 ghost use Rattle.std.specs.Prelude.{◌≡◌, ◌≢◌, ◌<◌, ◌≤◌, IfOk, IfErr, IsOk, OnOk, OnErr, None, Some, Ok, cond};
 ghost use Rattle.mqtt5_base.specs.declared.quality.QoS.TheVariants.{AtMostOnce};
 ghost use Rattle.mqtt5_session.specs.Session.{Session, Sends};
-ghost use Rattle.mqtt5_session.specs.Requests.{id_for, last_after, tells_at, judged, Verdict, out_once, out_identified, out_publish, stored, awaits, out_release, out_subscribe, out_unsubscribe, pings_with, counts_ping, out_ping, disconnect_of};
+ghost use Rattle.mqtt5_session.specs.Replies.{in_full};
+ghost use Rattle.mqtt5_session.specs.Planned.{Stores, Plans, IsLeft};
+ghost use Rattle.mqtt5_session.specs.Requests.{id_for, last_after, tells_at, judged, Verdict, out_publish, stored, awaits, out, out_identified, out_release, out_subscribe, out_unsubscribe, pings_with, disconnect_of};
 
 use super::MqttState;
 use crate::packed::{
-    as_disconnect, as_ping, as_puback, as_publish, as_pubrec, as_release, as_subscribe,
-    as_unsubscribe,
+    as_disconnect, as_puback, as_pubrec, as_release, as_subscribe, as_unsubscribe,
 };
+use crate::reply::Reply;
 use mqtt5_base::{QoS, copied};
 use mqtt5_codec::Packet;
 use mqtt5_flow::{PubAck, PubRec, Publish};
-use mqtt5_held::{Event, Outgoing, Slot, StateError, alias_over};
+use mqtt5_held::{Event, Outgoing, Request, Slot, StateError, alias_over};
 use mqtt5_link::DisconnectReasonCode;
 use mqtt5_subs::{Subscribe, Unsubscribe};
 use std::alloc::AllocError;
@@ -49,64 +51,118 @@ impl MqttState {
         Ok(())
     }
 
-    pub(super) fn send_publish(
-        &mut self,
-        mut publish: Publish,
-        at: u64,
-    ) -> Result<Option<Packet>, StateError>
-        ensures { Sends result self.old self.new (out_publish publish.qos self.old publish at) }
+    /// Does what a publish or a ping does, all but its packet, and answers the packet's id; None of a publish
+    /// that has to wait, and of any other request.
+    #[inline(never)]
+    #[tactic(auto, unfolding(crate::specs::Requests::out))]
+    pub(super) fn plan(&mut self, request: &Request, at: u64) -> Result<Option<u16>, StateError>
+        ensures { Plans result self.old self.new request.now at }
+    {
+        match request {
+            Request::Publish(publish) => self.plan_publish(publish, at),
+            Request::PingReq => self.plan_ping(at),
+            _other => Ok(None),
+        }
+    }
+
+    #[tactic(auto, unfolding(crate::specs::Requests::out))]
+    fn plan_publish(&mut self, publish: &Publish, at: u64) -> Result<Option<u16>, StateError>
+        ensures { Plans result self.old self.new (Request.Publish publish.now) at }
     {
         if publish.qos == QoS::AtMostOnce {
             return self.send_once(publish, at);
         }
         let (id, last) = self.take_id(publish.pkid);
-        publish.pkid = id;
-        self.send_acked(publish, last, at)
+        self.store_free(publish, id, last, at)
     }
 
-    fn send_once(&mut self, publish: Publish, at: u64) -> Result<Option<Packet>, StateError>
-        ensures { Sends result self.old self.new (out_once self.old publish at) }
+    #[tactic(auto, unfolding(crate::specs::Requests::out))]
+    fn send_once(&mut self, publish: &Publish, at: u64) -> Result<Option<u16>, StateError>
+        requires { publish.now.qos ≡ AtMostOnce }
+        ensures { Plans result self.old self.new (Request.Publish publish.now) at }
     {
         let max = self.alias_max;
-        if let Some(alias) = alias_over(&publish, max) {
-            drop(publish);
+        if let Some(alias) = alias_over(publish, max) {
             return Err(StateError::InvalidAlias { alias, max });
         }
-        if let Err(refused) = self.tell_at(Outgoing::Publish(publish.pkid), at) {
-            drop(publish);
-            return Err(StateError::from(refused));
-        }
-        Ok(Some(as_publish(publish)))
+        self.tell_at(Outgoing::Publish(publish.pkid), at)?;
+        Ok(Some(publish.pkid))
     }
 
-    fn send_acked(
+    /// Stores a copy of a publish under an id that is free, and answers the id; None where it isn't.
+    fn store_free(
         &mut self,
-        publish: Publish,
+        publish: &Publish,
+        id: u16,
         last: u16,
         at: u64,
-    ) -> Result<Option<Packet>, StateError>
-        requires id { 0 < publish.pkid }
+    ) -> Result<Option<u16>, StateError>
+        requires id { 0 < id }
         requires last { last < self.old.core.limit }
-        requires counted { publish.qos ≢ AtMostOnce }
-        ensures { Sends result self.old self.new (out_identified self.old publish last at) }
+        requires counted { publish.now.qos ≢ AtMostOnce }
+        ensures { Stores result self.old self.new (record publish.now { pkid = id }) last at }
     {
-        match self.is_free_for(&publish) {
-            Ok(true) => self.send_stored(publish, last, at),
-            Ok(false) => self.keep(publish, last, at),
-            Err(refused) => {
-                drop(publish);
-                Err(refused)
-            }
+        if !self.is_free_for(id, publish)? {
+            return Ok(None);
         }
+        self.store(publish, id, last, at)?;
+        Ok(Some(id))
+    }
+
+    /// A copy of a publish of QoS 1 or 2 is stored, or waits until its id is free.
+    #[tactic(auto, unfolding(crate::specs::Requests::out))]
+    pub(super) fn copy_out(&mut self, publish: &Publish, at: u64) -> Result<Reply, StateError>
+        requires { publish.now.qos ≢ AtMostOnce }
+        ensures { Sends (in_full result self.new) self.old self.new (out self.old (Request.Publish publish.now) at) }
+    {
+        let (id, last) = self.take_id(publish.pkid);
+        self.copy_under(publish, id, last, at)
+    }
+
+    fn copy_under(
+        &mut self,
+        publish: &Publish,
+        id: u16,
+        last: u16,
+        at: u64,
+    ) -> Result<Reply, StateError>
+        requires id { 0 < id }
+        requires last { last < self.old.core.limit }
+        requires counted { publish.now.qos ≢ AtMostOnce }
+        ensures { Sends (in_full result self.new) self.old self.new (out_identified self.old (record publish.now { pkid = id }) last at) }
+    {
+        match self.store_free(publish, id, last, at) {
+            Ok(Some(stored)) => Ok(Reply::Publish(stored)),
+            Ok(None) => self.keep_copy(publish, id, last, at),
+            Err(refused) => Err(refused),
+        }
+    }
+
+    /// Keeps a copy of a publish until its id is free.
+    #[inline(never)]
+    fn keep_copy(
+        &mut self,
+        publish: &Publish,
+        id: u16,
+        last: u16,
+        at: u64,
+    ) -> Result<Reply, StateError>
+        requires last { last < self.old.core.limit }
+        requires counted { publish.now.qos ≢ AtMostOnce }
+        ensures { Sends (in_full result self.new) self.old self.new (Ok None, awaits self.old (record publish.now { pkid = id }) last at) }
+    {
+        let mut copy = copied(publish)?;
+        copy.pkid = id;
+        self.keep(copy, last, at)?;
+        Ok(Reply::Nothing)
     }
 
     /// Whether the id of a publish is free; where it isn't, nothing waits. Takes no memory.
-    fn is_free_for(&self, publish: &Publish) -> Result<bool, StateError>
-        ensures judged { IfOk result (λ free. judged self.now.core publish.now ≡ cond free Verdict.Store Verdict.Wait) }
-        ensures high { IsOk result → publish.now.pkid ≤ self.now.core.limit }
-        ensures err { IfErr result (λ e. judged self.now.core publish.now ≡ Verdict.Refuse e) }
+    fn is_free_for(&self, id: u16, publish: &Publish) -> Result<bool, StateError>
+        ensures judged { IfOk result (λ free. judged self.now.core (record publish.now { pkid = id }) ≡ cond free Verdict.Store Verdict.Wait) }
+        ensures high { IsOk result → id ≤ self.now.core.limit }
+        ensures err { IfErr result (λ e. judged self.now.core (record publish.now { pkid = id }) ≡ Verdict.Refuse e) }
     {
-        let id = publish.pkid;
         if id > self.slots.limit() {
             return Err(StateError::Unsolicited(id));
         }
@@ -123,39 +179,17 @@ impl MqttState {
         Ok(false)
     }
 
-    /// Stores a publish under its id, which is free, and sends it.
-    fn send_stored(
-        &mut self,
-        publish: Publish,
-        last: u16,
-        at: u64,
-    ) -> Result<Option<Packet>, StateError>
-        requires low { 0 < publish.pkid }
-        requires high { publish.pkid ≤ self.old.core.limit }
-        requires counted { publish.qos ≢ AtMostOnce }
-        requires last { last < self.old.core.limit }
-        ensures { Sends result self.old self.new (Ok (Some (Packet.Publish publish)), stored self.old publish last at) }
-    {
-        if let Err(refused) = self.store(&publish, last, at) {
-            drop(publish);
-            return Err(StateError::from(refused));
-        }
-        Ok(Some(as_publish(publish)))
-    }
-
-    /// Stores a copy of a publish under its id, which is free.
-    fn store(&mut self, publish: &Publish, last: u16, at: u64) -> Result<(), AllocError>
-        requires low { 0 < publish.now.pkid }
-        requires high { publish.now.pkid ≤ self.old.core.limit }
+    /// Stores a copy of a publish under an id, which is free.
+    fn store(&mut self, publish: &Publish, id: u16, last: u16, at: u64) -> Result<(), AllocError>
+        requires low { 0 < id }
+        requires high { id ≤ self.old.core.limit }
         requires counted { publish.now.qos ≢ AtMostOnce }
         requires last { last < self.old.core.limit }
-        ensures ok { OnOk result (self.new ≡ stored self.old publish.now last at) }
+        ensures ok { OnOk result (self.new ≡ stored self.old (record publish.now { pkid = id }) last at) }
         ensures err { OnErr result (self.new ≡ self.old) }
     {
-        let id = publish.pkid;
         self.events.reserve(1)?;
-        let stored = copied(publish)?;
-        self.slots.insert(id, Slot::Sent(stored))?;
+        self.slots.insert_copy(id, publish)?;
         self.events
             .push_back_reserved(Event::Outgoing(Outgoing::Publish(id)));
         self.last_pkid = last;
@@ -163,22 +197,38 @@ impl MqttState {
         Ok(())
     }
 
+    /// A publish that has to wait until its id is free.
+    pub(super) fn send_waiting(
+        &mut self,
+        mut publish: Publish,
+        at: u64,
+    ) -> Result<Option<Packet>, StateError>
+        requires { IsLeft (Request.Publish publish) self.old }
+        ensures { Sends result self.old self.new (out_publish publish.qos self.old publish at) }
+    {
+        let (id, last) = self.take_id(publish.pkid);
+        publish.pkid = id;
+        self.keep(publish, last, at)?;
+        Ok(None)
+    }
+
     /// Keeps a publish until its id is free.
-    fn keep(&mut self, publish: Publish, last: u16, at: u64) -> Result<Option<Packet>, StateError>
+    fn keep(&mut self, publish: Publish, last: u16, at: u64) -> Result<(), AllocError>
         requires last { last < self.old.core.limit }
         requires counted { publish.qos ≢ AtMostOnce }
-        ensures { Sends result self.old self.new (Ok None, awaits self.old publish last at) }
+        ensures ok { OnOk result (self.new ≡ awaits self.old publish last at) }
+        ensures err { OnErr result (self.new ≡ self.old) }
     {
         if let Err(refused) = self.events.reserve(1) {
             drop(publish);
-            return Err(StateError::from(refused));
+            return Err(refused);
         }
         self.events
             .push_back_reserved(Event::Outgoing(Outgoing::AwaitAck(publish.pkid)));
         self.waiting = Some(publish);
         self.last_pkid = last;
         self.last_outgoing = at;
-        Ok(None)
+        Ok(())
     }
 
     pub(super) fn send_pubrel(&mut self, id: u16, at: u64) -> Result<Option<Packet>, StateError>
@@ -231,8 +281,9 @@ impl MqttState {
         Ok(Some(as_unsubscribe(unsubscribe)))
     }
 
-    pub(super) fn send_ping(&mut self, at: u64) -> Result<Option<Packet>, StateError>
-        ensures { Sends result self.old self.new (out_ping (counts_ping self.old) at) }
+    #[tactic(auto, unfolding(crate::specs::Requests::out))]
+    fn plan_ping(&mut self, at: u64) -> Result<Option<u16>, StateError>
+        ensures { Plans result self.old self.new Request.PingReq at }
     {
         let count = pings_with(&self.waiting, self.collision_pings);
         if self.waiting.is_some() && count >= 2 {
@@ -246,7 +297,7 @@ impl MqttState {
         self.tell_at(Outgoing::PingReq, at)?;
         self.collision_pings = count;
         self.awaits_ping = true;
-        Ok(Some(as_ping()))
+        Ok(Some(0))
     }
 
     pub(super) fn send_disconnect(&mut self, at: u64) -> Result<Option<Packet>, StateError>
