@@ -19,6 +19,7 @@ pub mod FrameLaws
 pub mod HeaderLemmas
 pub mod ViewsBack
 pub mod SetShapes
+pub mod AckSets
 pub mod FieldShapes
 pub mod KindsAgain
 pub mod ItemsAgain

@@ -1,5 +1,6 @@
 -- This file serves the logic alone: fields of packets from the grammar's values (MQTT 5.0 sections 1.5, 2.2.2 and 4.3).
 use Rattle.std.specs.Prelude.{ℕ, zero, suc, List, [], ◌∷◌, Option, Some, None, map, ◌==◌, if◌then◌else◌}
+use Rattle.mqtt5_base.specs.declared.ack_properties.AckProperties.{AckProperties}
 use Rattle.mqtt5_base.specs.declared.quality.QoS.{QoS}
 use Rattle.mqtt5_base.specs.declared.quality.QoS.TheVariants.{AtMostOnce, AtLeastOnce, ExactlyOnce}
 use Rattle.mqtt5_base.specs.Texts.{Utf8, text_of}
@@ -54,3 +55,7 @@ found_in [] k = None
 found_in (plain a ∷ vs) zero = None
 found_in (properties p ∷ vs) zero = p
 found_in (v ∷ vs) (suc k) = found_in vs k
+
+-- the properties of an ack from their values
+abbrev pub ack_set : Found → AckProperties
+ack_set f = record { reason_string = one_text (here_in f 0); user_properties = all_pairs (here_in f 1) }

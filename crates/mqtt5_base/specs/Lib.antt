@@ -1,3 +1,4 @@
+pub mod AckSets
 pub mod Answers
 pub mod Codes
 pub mod Faults

@@ -9,6 +9,7 @@ use mathlib.Core.Bool.{beq}
 use mathlib.Core.HLevel.{is_prop→PathP}
 use Rattle.mqtt5_base.specs.Codes.{same_text}
 use Rattle.mqtt5_base.specs.Texts.{Utf8}
+use Rattle.mqtt5_base.specs.contracts.ack_properties.AckPropertiesPartialEq.TheImpl as ack_properties
 use Rattle.mqtt5_base.specs.contracts.header.FixedHeaderPartialEq.TheImpl as header
 use Rattle.mqtt5_base.specs.contracts.quality.QoSPartialEq.TheImpl as qos
 
@@ -56,3 +57,8 @@ pub header_sound : Sound header.eq-value.it
 header_sound x y h =
     let e = both (number_sound x.byte1 y.byte1) (both (number_sound x.fixed_header_len y.fixed_header_len) (number_sound x.remaining_len y.remaining_len)) h in
     λ i. record { byte1 = e.0 i; fixed_header_len = e.1.0 i; remaining_len = e.1.1 i; bounded = is_prop→PathP (λ j. e.1.0 j + e.1.1 j < 2 ^ 64) (λ j. le_prop) x.bounded y.bounded i }
+
+pub ack_properties_sound : Sound ack_properties.eq-value.it
+ack_properties_sound x y h =
+    let e = both (option_sound text_sound x.reason_string y.reason_string) (list_sound (pair_sound text_sound text_sound) x.user_properties y.user_properties) h in
+    λ i. record { reason_string = e.0 i; user_properties = e.1 i }

@@ -2,6 +2,7 @@
 //! says what their bytes stand for.
 #![tactic(auto)]
 
+mod ack_properties;
 mod error;
 mod exact;
 mod fields;
@@ -17,6 +18,7 @@ mod tagged;
 mod text;
 mod value;
 
+pub use ack_properties::AckProperties;
 pub use error::Error;
 pub use exact::{Exact, copied, same};
 pub use fields::{read_bytes, read_text, read_u8, read_u16, read_u32, read_varint};

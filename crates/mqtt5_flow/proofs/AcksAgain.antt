@@ -10,13 +10,14 @@ use Rattle.mqtt5_base.specs.Tidy.{tidy}
 use Rattle.mqtt5_base.proofs.KindsAgain.{both_hold}
 use Rattle.mqtt5_base.proofs.BlocksAgain.{some_block, tidy_found, tidy_values, tidy_twice}
 use Rattle.mqtt5_base.proofs.FramesAgain.{has_body, body_of, IsReadable, content_read, written_again}
-use Rattle.mqtt5_flow.specs.Rows.{ack_row, ack_table, puback_codes, pubrel_codes, puback_row, pubrel_row}
-use Rattle.mqtt5_flow.specs.declared.properties.AckProperties.{AckProperties}
+use Rattle.mqtt5_base.specs.AckSets.{ack_table, ack_found}
+use Rattle.mqtt5_flow.specs.Rows.{ack_row, puback_codes, pubrel_codes, puback_row, pubrel_row}
+use Rattle.mqtt5_base.specs.declared.ack_properties.AckProperties.{AckProperties}
 use Rattle.mqtt5_flow.specs.declared.puback.PubAck.{PubAck}
 use Rattle.mqtt5_flow.specs.declared.pubrec.PubRec.{PubRec}
 use Rattle.mqtt5_flow.specs.declared.pubrel.PubRel.{PubRel}
 use Rattle.mqtt5_flow.specs.declared.pubcomp.PubComp.{PubComp}
-use Rattle.mqtt5_flow.specs.Acks.{ack_found, ack_packet, puback_code, pubrel_code, puback_packet, pubrec_packet, pubrel_packet, pubcomp_packet}
+use Rattle.mqtt5_flow.specs.Acks.{ack_packet, puback_code, pubrel_code, puback_packet, pubrec_packet, pubrel_packet, pubcomp_packet}
 use Rattle.mqtt5_flow.specs.Norms.{puback_norm, pubrec_norm, pubrel_norm, pubcomp_norm}
 
 -- ---- each ack

@@ -2,7 +2,9 @@
 use Rattle.std.proofs.Common.{◌≡◌, rules}
 use Rattle.mqtt5_base.specs.Layout.{content_of_packet}
 use Rattle.mqtt5_base.proofs.ViewsBack.{qos_back, bit_back, numbers_back, contents_back, texts_back, pairs_back, identifiers_back, set_back}
-use Rattle.mqtt5_flow.specs.declared.properties.AckProperties.{AckProperties}
+use Rattle.mqtt5_base.specs.AckSets.{ack_found}
+use Rattle.mqtt5_base.specs.FromValues.{ack_set}
+use Rattle.mqtt5_base.proofs.AckSets.{ack_set_back}
 use Rattle.mqtt5_flow.specs.declared.puback.PubAckReason.{PubAckReason}
 use Rattle.mqtt5_flow.specs.declared.pubrel.PubRelReason.{PubRelReason}
 use Rattle.mqtt5_flow.specs.declared.puback.PubAck.{PubAck}
@@ -11,8 +13,8 @@ use Rattle.mqtt5_flow.specs.declared.pubrel.PubRel.{PubRel}
 use Rattle.mqtt5_flow.specs.declared.pubcomp.PubComp.{PubComp}
 use Rattle.mqtt5_flow.specs.declared.publish.PublishProperties.{PublishProperties}
 use Rattle.mqtt5_flow.specs.declared.publish.Publish.{Publish}
-use Rattle.mqtt5_flow.specs.Acks.{ack_found, puback_code, pubrel_code, puback_packet, pubrec_packet, pubrel_packet, pubcomp_packet}
-use Rattle.mqtt5_flow.specs.FromValues.{ack_set, puback_reason, pubrel_reason, puback_of, pubrec_of, pubrel_of, pubcomp_of, publish_set, publish_of}
+use Rattle.mqtt5_flow.specs.Acks.{puback_code, pubrel_code, puback_packet, pubrec_packet, pubrel_packet, pubcomp_packet}
+use Rattle.mqtt5_flow.specs.FromValues.{puback_reason, pubrel_reason, puback_of, pubrec_of, pubrel_of, pubcomp_of, publish_set, publish_of}
 use Rattle.mqtt5_flow.specs.Publishes.{publish_found, publish_packet}
 
 -- ---- acks
@@ -24,10 +26,6 @@ puback_reason_back = search rules
 -- a reason is that of its code
 pubrel_reason_back : (r : PubRelReason) → pubrel_reason (pubrel_code r) ≡ r
 pubrel_reason_back = search rules
-
--- The properties of an ack are those of their values.
-pub ack_set_back : (s : AckProperties) → ack_set (ack_found s) ≡ s
-ack_set_back s = λ i. record { reason_string = texts_back s.reason_string i; user_properties = pairs_back s.user_properties i }
 
 -- A PubAck is the one of its values.
 pub puback_back : (p : PubAck) → puback_of (content_of_packet (puback_packet p)) ≡ p

@@ -7,9 +7,12 @@ use Rattle.mqtt5_base.specs.FromValues.{found_in}
 use Rattle.mqtt5_base.specs.Layout.{content_of_packet}
 use Rattle.mqtt5_base.proofs.SetShapes.{kept_by, ComeBack, IsBack, numbers_again, contents_again, texts_again, pairs_again, identifiers_again, set_again}
 use Rattle.mqtt5_base.proofs.FieldShapes.{one_back, remainder_back, properties_back, maybe_one, maybe_checked, maybe_properties, among_each, qos_again}
-use Rattle.mqtt5_flow.specs.Rows.{publish_table, publish_row, ack_table, ack_row, puback_codes, pubrel_codes, puback_row, pubrel_row, ping_row}
-use Rattle.mqtt5_flow.specs.Acks.{ack_found, puback_code, pubrel_code, puback_packet, pubrec_packet, pubrel_packet, pubcomp_packet}
-use Rattle.mqtt5_flow.specs.FromValues.{ack_set, puback_reason, pubrel_reason, puback_of, pubrec_of, pubrel_of, pubcomp_of, publish_set, publish_of}
+use Rattle.mqtt5_base.specs.AckSets.{ack_table, ack_found}
+use Rattle.mqtt5_base.specs.FromValues.{ack_set}
+use Rattle.mqtt5_base.proofs.AckSets.{ack_set_again}
+use Rattle.mqtt5_flow.specs.Rows.{publish_table, publish_row, ack_row, puback_codes, pubrel_codes, puback_row, pubrel_row, ping_row}
+use Rattle.mqtt5_flow.specs.Acks.{puback_code, pubrel_code, puback_packet, pubrec_packet, pubrel_packet, pubcomp_packet}
+use Rattle.mqtt5_flow.specs.FromValues.{puback_reason, pubrel_reason, puback_of, pubrec_of, pubrel_of, pubcomp_of, publish_set, publish_of}
 use Rattle.mqtt5_flow.specs.Publishes.{publish_found, publish_packet}
 use Rattle.mqtt5_base.proofs.Bits.{bit_of_mod}
 
@@ -73,10 +76,6 @@ ack_row_again codes table first len body c rest h =
     let j = b.3 in
     let kept : h.0.kept ≡ (plain id.0 ∷ plain code.0 ∷ properties p.0 ∷ []) = ap (λ k. k.kept) j.1.0 ∙ (λ i. id.1 i ∷ code.1 i ∷ p.1 i ∷ []) in
     (id.0, code.0, p.0, h.5 ∙ (λ i. (kept i, h.4.0 i)), id.2, code.2, ap (λ v. passes codes (atom_of v)) (sym code.1) ∙ j.0 refl, p.2)
-
--- The properties of an ack come back.
-pub ack_set_again : (items : List (ℕ × Atom)) → ComeBack items → ack_found (ack_set (props ack_table items)) ≡ props ack_table items
-ack_set_again items l = λ i. texts_again _ (l 31) i ∷ pairs_again _ (l 38) i ∷ []
 
 -- What the row of an ack gives comes back, where each code does.
 ack_comes_back : (codes : Test) (back : ℕ → ℕ) → ((n : ℕ) → passes codes (number n) ≡ true → back n ≡ n) → (first len : ℕ) (body : List ℕ) (c : Content) (rest : List ℕ) → IsRow (ack_row codes ack_table) first len body c rest

@@ -1,9 +1,8 @@
 -- PubAck, PubRec, PubRel and PubComp as the values of their rows (MQTT 5.0 sections 3.4 to 3.7).
 use Rattle.std.specs.Prelude.{ℕ, [], ◌∷◌, Option, option_map}
+use Rattle.mqtt5_base.specs.AckSets.{ack_found}
 use Rattle.mqtt5_base.specs.Grammar.{number, Found, plain, properties}
-use Rattle.mqtt5_base.specs.Views.{texts, pairs}
 use Rattle.mqtt5_base.specs.Layout.{WrittenPacket, plainly}
-use Rattle.mqtt5_flow.specs.declared.properties.AckProperties.{AckProperties}
 use Rattle.mqtt5_flow.specs.declared.puback.PubAckReason.{PubAckReason}
 use Rattle.mqtt5_flow.specs.declared.puback.PubAckReason.TheVariants as answers
 use Rattle.mqtt5_flow.specs.declared.pubrel.PubRelReason.{PubRelReason}
@@ -14,10 +13,6 @@ use Rattle.mqtt5_flow.specs.declared.pubrel.PubRel.{PubRel}
 use Rattle.mqtt5_flow.specs.declared.pubcomp.PubComp.{PubComp}
 
 -- ---- what they share
-
--- the values of an ack's properties (3.4.2.2, 3.5.2.2, 3.6.2.2, 3.7.2.2)
-abbrev pub ack_found : AckProperties → Found
-ack_found s = texts s.reason_string ∷ pairs s.user_properties ∷ []
 
 -- an ack with this first byte as it is written: an identifier, a reason code and properties
 abbrev pub ack_packet : ℕ → ℕ → ℕ → Option Found → WrittenPacket

@@ -1,8 +1,7 @@
 -- This file serves the logic alone: packets from the values of their rows.
 use Rattle.std.specs.Prelude.{ℕ, ◌==◌, option_map, if◌then◌else◌}
 use Rattle.mqtt5_base.specs.Grammar.{Found, Content, number_in}
-use Rattle.mqtt5_base.specs.FromValues.{one_text, all_pairs, here_in, found_in, qos_of, one_number, one_content, all_numbers, content_in}
-use Rattle.mqtt5_flow.specs.declared.properties.AckProperties.{AckProperties}
+use Rattle.mqtt5_base.specs.FromValues.{one_text, all_pairs, here_in, found_in, qos_of, one_number, one_content, all_numbers, content_in, ack_set}
 use Rattle.mqtt5_flow.specs.declared.puback.PubAckReason.{PubAckReason}
 use Rattle.mqtt5_flow.specs.declared.pubrel.PubRelReason.{PubRelReason}
 use Rattle.mqtt5_flow.specs.declared.puback.PubAck.{PubAck}
@@ -32,10 +31,6 @@ puback_reason n =
 -- of a PubRel and of a PubComp (3.6.2.1, 3.7.2.1)
 abbrev pub pubrel_reason : ℕ → PubRelReason
 pubrel_reason n = if n == 146 then releases.PacketIdentifierNotFound else releases.Success
-
--- the properties of an ack from their values
-abbrev pub ack_set : Found → AckProperties
-ack_set f = record { reason_string = one_text (here_in f 0); user_properties = all_pairs (here_in f 1) }
 
 -- the PubAck of the row's values
 abbrev pub puback_of : Content → PubAck

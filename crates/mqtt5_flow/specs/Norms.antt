@@ -2,12 +2,12 @@
 use Rattle.std.specs.Prelude.{◌==◌, if◌then◌else◌}
 use Rattle.mqtt5_base.specs.Views.{qos_number}
 use Rattle.mqtt5_base.specs.Tidy.{tidy}
+use Rattle.mqtt5_base.specs.AckSets.{ack_found}
 use Rattle.mqtt5_flow.specs.declared.puback.PubAck.{PubAck}
 use Rattle.mqtt5_flow.specs.declared.pubrec.PubRec.{PubRec}
 use Rattle.mqtt5_flow.specs.declared.pubrel.PubRel.{PubRel}
 use Rattle.mqtt5_flow.specs.declared.pubcomp.PubComp.{PubComp}
 use Rattle.mqtt5_flow.specs.declared.publish.Publish.{Publish}
-use Rattle.mqtt5_flow.specs.Acks.{ack_found}
 use Rattle.mqtt5_flow.specs.Publishes.{publish_found}
 
 -- an empty property set is none (2.2.2.1)

@@ -1,6 +1,7 @@
 -- The rows of Publish, of the acks and of the pings (MQTT 5.0 sections 3.3 to 3.7, 3.12 and 3.13).
 use Rattle.std.specs.Prelude.{true, false, List, [], ◌∷◌, None}
 use Rattle.mqtt5_base.specs.Grammar.{u8, u16, bytes, number, Entry, single, several_of, Test, any_of, not_zero, bad_reason, bad_qos, zero_id, plain, properties, one, checked, block, remainder, given, read, whole, bits, always, longer, set, field, note, judge, Row, there, bit_of, is_qos, steps_row}
+use Rattle.mqtt5_base.specs.AckSets.{ack_table}
 
 -- ---- Publish (3.3)
 
@@ -23,10 +24,6 @@ publish_row =
     ∷ [])
 
 -- ---- PubAck, PubRec, PubRel and PubComp (3.4 to 3.7)
-
--- the properties of an ack (3.4.2.2)
-abbrev pub ack_table : List Entry
-ack_table = single 31 ∷ several_of 38 ∷ []
 
 -- the identifier; a body of two bytes ends there, with success; the reason code; a body of three bytes ends there; the
 -- properties; the reason code is judged last

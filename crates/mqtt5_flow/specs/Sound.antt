@@ -1,9 +1,8 @@
 -- This file serves the logic alone: the derived `==` of each type finds equal values alone.
 use Rattle.std.proofs.Common.{rules}
-use Rattle.mqtt5_base.specs.Sound.{Sound, both, bool_sound, number_sound, option_sound, list_sound, bytes_sound, text_sound, pair_sound, qos_sound}
+use Rattle.mqtt5_base.specs.Sound.{Sound, both, bool_sound, number_sound, option_sound, list_sound, bytes_sound, text_sound, pair_sound, qos_sound, ack_properties_sound}
 use Rattle.mqtt5_flow.specs.contracts.puback.PubAckReasonPartialEq.TheImpl as puback_reason
 use Rattle.mqtt5_flow.specs.contracts.pubrel.PubRelReasonPartialEq.TheImpl as pubrel_reason
-use Rattle.mqtt5_flow.specs.contracts.properties.AckPropertiesPartialEq.TheImpl as ack_properties
 use Rattle.mqtt5_flow.specs.contracts.puback.PubAckPartialEq.TheImpl as puback
 use Rattle.mqtt5_flow.specs.contracts.pubrec.PubRecPartialEq.TheImpl as pubrec
 use Rattle.mqtt5_flow.specs.contracts.pubrel.PubRelPartialEq.TheImpl as pubrel
@@ -18,11 +17,6 @@ puback_reason_sound = search rules
 
 pub pubrel_reason_sound : Sound pubrel_reason.eq-value.it
 pubrel_reason_sound = search rules
-
-pub ack_properties_sound : Sound ack_properties.eq-value.it
-ack_properties_sound x y h =
-    let e = both (option_sound text_sound x.reason_string y.reason_string) (list_sound (pair_sound text_sound text_sound) x.user_properties y.user_properties) h in
-    λ i. record { reason_string = e.0 i; user_properties = e.1 i }
 
 pub puback_sound : Sound puback.eq-value.it
 puback_sound x y h =

@@ -1,7 +1,6 @@
 //! A clone of each type is the same value, and its `==` decides equality.
 
 use crate::ping::{PingReq, PingResp};
-use crate::properties::AckProperties;
 use crate::puback::{PubAck, PubAckReason};
 use crate::pubcomp::PubComp;
 use crate::publish::{Publish, PublishProperties};
@@ -25,15 +24,6 @@ impl Exact for PubRelReason {
     ghost same = { Prim.search rules };
 
     ghost sound = { pubrel_reason_sound };
-}
-
-impl Exact for AckProperties {
-    ghost use Rattle.std.proofs.Common.{rules};
-    ghost use Rattle.mqtt5_flow.specs.Sound.{ack_properties_sound};
-
-    ghost same = { Prim.search rules };
-
-    ghost sound = { ack_properties_sound };
 }
 
 impl Exact for PubAck {

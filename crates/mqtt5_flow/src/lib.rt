@@ -4,15 +4,14 @@
 mod ack;
 mod exact;
 mod ping;
-mod properties;
 mod puback;
 mod pubcomp;
 mod publish;
 mod pubrec;
 mod pubrel;
 
+pub use mqtt5_base::AckProperties;
 pub use ping::{PingReq, PingResp};
-pub use properties::AckProperties;
 pub use puback::{PubAck, PubAckProperties, PubAckReason};
 pub use pubcomp::{PubComp, PubCompProperties, PubCompReason};
 pub use publish::{Publish, PublishProperties};

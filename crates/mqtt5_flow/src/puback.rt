@@ -8,9 +8,8 @@ ghost use Rattle.mqtt5_flow.specs.Rows.{puback_codes, puback_row};
 ghost use Rattle.mqtt5_flow.specs.Acks.{puback_code, puback_packet};
 
 use crate::ack::{Reason, ack_size, read_ack, write_ack};
-use crate::properties::AckProperties;
 use bytes::{Bytes, BytesMut};
-use mqtt5_base::{Error, FixedHeader};
+use mqtt5_base::{AckProperties, Error, FixedHeader};
 use std::alloc::Global;
 
 /// Why a publish is answered so: codes 0, 16, 128, 131, 135, 144, 145, 151 and 153, in this order (MQTT

@@ -8,10 +8,9 @@ ghost use Rattle.mqtt5_flow.specs.Rows.{pubrel_row};
 ghost use Rattle.mqtt5_flow.specs.Acks.{pubcomp_packet};
 
 use crate::ack::{ack_size, read_ack, write_ack};
-use crate::properties::AckProperties;
 use crate::pubrel::PubRelReason;
 use bytes::{Bytes, BytesMut};
-use mqtt5_base::{Error, FixedHeader};
+use mqtt5_base::{AckProperties, Error, FixedHeader};
 use std::alloc::Global;
 
 /// Why a PubRel is answered so: as of a PubRel (MQTT 5.0 section 3.7.2.1).

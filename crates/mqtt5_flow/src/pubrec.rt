@@ -8,10 +8,9 @@ ghost use Rattle.mqtt5_flow.specs.Rows.{puback_row};
 ghost use Rattle.mqtt5_flow.specs.Acks.{pubrec_packet};
 
 use crate::ack::{ack_size, read_ack, write_ack};
-use crate::properties::AckProperties;
 use crate::puback::PubAckReason;
 use bytes::{Bytes, BytesMut};
-use mqtt5_base::{Error, FixedHeader};
+use mqtt5_base::{AckProperties, Error, FixedHeader};
 use std::alloc::Global;
 
 /// Why a publish is answered so: as of a PubAck (MQTT 5.0 section 3.5.2.1).

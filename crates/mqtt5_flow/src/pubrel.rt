@@ -8,9 +8,8 @@ ghost use Rattle.mqtt5_flow.specs.Rows.{pubrel_codes, pubrel_row};
 ghost use Rattle.mqtt5_flow.specs.Acks.{pubrel_code, pubrel_packet};
 
 use crate::ack::{Reason, ack_size, read_ack, write_ack};
-use crate::properties::AckProperties;
 use bytes::{Bytes, BytesMut};
-use mqtt5_base::{Error, FixedHeader};
+use mqtt5_base::{AckProperties, Error, FixedHeader};
 use std::alloc::Global;
 
 /// Why a publish is released so: codes 0 and 146 (MQTT 5.0 section 3.6.2.1).

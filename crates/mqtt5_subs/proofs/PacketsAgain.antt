@@ -13,8 +13,8 @@ use Rattle.mqtt5_base.specs.Tidy.{tidy}
 use Rattle.mqtt5_base.proofs.ViewsBack.{bit_small, qos_small}
 use Rattle.mqtt5_base.proofs.BlocksAgain.{tidy_twice}
 use Rattle.mqtt5_base.proofs.FramesAgain.{content_read}
-use Rattle.mqtt5_flow.specs.Rows.{ack_table}
-use Rattle.mqtt5_flow.specs.Acks.{ack_found}
+use Rattle.mqtt5_base.specs.AckSets.{ack_table}
+use Rattle.mqtt5_base.specs.AckSets.{ack_found}
 use Rattle.mqtt5_subs.specs.declared.filter.RetainForwardRule.{RetainForwardRule}
 use Rattle.mqtt5_subs.specs.declared.filter.RetainForwardRule.TheVariants.{OnEverySubscribe, OnNewSubscribe, Never}
 use Rattle.mqtt5_subs.specs.declared.filter.Filter.{Filter}

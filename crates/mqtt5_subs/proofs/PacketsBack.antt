@@ -5,9 +5,9 @@ use Rattle.mqtt5_base.specs.Texts.{Utf8}
 use Rattle.mqtt5_base.specs.Grammar.{Value}
 use Rattle.mqtt5_base.specs.Layout.{Written, content_of_packet, all_kept}
 use Rattle.mqtt5_base.proofs.ViewsBack.{qos_back, bit_back, numbers_back, pairs_back, set_back}
-use Rattle.mqtt5_flow.specs.Acks.{ack_found}
-use Rattle.mqtt5_flow.specs.FromValues.{ack_set}
-use Rattle.mqtt5_flow.proofs.PacketsBack.{ack_set_back}
+use Rattle.mqtt5_base.specs.AckSets.{ack_found}
+use Rattle.mqtt5_base.specs.FromValues.{ack_set}
+use Rattle.mqtt5_base.proofs.AckSets.{ack_set_back}
 use Rattle.mqtt5_subs.specs.declared.filter.RetainForwardRule.{RetainForwardRule}
 use Rattle.mqtt5_subs.specs.declared.filter.Filter.{Filter}
 use Rattle.mqtt5_subs.specs.declared.subscribe.SubscribeProperties.{SubscribeProperties}

@@ -6,11 +6,11 @@ use Rattle.mqtt5_base.specs.FromValues.{found_in}
 use Rattle.mqtt5_base.specs.Layout.{Written, content_of_packet, all_kept}
 use Rattle.mqtt5_base.proofs.SetShapes.{ComeBack, numbers_again, pairs_again, set_again}
 use Rattle.mqtt5_base.proofs.FieldShapes.{one_back, checked_back, properties_back, among_each, qos_again}
-use Rattle.mqtt5_flow.specs.Rows.{ack_table}
-use Rattle.mqtt5_flow.specs.Acks.{ack_found}
-use Rattle.mqtt5_flow.specs.FromValues.{ack_set}
+use Rattle.mqtt5_base.specs.AckSets.{ack_table}
+use Rattle.mqtt5_base.specs.AckSets.{ack_found}
+use Rattle.mqtt5_base.specs.FromValues.{ack_set}
 use Rattle.mqtt5_base.proofs.Bits.{bit_of_mod}
-use Rattle.mqtt5_flow.proofs.RowsBack.{ack_set_again}
+use Rattle.mqtt5_base.proofs.AckSets.{ack_set_again}
 use Rattle.mqtt5_subs.proofs.ListsAgain.{wanted}
 use Rattle.mqtt5_subs.specs.declared.suback.SubscribeReasonCode.{SubscribeReasonCode}
 use Rattle.mqtt5_subs.specs.Rows.{listed_row, option_steps, subscribe_table, subscribe_row, suback_codes, suback_row, unsubscribe_table, unsubscribe_row, unsuback_codes, unsuback_row}

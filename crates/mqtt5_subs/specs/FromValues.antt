@@ -8,7 +8,7 @@ use Rattle.mqtt5_subs.specs.declared.filter.RetainForwardRule.TheVariants.{OnEve
 use Rattle.mqtt5_subs.specs.declared.filter.Filter.{Filter}
 use Rattle.mqtt5_subs.specs.declared.subscribe.SubscribeProperties.{SubscribeProperties}
 use Rattle.mqtt5_subs.specs.declared.subscribe.Subscribe.{Subscribe}
-use Rattle.mqtt5_flow.specs.FromValues.{ack_set}
+use Rattle.mqtt5_base.specs.FromValues.{ack_set}
 use Rattle.mqtt5_subs.specs.declared.suback.SubscribeReasonCode.{SubscribeReasonCode}
 use Rattle.mqtt5_subs.specs.declared.suback.SubAck.{SubAck}
 use Rattle.mqtt5_subs.specs.declared.unsubscribe.UnsubscribeProperties.{UnsubscribeProperties}

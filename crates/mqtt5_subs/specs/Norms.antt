@@ -2,7 +2,7 @@
 -- sections 2.2.2.1 and 3.9.3).
 use Rattle.std.specs.Prelude.{map}
 use Rattle.mqtt5_base.specs.Tidy.{tidy}
-use Rattle.mqtt5_flow.specs.Acks.{ack_found}
+use Rattle.mqtt5_base.specs.AckSets.{ack_found}
 use Rattle.mqtt5_subs.specs.declared.subscribe.Subscribe.{Subscribe}
 use Rattle.mqtt5_subs.specs.declared.suback.SubAck.{SubAck}
 use Rattle.mqtt5_subs.specs.declared.unsubscribe.Unsubscribe.{Unsubscribe}

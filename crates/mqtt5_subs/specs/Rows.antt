@@ -1,7 +1,7 @@
 -- The rows of Subscribe, SubAck, Unsubscribe and UnsubAck (MQTT 5.0 sections 3.8 to 3.11).
 use Rattle.std.specs.Prelude.{false, List, [], ◌∷◌}
 use Rattle.mqtt5_base.specs.Grammar.{u8, u16, text, Entry, single, several_of, Test, any_of, bad_rule, bad_qos, bad_subscribe_reason, no_filters, malformed, Field, one, checked, block, read, bits, always, Step, raw, note, judge, more, each, Row, there, bit_of, is_qos}
-use Rattle.mqtt5_flow.specs.Rows.{ack_table}
+use Rattle.mqtt5_base.specs.AckSets.{ack_table}
 
 -- ---- what they share
 

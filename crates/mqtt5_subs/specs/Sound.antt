@@ -1,7 +1,7 @@
 -- This file serves the logic alone: the derived `==` of each type finds equal values alone.
 use Rattle.std.proofs.Common.{rules}
 use Rattle.mqtt5_base.specs.Sound.{Sound, both, bool_sound, number_sound, option_sound, list_sound, text_sound, pair_sound, qos_sound}
-use Rattle.mqtt5_flow.specs.Sound.{ack_properties_sound}
+use Rattle.mqtt5_base.specs.Sound.{ack_properties_sound}
 use Rattle.mqtt5_subs.specs.contracts.filter.RetainForwardRulePartialEq.TheImpl as rule
 use Rattle.mqtt5_subs.specs.contracts.filter.FilterPartialEq.TheImpl as filter
 use Rattle.mqtt5_subs.specs.contracts.subscribe.SubscribePropertiesPartialEq.TheImpl as subscribe_properties

@@ -3,7 +3,7 @@ use Rattle.std.specs.Prelude.{ℕ, [], ◌∷◌, map, option_map}
 use Rattle.mqtt5_base.specs.Grammar.{number, plain}
 use Rattle.mqtt5_base.specs.Views.{qos_number}
 use Rattle.mqtt5_base.specs.Layout.{Written, just, WrittenPacket}
-use Rattle.mqtt5_flow.specs.Acks.{ack_found}
+use Rattle.mqtt5_base.specs.AckSets.{ack_found}
 use Rattle.mqtt5_subs.specs.declared.suback.SubscribeReasonCode.{SubscribeReasonCode}
 use Rattle.mqtt5_subs.specs.declared.suback.SubscribeReasonCode.TheVariants as codes
 use Rattle.mqtt5_subs.specs.declared.suback.SubAck.{SubAck}

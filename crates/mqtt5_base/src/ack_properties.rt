@@ -1,11 +1,14 @@
 //! The properties of an ack, which are the same for every packet that acknowledges another.
 
 ghost use Rattle.std.specs.Prelude.{◌≡◌, [], None};
-ghost use Rattle.mqtt5_flow.specs.Rows.{ack_table};
-ghost use Rattle.mqtt5_flow.specs.Acks.{ack_found};
+ghost use Rattle.mqtt5_base.specs.AckSets.{ack_table, ack_found};
 
+use crate::exact::Exact;
+use crate::property::{Property, PropertySet};
+use crate::sequence::Sequence;
+use crate::tagged::Tagged;
+use crate::text::Text;
 use bytes::BytesMut;
-use mqtt5_base::{Property, PropertySet, Sequence, Tagged, Text};
 use std::alloc::{AllocError, Global};
 
 /// A reason string and user properties (MQTT 5.0 sections 3.4.2.2, 3.5.2.2, 3.6.2.2, 3.7.2.2, 3.9.2.1
@@ -71,4 +74,14 @@ impl PropertySet for AckProperties {
         self.reason_string.values_known();
         self.user_properties.values_known();
     }
+}
+
+/// A clone is the same set, and `==` decides equality.
+impl Exact for AckProperties {
+    ghost use Rattle.std.proofs.Common.{rules};
+    ghost use Rattle.mqtt5_base.specs.Sound.{ack_properties_sound};
+
+    ghost same = { Prim.search rules };
+
+    ghost sound = { ack_properties_sound };
 }
