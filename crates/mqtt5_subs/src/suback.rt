@@ -12,7 +12,9 @@ ghost use Rattle.mqtt5_subs.specs.SubAcks.{suback_code, suback_item, suback_pack
 use crate::list_body::{listed_size, writable_len, write_listed};
 use crate::listed::{Listed, read_list};
 use bytes::{Bytes, BytesMut};
-use mqtt5_base::{AckProperties, Error, FieldValue, FixedHeader, QoS, Sequence, read_block, read_u16, read_u8};
+use mqtt5_base::{
+    AckProperties, Error, FieldValue, FixedHeader, QoS, Sequence, read_block, read_u8, read_u16,
+};
 use std::alloc::Global;
 
 /// What became of one filter of a Subscribe: codes 0 to 2 of a success, and 128, 128, 131, 135, 143, 145,

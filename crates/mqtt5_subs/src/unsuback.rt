@@ -12,7 +12,9 @@ ghost use Rattle.mqtt5_subs.specs.UnsubAcks.{unsuback_code, unsuback_item, unsub
 use crate::list_body::{listed_size, writable_len, write_listed};
 use crate::listed::{Listed, read_list};
 use bytes::{Bytes, BytesMut};
-use mqtt5_base::{AckProperties, Error, FieldValue, FixedHeader, Sequence, read_block, read_u16, read_u8};
+use mqtt5_base::{
+    AckProperties, Error, FieldValue, FixedHeader, Sequence, read_block, read_u8, read_u16,
+};
 use std::alloc::Global;
 
 /// What became of one filter of an Unsubscribe: codes 0, 17, 128, 131, 135, 143 and 145, in this order
