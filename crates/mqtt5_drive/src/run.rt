@@ -1,13 +1,17 @@
 //! The loop: bytes in pieces and requests go in, frames and events come out.
 
-ghost use Rattle.std.specs.Prelude.{◌≡◌, ◌+◌, ℕ, Some, List, [], ◌++◌, map, Option, IfErr, OnOk, IsOk};
+ghost use Rattle.std.specs.Prelude.{◌≡◌, ◌≢◌, ◌+◌, ℕ, min, Some, List, [], ◌++◌, map, Option, IfErr, OnOk, IsOk};
 ghost use Rattle.std.specs.Bool.{Decides};
 ghost use Rattle.std.specs.List.{concat};
 ghost use Rattle.mqtt5_base.specs.FrontAt.{front};
+ghost use Rattle.mqtt5_base.specs.declared.quality.QoS.TheVariants.{AtMostOnce};
+ghost use Rattle.mqtt5_base.specs.Puts.{Writes};
 ghost use Rattle.mqtt5_codec.specs.declared.codec.Codec.{Codec};
+ghost use Rattle.mqtt5_codec.specs.Packets.{writing_under};
 ghost use Rattle.mqtt5_session.specs.Session.{Session};
 ghost use Rattle.mqtt5_session.specs.Requests.{out};
 ghost use Rattle.mqtt5_session.specs.Packets.{inc};
+ghost use Rattle.mqtt5_session.specs.Replies.{made_of, packet_of};
 ghost use Rattle.mqtt5_session.specs.Ledger.{after_all};
 ghost use Rattle.mqtt5_session.specs.Once.{kept_id, notified_by, released_by};
 ghost use Rattle.mqtt5_drive.specs.Ways.{LeadsTo, Goes, Replies};
@@ -16,9 +20,10 @@ ghost use Rattle.mqtt5_drive.specs.Calls.{calls_of};
 ghost use Rattle.mqtt5_drive.specs.Run.{Turn, bytes_of, of_input, turns, reply_bytes, run, IsMore, piece};
 
 use bytes::{Bytes, BytesMut};
-use mqtt5_base::{Error, check, copied};
+use mqtt5_base::{Error, QoS, check, copied};
 use mqtt5_codec::{Codec, Packet};
-use mqtt5_session::{MqttState, Request, StateError};
+use mqtt5_flow::{PubAck, Publish};
+use mqtt5_session::{MqttState, Reply, Request, StateError};
 use std::alloc::Global;
 
 /// What a step takes: a piece of the incoming bytes, or a request.
@@ -48,12 +53,112 @@ fn encode(codec: &Codec, output: &mut BytesMut, packet: &Packet) -> Result<(), S
     }
 }
 
+/// The refusal of a packet over the outgoing limit.
+#[inline(never)]
+fn over_limit(size: usize, max: u32) -> Error
+    ensures { result ≡ Error.OutgoingPacketTooLarge (min size 4294967295) max }
+{
+    Error::OutgoingPacketTooLarge {
+        pkt_size: u32::try_from(size).unwrap_or(u32::MAX),
+        max,
+    }
+}
+
+fn put_publish(codec: &Codec, output: &mut BytesMut, publish: &Publish) -> Result<(), Error>
+    ensures { Writes (λ _. tt) (writing_under codec.now.max_outgoing_size (Packet.Publish publish.now)) result output.old.items output.new.items }
+{
+    if let Some(max) = codec.max_outgoing_size {
+        let size = publish.size();
+        if size > max as usize {
+            return Err(over_limit(size, max));
+        }
+    }
+    publish.write(output)?;
+    Ok(())
+}
+
+/// Writes a publish where it stands.
+fn write_publish(codec: &Codec, output: &mut BytesMut, publish: &Publish) -> Result<(), StateError>
+    ensures { Replies result (reply_bytes codec.now (Some (Packet.Publish publish.now))) output.old.items output.new.items }
+{
+    match put_publish(codec, output, publish) {
+        Ok(()) => Ok(()),
+        Err(refused) => Err(StateError::from(refused)),
+    }
+}
+
+fn put_puback(codec: &Codec, output: &mut BytesMut, ack: &PubAck) -> Result<(), Error>
+    ensures { Writes (λ _. tt) (writing_under codec.now.max_outgoing_size (Packet.PubAck ack.now)) result output.old.items output.new.items }
+{
+    if let Some(max) = codec.max_outgoing_size {
+        let size = ack.size();
+        if size > max as usize {
+            return Err(over_limit(size, max));
+        }
+    }
+    ack.write(output)?;
+    Ok(())
+}
+
+/// Writes a PubAck where it stands.
+fn write_puback(codec: &Codec, output: &mut BytesMut, ack: &PubAck) -> Result<(), StateError>
+    ensures { Replies result (reply_bytes codec.now (Some (Packet.PubAck ack.now))) output.old.items output.new.items }
+{
+    match put_puback(codec, output, ack) {
+        Ok(()) => Ok(()),
+        Err(fault) => Err(StateError::from(fault)),
+    }
+}
+
 fn answer(codec: &Codec, output: &mut BytesMut, reply: &Option<Packet>) -> Result<(), StateError>
     ensures { Replies result (reply_bytes codec.now reply.now) output.old.items output.new.items }
 {
     match reply {
         Some(packet) => encode(codec, output, packet),
         None => Ok(()),
+    }
+}
+
+/// Writes the publish that awaits its ack under an id.
+fn write_stored(
+    state: &MqttState,
+    codec: &Codec,
+    output: &mut BytesMut,
+    id: u16,
+) -> Result<(), StateError>
+    ensures { Replies result (reply_bytes codec.now (packet_of (Reply.Publish id) state.now)) output.old.items output.new.items }
+{
+    match state.outgoing_pub(id) {
+        Some(publish) => write_publish(codec, output, publish),
+        None => Ok(()),
+    }
+}
+
+/// Writes an ack or a Disconnect.
+#[inline(never)]
+fn write_made(codec: &Codec, output: &mut BytesMut, reply: Reply) -> Result<(), StateError>
+    ensures { Replies result (reply_bytes codec.now (made_of reply)) output.old.items output.new.items }
+{
+    let packet = reply.packet();
+    let answered = answer(codec, output, &packet);
+    drop(packet);
+    answered
+}
+
+/// Writes a reply of the session.
+fn write_reply(
+    state: &MqttState,
+    codec: &Codec,
+    output: &mut BytesMut,
+    reply: Reply,
+) -> Result<(), StateError>
+    ensures { Replies result (reply_bytes codec.now (packet_of reply state.now)) output.old.items output.new.items }
+{
+    match reply {
+        Reply::Nothing => Ok(()),
+        Reply::PubAck(id) => write_puback(codec, output, &PubAck::new(id, None)),
+        Reply::Publish(id) => write_stored(state, codec, output, id),
+        other => write_made(codec, output, other),
     }
 }
 
@@ -66,18 +171,50 @@ fn deliver(
 ) -> Result<(), StateError>
     ensures { Goes result codec.now (inc state.old packet at) state.old output.old.items state.new output.new.items }
 {
-    match state.handle_incoming_packet(packet, at) {
-        Ok(reply) => {
-            let answered = answer(codec, output, &reply);
-            drop(reply);
-            answered
-        }
+    match state.hear_packet(packet, at) {
+        Ok(reply) => write_reply(state, codec, output, reply),
         Err(error) => Err(error),
     }
 }
 
 #[inline(never)]
 fn ask(
+    state: &mut MqttState,
+    codec: &Codec,
+    output: &mut BytesMut,
+    request: &Request,
+    at: u64,
+) -> Result<(), StateError>
+    ensures { Goes result codec.now (out state.old request.now at) state.old output.old.items state.new output.new.items }
+{
+    match request {
+        Request::Publish(publish) if publish.qos != QoS::AtMostOnce => {
+            ask_copy(state, codec, output, publish, at)
+        }
+        _other => ask_any(state, codec, output, request, at),
+    }
+}
+
+/// A publish of QoS 1 or 2 is stored, and written where it is stored.
+fn ask_copy(
+    state: &mut MqttState,
+    codec: &Codec,
+    output: &mut BytesMut,
+    publish: &Publish,
+    at: u64,
+) -> Result<(), StateError>
+    requires { publish.now.qos ≢ AtMostOnce }
+    ensures { Goes result codec.now (out state.old (Request.Publish publish.now) at) state.old output.old.items state.new output.new.items }
+{
+    match state.send_copy(publish, at) {
+        Ok(reply) => write_reply(state, codec, output, reply),
+        Err(error) => Err(error),
+    }
+}
+
+/// A copy of a request is handed on.
+#[inline(never)]
+fn ask_any(
     state: &mut MqttState,
     codec: &Codec,
     output: &mut BytesMut,
