@@ -398,6 +398,11 @@ fn main() {
             };
             println!("units {} sum {}", row.units, side.expect("no tenth of this row")(work == "on"));
         }
+        ["heap", side, count] => {
+            let count: u16 = count.parse().expect("how many publishes is a number");
+            let send = if *side == "ours" { ours::send } else { original::send };
+            println!("sum {}", send(count, count.into(), 1, leak(vec![b'x'; 16])));
+        }
         [repeats, words @ ..] => {
             let repeats = repeats.parse().expect("how often is a number");
             println!("{:48} {:>10} {:>10} {:>6}", "row (ns a frame, call or pair; growth: times)", "ours", "original", "ratio");
@@ -406,6 +411,6 @@ fn main() {
                 std::process::exit(1);
             }
         }
-        [] => eprintln!("bench REPEATS [WORDS ..] | bench one SIDE ROW [tenth-]on|off | bench rows"),
+        [] => eprintln!("bench REPEATS [WORDS ..] | bench one SIDE ROW [tenth-]on|off | bench heap SIDE COUNT | bench rows"),
     }
 }
