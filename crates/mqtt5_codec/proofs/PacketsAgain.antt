@@ -24,7 +24,8 @@ use Rattle.mqtt5_connect.specs.declared.login.Login.{Login}
 use Rattle.mqtt5_link.specs.declared.connack.ConnAck.{ConnAck}
 use Rattle.mqtt5_link.specs.declared.disconnect.Disconnect.{Disconnect}
 use Rattle.mqtt5_link.specs.declared.auth.Auth.{Auth}
-use Rattle.mqtt5_flow.specs.Rows.{publish_table, ack_table}
+use Rattle.mqtt5_base.specs.AckSets.{ack_table, ack_found}
+use Rattle.mqtt5_flow.specs.Rows.{publish_table}
 use Rattle.mqtt5_subs.specs.Rows.{subscribe_table, unsubscribe_table}
 use Rattle.mqtt5_subs.specs.Subscribes.{subscribe_found}
 use Rattle.mqtt5_subs.specs.Unsubscribes.{unsubscribe_found}
@@ -38,7 +39,6 @@ use Rattle.mqtt5_link.specs.Auths.{auth_found}
 use Rattle.mqtt5_subs.proofs.PacketsAgain.{subscribe_again, subscribe_norm_twice, suback_again, suback_norm_twice, unsubscribe_again, unsubscribe_norm_twice, unsuback_again, unsuback_norm_twice}
 use Rattle.mqtt5_connect.proofs.PacketsAgain.{connect_again, connect_norm_twice, will_norm_twice, login_norm_twice}
 use Rattle.mqtt5_link.proofs.PacketsAgain.{connack_again, connack_norm_twice, disconnect_again, disconnect_norm_twice, auth_again, auth_norm_twice}
-use Rattle.mqtt5_flow.specs.Acks.{ack_found}
 use Rattle.mqtt5_flow.specs.Publishes.{publish_found}
 use Rattle.mqtt5_flow.proofs.AcksAgain.{puback_again, puback_norm_twice, pubrec_again, pubrec_norm_twice, pubrel_again, pubrel_norm_twice, pubcomp_again, pubcomp_norm_twice}
 use Rattle.mqtt5_flow.proofs.PublishesAgain.{publish_type, publish_again, publish_norm_twice}

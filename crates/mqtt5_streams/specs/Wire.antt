@@ -7,9 +7,9 @@ use Rattle.mqtt5_base.specs.Sets.{IsBlockOf}
 use Rattle.mqtt5_base.specs.Layout.{layout, body_bytes}
 use Rattle.mqtt5_flow.specs.declared.publish.Publish.{Publish}
 use Rattle.mqtt5_flow.specs.declared.pubrel.PubRelReason.{PubRelReason}
-use Rattle.mqtt5_flow.specs.Rows.{publish_table, ack_table}
+use Rattle.mqtt5_base.specs.AckSets.{ack_table, ack_found}
+use Rattle.mqtt5_flow.specs.Rows.{publish_table}
 use Rattle.mqtt5_flow.specs.Publishes.{publish_found}
-use Rattle.mqtt5_flow.specs.Acks.{ack_found}
 use Rattle.mqtt5_codec.specs.declared.packet.Packet.{Packet}
 use Rattle.mqtt5_codec.specs.declared.packet.Packet.TheVariants as packets
 use Rattle.mqtt5_codec.specs.Packets.{packet_row, written_packet, writing_under}
