@@ -19,14 +19,13 @@ use Rattle.mqtt5_held.specs.declared.slot.Slot.{Slot}
 use Rattle.mqtt5_held.specs.declared.slot.Slot.TheVariants.{Sent, Released}
 use Rattle.mqtt5_held.specs.declared.event.Outgoing.{Outgoing}
 use Rattle.mqtt5_held.specs.declared.error.StateError.{StateError}
-use Rattle.mqtt5_held.specs.declared.error.StateError.TheVariants as errors
 use Rattle.mqtt5_held.specs.Held.{Held, awaiting_ack}
 use Rattle.mqtt5_held.proofs.Within.{get_insert_same}
 use Rattle.mqtt5_session.specs.declared.reply.Reply.{Reply}
 use Rattle.mqtt5_session.specs.declared.reply.Reply.TheVariants as replies
 use Rattle.mqtt5_session.specs.Session.{Session, Answer, Hears, Sends}
 use Rattle.mqtt5_session.specs.Requests.{Verdict, Wait, judged, awaits, out_acked, out_identified}
-use Rattle.mqtt5_session.specs.Packets.{inc, heard, notes, told, freed_for, on_puback, on_received, on_pubrec, on_pubcomp, on_pubrel, on_released, on_publish, on_qos, answers, on_connack, is_taken, topic_of, hears}
+use Rattle.mqtt5_session.specs.Packets.{inc, heard, notes, told, freed_for, on_puback, on_received, on_pubrec, on_pubcomp, on_pubrel, on_publish, on_qos, answers, on_connack, is_taken, topic_of}
 use Rattle.mqtt5_session.specs.Replies.{packet_of, in_full}
 use Rattle.mqtt5_session.specs.Short.{in_short}
 use Rattle.mqtt5_session.specs.Planned.{Stores}

@@ -1,11 +1,12 @@
 -- This file serves the logic alone: the packets that come most, and what each does beside its event.
-use Rattle.std.specs.Prelude.{◌≡◌, ℕ, ◌<◌, ◌≤◌, Bool, false, List, [], ◌∷◌, ◌++◌, Ok}
+use Rattle.std.specs.Prelude.{◌≡◌, ℕ, ◌<◌, ◌≤◌, Bool, false, List, [], ◌∷◌, ◌++◌, Option, Some, None, Ok}
 use Rattle.std.specs.Ordering.{nat_cmp}
 use Rattle.std.specs.FinMap as map
 use Rattle.std.specs.FinSet as set
 use Rattle.mqtt5_codec.specs.declared.packet.Packet.{Packet}
 use Rattle.mqtt5_held.specs.declared.event.Event.{Event}
 use Rattle.mqtt5_held.specs.declared.event.Event.TheVariants as events
+use Rattle.mqtt5_held.specs.declared.event.Outgoing.{Outgoing}
 use Rattle.mqtt5_held.specs.declared.event.Outgoing.TheVariants as outgoing
 use Rattle.mqtt5_held.specs.declared.slot.Slot.TheVariants.{Released}
 use Rattle.mqtt5_held.specs.Held.{Held}
@@ -35,20 +36,25 @@ abbrev pub awaits_by : Change → Bool → Bool
 awaits_by Pong awaits = false
 awaits_by change awaits = awaits
 
--- an ack is told
-abbrev pub events_by : Reply → List Event → List Event
-events_by (PubAck id) es = es ++ events.Outgoing (outgoing.PubAck id) ∷ []
-events_by (PubRec id) es = es ++ events.Outgoing (outgoing.PubRec id) ∷ []
-events_by (PubRel id) es = es ++ events.Outgoing (outgoing.PubRel id) ∷ []
-events_by (PubComp id reason) es = es ++ events.Outgoing (outgoing.PubComp id) ∷ []
-events_by reply es = es
+-- what is told of an ack
+abbrev pub told_of : Reply → Option Outgoing
+told_of (PubAck id) = Some (outgoing.PubAck id)
+told_of (PubRec id) = Some (outgoing.PubRec id)
+told_of (PubRel id) = Some (outgoing.PubRel id)
+told_of (PubComp id reason) = Some (outgoing.PubComp id)
+told_of reply = None
+
+-- it is told
+abbrev pub events_by : Option Outgoing → List Event → List Event
+events_by None es = es
+events_by (Some event) es = es ++ events.Outgoing event ∷ []
 
 -- the session after a packet that was told
 abbrev pub does : Effect → Session → ℕ → Session
 does e s at = record s {
   core = record s.core { held = held_by e.change s.core.held; incoming = ids_by e.change s.core.incoming };
   awaits_ping = awaits_by e.change s.awaits_ping;
-  events = events_by e.reply s.events;
+  events = events_by (told_of e.reply) s.events;
   last_incoming = at;
 }
 

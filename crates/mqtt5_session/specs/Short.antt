@@ -1,5 +1,5 @@
 -- This file serves the logic alone: the reply that a packet is, in short.
-use Rattle.std.specs.Prelude.{Option, Some, None}
+use Rattle.std.specs.Prelude.{Option, Some}
 use Rattle.mqtt5_codec.specs.declared.packet.Packet.{Packet}
 use Rattle.mqtt5_codec.specs.declared.packet.Packet.TheVariants as packets
 use Rattle.mqtt5_session.specs.declared.reply.Reply.{Reply}

@@ -7,7 +7,7 @@ ghost use Rattle.std.specs.VecDeque.{deque_len, deque_capacity};
 ghost use Rattle.mqtt5_base.specs.declared.quality.QoS.TheVariants.{ExactlyOnce};
 ghost use Rattle.mqtt5_held.specs.Aliases.{alias_of};
 ghost use Rattle.mqtt5_session.specs.Packets.{hears};
-ghost use Rattle.mqtt5_session.specs.Frequent.{held_by, ids_by, awaits_by, events_by, does, FitsIn, IsAll};
+ghost use Rattle.mqtt5_session.specs.Frequent.{held_by, ids_by, awaits_by, told_of, events_by, does, FitsIn, IsAll};
 
 use super::MqttState;
 use super::packets::is_taken;
@@ -257,21 +257,32 @@ fn release(slots: &mut Slots, id: u16) -> Result<(), AllocError>
 }
 
 /// Tells of an ack.
-#[inline(never)]
+#[inline(always)]
 fn tell_ack(events: &mut VecDeque<Event>, ack: Reply)
     requires { deque_len events.old < deque_capacity events.old }
-    ensures { events.new.items ≡ events_by ack events.old.items }
+    ensures { events.new.items ≡ events_by (told_of ack) events.old.items }
 {
-    match ack {
-        Reply::Nothing | Reply::Publish(_) | Reply::Disconnect(_) => {}
-        Reply::PubAck(id) => tell(events, Outgoing::PubAck(id)),
-        Reply::PubRec(id) => tell(events, Outgoing::PubRec(id)),
-        Reply::PubRel(id) => tell(events, Outgoing::PubRel(id)),
-        Reply::PubComp(id, _) => tell(events, Outgoing::PubComp(id)),
+    if let Some(outgoing) = told_of(ack) {
+        tell(events, outgoing);
     }
 }
 
-/// Tells of what is sent.
+/// What is told of an ack.
+#[inline(always)]
+fn told_of(ack: Reply) -> Option<Outgoing>
+    ensures { result ≡ told_of ack }
+{
+    match ack {
+        Reply::Nothing | Reply::Publish(_) | Reply::Disconnect(_) => None,
+        Reply::PubAck(id) => Some(Outgoing::PubAck(id)),
+        Reply::PubRec(id) => Some(Outgoing::PubRec(id)),
+        Reply::PubRel(id) => Some(Outgoing::PubRel(id)),
+        Reply::PubComp(id, _) => Some(Outgoing::PubComp(id)),
+    }
+}
+
+/// Tells of what is sent: here alone is room for an event.
+#[inline(never)]
 fn tell(events: &mut VecDeque<Event>, outgoing: Outgoing)
     requires { deque_len events.old < deque_capacity events.old }
     ensures { events.new.items ≡ events.old.items ++ Event.Outgoing outgoing ∷ [] }

@@ -1,5 +1,3 @@
-use Rattle.std.proofs.Common.{Ok, Some, None}
-use Rattle.mqtt5_session.specs.Planned.{Stores}
 use Rattle.mqtt5_session.proofs.Short.{stored_is, waits_is}
 use Rattle.mqtt5_session.proofs.state.MqttState.copy_under.Goals as goal
 
