@@ -57,10 +57,7 @@ impl Client {
         may_start();
         Ok(Client {
             state,
-            codec: Codec {
-                max_incoming_size: None,
-                max_outgoing_size: None,
-            },
+            codec: Codec::new(),
             input: BytesMut::new(alloc),
             output: BytesMut::new(alloc),
         })
