@@ -1,11 +1,11 @@
 -- What a map of the keys below a number has at a key.
-use Rattle.std.proofs.Common.{◌≡◌, ◌≢◌, ℕ, zero, suc, ◌+◌, ◌<◌, ◌≤◌, Bool, true, false, cond, T, Option, Some, None, refl, sym, ap, ◌∙◌, subst, ⊎_elim, arith, rules, ne_eqb, inl, inr}
+use Rattle.std.proofs.Common.{◌≡◌, ◌≢◌, ℕ, zero, suc, ◌+◌, ◌<◌, ◌≤◌, Bool, true, false, cond, T, length, Option, Some, None, refl, sym, ap, ◌∙◌, subst, ⊎_elim, arith, rules, ne_eqb, inl, inr}
 use Rattle.std.proofs.lemmas.Bool.{cases_lt}
 use Rattle.std.specs.Prelude.{◌&&◌}
 use Rattle.std.specs.declared.cmp.Ordering.TheVariants.{Less}
 use Rattle.std.specs.Ordering.{nat_cmp, is_lt, eq_by_cmp}
 use Rattle.std.specs.Cmp.{nat_cmp_is, unsigned_tied}
-use Rattle.std.specs.FinMap.{get, insert, remove, empty, get-from_sorted, find, is_sorted}
+use Rattle.std.specs.FinMap.{get, len, insert, remove, empty, len-entries, entries-from_sorted, get-from_sorted, find, is_sorted}
 use Rattle.std.specs.FinMap.Entries.{below_all}
 use Rattle.std.proofs.Math.Nat.{eq-or-lt_of_le}
 use Rattle.mqtt5_held.specs.Paged.{entry_before, rising, map_below}
@@ -68,6 +68,19 @@ module _ {X : Type 0} (f : ℕ → Option X) where
   pub get_past : (n q : ℕ) → n ≤ q → get (map_below n f) q ≡ None
   unfolding map_below
   get_past n q h = get-from_sorted nat_cmp _ q (sorted-rising n 0) ∙ find_past n q 0 (omega arith)
+
+  length-rising : (n i : ℕ) → length (rising f i n) ≤ n
+  length-rising zero i = omega arith
+  length-rising (suc n) i =
+      let rest = length-rising n (i + 1) in
+      elim (f i) as (λ o. length (entry_before i o (rising f (i + 1) n)) ≤ suc n) [ None ↦ omega arith | Some x ↦ omega arith ]
+
+  -- without the key 0 there are at most as many entries as keys above it
+  pub len_below : (n : ℕ) → f 0 ≡ None → len (map_below (suc n) f) ≤ n
+  unfolding map_below
+  len_below n none =
+      let first : length (rising f 0 (suc n)) ≡ length (rising f 1 n) = ap (λ o. length (entry_before 0 o (rising f 1 n))) none in
+      omega (arith, len-entries (map_below (suc n) f), ap (length {A = ℕ × X}) (entries-from_sorted nat_cmp (rising f 0 (suc n)) (sorted-rising (suc n) 0)), first, length-rising n 1)
 
 module _ {X : Type 0} (f g : ℕ → Option X) (n : ℕ) where
   -- the two maps agree where the functions do

@@ -1,17 +1,19 @@
 -- How many ids are in use, and how many requests a clean gives.
-use Rattle.std.proofs.Common.{◌≡◌, ℕ, zero, suc, ◌+◌, ◌-◌, ◌<◌, Bool, true, false, cond, List, length, Option, Some, None, refl, sym, ap, ◌∙◌, subst, arith, inl, inr}
+use Rattle.std.proofs.Common.{◌≡◌, ℕ, zero, suc, ◌+◌, ◌<◌, ◌≤◌, ⊎_elim, Bool, true, false, cond, List, length, Option, Some, None, refl, sym, ap, ◌∙◌, subst, arith}
 use Rattle.std.proofs.lemmas.List.{length-append}
-use Rattle.std.proofs.lemmas.Bool.{false≢true}
-use Rattle.std.proofs.Math.Nat.{eq-zero-or-pos}
+use Rattle.std.proofs.lemmas.Bool.{cases_lt}
 use Rattle.std.specs.Prelude.{is_some}
 use Rattle.std.specs.Cmp.{nat_cmp_total}
-use Rattle.std.specs.FinMap.{get, len, insert, remove, contains_key, get-empty, empty_of_len, len-insert, len-remove, len-empty}
+use Rattle.std.specs.FinMap.{get, len, insert, remove, len-insert, len-empty}
 use Rattle.std.specs.Ordering.{nat_cmp}
 use Rattle.mqtt5_held.specs.declared.slot.Slot.{Slot}
 use Rattle.mqtt5_held.specs.declared.slot.Slot.TheVariants.{Sent, Released}
 use Rattle.mqtt5_held.specs.declared.event.Request.{Request}
-use Rattle.mqtt5_held.specs.Held.{Held}
+use Rattle.mqtt5_held.specs.Held.{Held, IsWithin}
+use Rattle.mqtt5_held.specs.Paged.{map_below}
 use Rattle.mqtt5_held.specs.Unacked.{by_id, publish_again, release_again, requests_of, slot_again}
+use Rattle.mqtt5_held.proofs.Maps.{same, len_added, len_less}
+use Rattle.mqtt5_held.proofs.Below.{get_below, get_past, len_below}
 use Rattle.mqtt5_held.proofs.Within.{no_ids, Fits}
 use Rattle.mqtt5_held.proofs.Marked.{len_again}
 use Rattle.mqtt5_held.proofs.Parts.{is_sent, is_kept, with_slot, map_to, above, FreeFor, free_first, free_then, whole_map}
@@ -20,20 +22,27 @@ pub len_used : (m : Held) (id : ℕ) (x y : Slot) → get m id ≡ Some x → le
 len_used m id x y e = len-insert nat_cmp_total m id y ∙ ap (λ b. cond b (len m) (len m + 1)) (ap is_some e)
 
 pub len_free : (m : Held) (id : ℕ) (y : Slot) → get m id ≡ None → len (insert m id y) ≡ len m + 1
-len_free m id y e = len-insert nat_cmp_total m id y ∙ ap (λ b. cond b (len m) (len m + 1)) (ap is_some e)
-
--- an id in use is counted
-one_in_use : (m : Held) (i : ℕ) → contains_key m i ≡ true → 0 < len m
-one_in_use m i e = elim (eq-zero-or-pos (len m)) [
-  | inl z ↦ absurd (false≢true (ap is_some (sym (get-empty nat_cmp i)) ∙ ap (λ k. contains_key k i) (sym (empty_of_len m z)) ∙ e))
-  | inr p ↦ p
-]
+len_free m id y e = len_added m id y e
 
 pub len_removed : (m : Held) (id : ℕ) (x : Slot) → get m id ≡ Some x → len (remove m id) + 1 ≡ len m
-len_removed m id x e =
-    let some : 0 < len m = one_in_use m id (ap is_some e) in
-    let less : len (remove m id) ≡ len m - 1 = len-remove nat_cmp_total m id ∙ ap (λ b. cond b (len m - 1) (len m)) (ap is_some e) in
-    omega arith
+len_removed m id x e = len_less m id x e
+
+-- ids in use lie in 1..=limit, so there are at most so many
+pub len_within : (limit : ℕ) (h : Held) → IsWithin limit h → len h ≤ limit
+len_within limit h is = subst (λ m. len m ≤ limit) (sym whole) (len_below (get h) limit (free 0 (λ used. let low = is.low 0 used in omega arith)))
+  where
+    unused : (o : Option Slot) → (is_some o ≡ true → ⊥) → o ≡ None
+    unused None no_use = refl
+    unused (Some x) no_use = absurd (no_use refl)
+
+    free : (q : ℕ) → (is_some (get h q) ≡ true → ⊥) → get h q ≡ None
+    free q = unused (get h q)
+
+    whole : h ≡ map_below (suc limit) (get h)
+    whole = same h (map_below (suc limit) (get h)) (λ q. ⊎_elim
+        (λ (low : q < suc limit). sym (get_below (get h) (suc limit) q low))
+        (λ (high : suc limit ≤ q). free q (λ used. let most = is.high q used in omega arith) ∙ sym (get_past (get h) (suc limit) q high))
+        (cases_lt q (suc limit)))
 
 -- ---- what a clean gives
 

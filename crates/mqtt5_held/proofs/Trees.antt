@@ -1,18 +1,14 @@
 -- Ordered sets and maps of numbers as finite sets and maps.
-use Rattle.std.proofs.Common.{[], ◌∷◌, ◌≡◌, ℕ, Bool, true, false, cond, T, List, map, length, Some, None, refl, sym, ap, ◌∙◌, subst}
+use Rattle.std.proofs.Common.{[], ◌∷◌, ◌≡◌, ℕ, Bool, true, false, cond, List, Some, refl, sym, ap, ◌∙◌}
 use Rattle.std.specs.Prelude.{not, ◌||◌, ◌&&◌}
-use Rattle.std.specs.Ordering.{nat_cmp, is_lt, eq_by_cmp}
+use Rattle.std.specs.Ordering.{nat_cmp, eq_by_cmp}
 use Rattle.std.specs.Cmp.{nat_cmp_total, eq_by_cmp_equiv}
 use Rattle.std.specs.BTreeMap as tree_map
 use Rattle.std.specs.BTreeMap.{BTreeMap, is_at}
 use Rattle.std.specs.BTreeSet as tree_set
 use Rattle.std.specs.BTreeSet.{BTreeSet}
 use Rattle.std.specs.Map.{lookup}
-use Rattle.std.specs.List.{AllByRecursion, AllZip}
-use Rattle.std.specs.List.Sorted.{IsStrictlySortedBy}
-use Rattle.std.specs.declared.cmp.Ordering.TheVariants.{Less}
-use Rattle.std.specs.FinMap.Entries.{below_all}
-use Rattle.std.specs.FinMap.{find, get, len, insert, remove, from_entries, entries, from_sorted, is_sorted, get-insert, get-remove, get-from_entries, get-from_sorted, entries-from_sorted, len-entries, same_map, nat_cmp-IsAntisymmetric}
+use Rattle.std.specs.FinMap.{find, get, insert, from_entries, get-insert, get-from_entries, same_map, nat_cmp-IsAntisymmetric}
 use Rattle.std.specs.FinSet as set
 use Rattle.std.specs.FinSet.{from_list, contains-from_list, contains-insert, contains-remove, same_set}
 
@@ -54,39 +50,3 @@ pub from_tree-insert : {X : Type 0} (m n : BTreeMap ℕ X) (k : ℕ) (x : X) →
 from_tree-insert m n k x h = same_map nat_cmp_total nat_cmp-IsAntisymmetric _ _ (λ q.
     get-from_tree n q ∙ h q
     ∙ sym (get-insert nat_cmp_total _ k x q ∙ (λ i. cond (sym (swap k q) i) (Some x) (get-from_tree m q i))))
-
--- what the map has, once a value is taken out
-pub from_tree-remove : {X : Type 0} (m n : BTreeMap ℕ X) (k : ℕ) → ((q : ℕ) → tree_map.get nat_cmp n q ≡ cond (is_at (nat_cmp k) q) None (tree_map.get nat_cmp m q)) → from_entries n.entries ≡ remove (from_entries {R = nat_cmp} m.entries) k
-from_tree-remove m n k h = same_map nat_cmp_total nat_cmp-IsAntisymmetric _ _ (λ q.
-    get-from_tree n q ∙ h q
-    ∙ sym (get-remove nat_cmp_total _ k q ∙ (λ i. cond (sym (swap k q) i) None (get-from_tree m q i))))
-
--- the entries of the map, in their order
-both : (a b : Bool) → T a → T b → T (a && b)
-both true b p q = q
-both false b p q = p
-
-below_all-from : {X : Type 0} (k : ℕ) (es : List (ℕ × X)) → AllByRecursion (λ y. nat_cmp k y ≡ Less) (map (λ e. e.0) es) → T (below_all nat_cmp k es)
-below_all-from k [] h = tt
-below_all-from k (e ∷ es) h = both _ _ (subst (λ r. T (is_lt r)) (sym h.0) tt) (below_all-from k es h.1)
-
-is_sorted-from : {X : Type 0} (es : List (ℕ × X)) → IsStrictlySortedBy nat_cmp (map (λ e. e.0) es) → T (is_sorted nat_cmp es)
-unfolding IsStrictlySortedBy
-is_sorted-from [] h = tt
-is_sorted-from (e ∷ es) h = both _ _ (below_all-from e.0 es h.0) (is_sorted-from es h.1)
-
-pub entries-from_tree : {X : Type 0} (m : BTreeMap ℕ X) → tree_map.IsOrdered nat_cmp m → entries (from_entries {R = nat_cmp} m.entries) ≡ m.entries
-entries-from_tree m ordered =
-    let is = is_sorted-from m.entries ordered in
-    ap entries (same_map nat_cmp_total nat_cmp-IsAntisymmetric (from_entries m.entries) (from_sorted m.entries) (λ q. get-from_entries nat_cmp_total m.entries q ∙ sym (get-from_sorted nat_cmp m.entries q is)))
-    ∙ entries-from_sorted nat_cmp m.entries is
-
-pub len-from_tree : {X : Type 0} (m : BTreeMap ℕ X) → tree_map.IsOrdered nat_cmp m → len (from_entries {R = nat_cmp} m.entries) ≡ tree_map.btree_map_len m
-len-from_tree {X} m ordered = len-entries (from_entries m.entries) ∙ ap (length {A = ℕ × X}) (entries-from_tree m ordered)
-
--- a clone has the same entries where clones of values are equal
-pub same_entries : {X : Type 0} (C : X → X → Type 0) → ((x y : X) → C x y → y ≡ x) → (es copies : List (ℕ × X)) → AllZip (λ p q. (q.0 ≡ p.0) × C p.1 q.1) es copies → copies ≡ es
-same_entries C same [] [] h = refl
-same_entries C same [] (y ∷ ys) h = absurd h
-same_entries C same (x ∷ xs) [] h = absurd h
-same_entries C same (x ∷ xs) (y ∷ ys) h = λ i. (h.0.0 i, same x.1 y.1 h.0.1 i) ∷ same_entries C same xs ys h.1 i

@@ -3,7 +3,7 @@
 ghost use Rattle.std.specs.Prelude.{◌≡◌, ◌+◌, ◌<◌, ℕ, None, Some, IfNone, IfOk, IfSome, IsOk, IsSome, OnErr, OnOk};
 ghost use Rattle.std.specs.FinMap as map;
 ghost use Rattle.std.specs.Option.{option_copied};
-ghost use Rattle.slab.specs.Slab.{ContainsKey, HasRoomFor, Updates, get as standing, slab_len};
+ghost use Rattle.slab.specs.Slab.{ContainsKey, HasRoomFor, SameValues, Updates, get as standing, slab_len};
 ghost use Rattle.mqtt5_held.specs.Unacked.{held_again, slot_again};
 
 use crate::pages::Pages;
@@ -11,6 +11,9 @@ use crate::slot::Slot;
 use slab::Slab;
 use std::alloc::{AllocError, Global};
 use std::marker::Model;
+
+/// How many empty places are kept where no id is in use.
+const SPARE_PLACES: usize = 1024;
 
 /// What is known of each id in use. Contracts see a map.
 #[derive(Debug, Drop)]
@@ -164,6 +167,18 @@ fn free(slots: &mut Slab<Slot>, place: usize)
     ensures len { slab_len slots.new + 1 ≡ slab_len slots.old }
 {
     slots.remove(place);
+    give_back(slots);
+}
+
+/// Gives back the memory of many places, once the last is empty.
+#[inline]
+fn give_back(slots: &mut Slab<Slot>)
+    ensures same { SameValues slots.old slots.new }
+    ensures len { slab_len slots.new ≡ slab_len slots.old }
+{
+    if slots.is_empty() && slots.capacity() > SPARE_PLACES {
+        slots.shrink_to_fit();
+    }
 }
 
 /// Gives an id, which is free, a place with what is known of it.

@@ -1,5 +1,5 @@
 use Rattle.std.proofs.Common.{arith}
-use Rattle.mqtt5_held.proofs.Entries.{len_within}
+use Rattle.mqtt5_held.proofs.Counts.{len_within}
 use Rattle.mqtt5_held.proofs.slots.Slots.len.Goals as goal
 
 pub prove-unreachable-requires : goal.prove-unreachable-requires
