@@ -11,7 +11,8 @@ use std::alloc::{AllocError, Global};
 use std::collections::BTreeMap;
 use std::marker::Model;
 
-/// The place of each id in use. An empty page goes, but for the last one that became empty. Contracts see a map.
+/// The place of each id in use. An empty page goes, but for the last one that became empty.
+/// Contracts see a map.
 #[derive(Debug, Drop)]
 pub struct Pages {
     pages: BTreeMap<u16, Page>,
@@ -90,7 +91,8 @@ impl Pages {
     /// The first id in use above another, and its place.
     pub fn next_after(&self, after: u16) -> Option<(u16, usize)>
         ensures found { IfSome result (λ e. (after < e.0) × (map.get self.now e.0 ≡ Some e.1)) }
-        ensures first { IfSome result (λ e. (q : ℕ) → after < q → q < e.0 → map.get self.now q ≡ None) }
+        ensures first { IfSome result (λ e.
+            (q : ℕ) → after < q → q < e.0 → map.get self.now q ≡ None) }
         ensures last { IfNone result ((q : ℕ) → after < q → map.get self.now q ≡ None) }
     {
         for number in after / IDS..1024 {
@@ -221,11 +223,13 @@ fn next_in(pages: &BTreeMap<u16, Page>, number: u16, after: u16) -> Option<(u16,
     requires { number < 1024 }
     ensures found { IfSome result (λ e. (after < e.0) × (place_at pages.now e.0 ≡ Some e.1)) }
     ensures within { IfSome result (λ e. (64 * number ≤ e.0) × (e.0 < 64 * number + 64)) }
-    ensures first { IfSome result (λ e. (q : ℕ) → 64 * number ≤ q → after < q → q < e.0 → place_at pages.now q ≡ None) }
-    ensures last { IfNone result ((q : ℕ) → 64 * number ≤ q → q < 64 * number + 64 → after < q → place_at pages.now q ≡ None) }
+    ensures first { IfSome result (λ e.
+        (q : ℕ) → 64 * number ≤ q → after < q → q < e.0 → place_at pages.now q ≡ None) }
+    ensures last { IfNone result (
+        (q : ℕ) → 64 * number ≤ q → q < 64 * number + 64 → after < q → place_at pages.now q ≡ None) }
 {
     let page = pages.get(&number)?;
-    for offset in 0..IDS {
+    for offset in after.saturating_sub(IDS * number)..IDS {
         let id = IDS * number + offset;
         if id > after
             && let Some(place) = page.get(offset as usize)

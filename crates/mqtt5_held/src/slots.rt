@@ -81,7 +81,8 @@ impl Slots {
     fn next_after(&self, after: u16) -> Option<(u16, &Slot)>
         ensures above { IfSome result (λ e. (after < e.0) × (e.0 ≤ self.now.limit)) }
         ensures found { IfSome result (λ e. map.get self.now.held e.0 ≡ Some e.1.now) }
-        ensures first { IfSome result (λ e. (q : ℕ) → after < q → q < e.0 → map.get self.now.held q ≡ None) }
+        ensures first { IfSome result (λ e.
+            (q : ℕ) → after < q → q < e.0 → map.get self.now.held q ≡ None) }
         ensures last { IfNone result ((q : ℕ) → after < q → map.get self.now.held q ≡ None) }
         ensures within { IsWithin self.now.limit self.now.held }
     {
@@ -171,7 +172,8 @@ impl Slots {
         Ok(())
     }
 
-    /// Stores a copy of a publish under an id, which becomes its own. Only an id that wasn't in use may take memory besides the copy's.
+    /// Stores a copy of a publish under an id, which becomes its own. Only an id that wasn't in use may
+    /// take memory besides the copy's.
     pub fn insert_copy(&mut self, id: u16, publish: &Publish) -> Result<(), AllocError>
         requires low { 0 < id }
         requires high { id ≤ self.old.limit }
@@ -220,7 +222,8 @@ impl Clone for Slots {
 
 /// Adds the publishes that await an ack.
 fn push_sent(requests: &mut Vec<Request>, slots: &Slots) -> Result<(), AllocError>
-    ensures { OnOk result (requests.new.items ≡ requests.old.items ++ by_id publish_again slots.now.limit slots.now.held) }
+    ensures { OnOk result (requests.new.items
+        ≡ requests.old.items ++ by_id publish_again slots.now.limit slots.now.held) }
 {
     let mut after = 0;
     while let Some((id, slot)) = slots.next_after(after) {
@@ -232,7 +235,8 @@ fn push_sent(requests: &mut Vec<Request>, slots: &Slots) -> Result<(), AllocErro
 
 /// Adds the publish of an id, if it awaits its ack.
 fn push_publish(requests: &mut Vec<Request>, id: u16, slot: &Slot) -> Result<(), AllocError>
-    ensures { OnOk result (requests.new.items ≡ requests.old.items ++ publish_again id (Some slot.now)) }
+    ensures { OnOk result (requests.new.items
+        ≡ requests.old.items ++ publish_again id (Some slot.now)) }
 {
     if let Slot::Sent(publish) = slot {
         requests.push(sent_again(publish)?)?;
@@ -260,7 +264,8 @@ fn sent_again(publish: &Publish) -> Result<Request, AllocError>
 
 /// Adds the releases.
 fn push_released(requests: &mut Vec<Request>, slots: &Slots) -> Result<(), AllocError>
-    ensures { OnOk result (requests.new.items ≡ requests.old.items ++ by_id release_again slots.now.limit slots.now.held) }
+    ensures { OnOk result (requests.new.items
+        ≡ requests.old.items ++ by_id release_again slots.now.limit slots.now.held) }
 {
     let mut after = 0;
     while let Some((id, slot)) = slots.next_after(after) {
@@ -272,7 +277,8 @@ fn push_released(requests: &mut Vec<Request>, slots: &Slots) -> Result<(), Alloc
 
 /// Adds the release of an id, if it is released.
 fn push_release(requests: &mut Vec<Request>, id: u16, slot: &Slot) -> Result<(), AllocError>
-    ensures { OnOk result (requests.new.items ≡ requests.old.items ++ release_again id (Some slot.now)) }
+    ensures { OnOk result (requests.new.items
+        ≡ requests.old.items ++ release_again id (Some slot.now)) }
 {
     if let Slot::Released = slot {
         requests.push(Request::PubRel(PubRel::new(id, None)))?;

@@ -1,4 +1,4 @@
-//! What is known of each packet identifier in use, by its place, of which those that are free are used again.
+//! What is known of each packet identifier in use, by its place. Free places are used again.
 
 ghost use Rattle.std.specs.Prelude.{◌≡◌, ◌+◌, ◌<◌, ℕ, None, Some, IfNone, IfOk, IfSome, IsOk, IsSome, OnErr, OnOk};
 ghost use Rattle.std.specs.FinMap as map;
@@ -112,7 +112,8 @@ impl Table {
     /// The first id in use above another, and what is known of it.
     pub fn next_after(&self, after: u16) -> Option<(u16, &Slot)>
         ensures found { IfSome result (λ e. (after < e.0) × (map.get self.now e.0 ≡ Some e.1.now)) }
-        ensures first { IfSome result (λ e. (q : ℕ) → after < q → q < e.0 → map.get self.now q ≡ None) }
+        ensures first { IfSome result (λ e.
+            (q : ℕ) → after < q → q < e.0 → map.get self.now q ≡ None) }
         ensures last { IfNone result ((q : ℕ) → after < q → map.get self.now q ≡ None) }
     {
         let (id, place) = self.places.next_after(after)?;
