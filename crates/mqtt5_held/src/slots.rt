@@ -245,6 +245,7 @@ fn push_publish(requests: &mut Vec<Request>, id: u16, slot: &Slot) -> Result<(),
 }
 
 /// A copy of a publish under an id.
+#[inline(always)]
 fn copied_under(id: u16, publish: &Publish) -> Result<Slot, AllocError>
     ensures { IfOk result (λ slot. slot ≡ Slot.Sent (record publish.now { pkid = id })) }
 {

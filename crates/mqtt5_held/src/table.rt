@@ -67,7 +67,7 @@ impl Table {
     }
 
     /// Sets what is known of an id. Only an id that wasn't in use may take memory.
-    #[inline]
+    #[inline(always)]
     pub fn insert(&mut self, id: u16, slot: Slot) -> Result<(), AllocError>
         ensures ok { OnOk result (self.new ≡ map.insert self.old id slot) }
         ensures err { OnErr result (self.new ≡ self.old) }
@@ -156,7 +156,7 @@ fn replace(slots: &mut Slab<Slot>, place: usize, slot: Slot)
     ensures slot { Updates slots.old slots.new place (Some slot) }
     ensures len { slab_len slots.new ≡ slab_len slots.old }
 {
-    slots.remove(place);
+    drop(slots.remove(place));
     slots.insert_reserved(slot);
 }
 
@@ -183,7 +183,7 @@ fn give_back(slots: &mut Slab<Slot>)
 }
 
 /// Gives an id, which is free, a place with what is known of it.
-#[inline]
+#[inline(always)]
 fn add(places: &mut Pages, slots: &mut Slab<Slot>, id: u16, slot: Slot) -> Result<(), AllocError>
     requires { map.get places.old id ≡ None }
     ensures place { OnOk result (places.new ≡ map.insert places.old id slots.old.vacant_key) }
@@ -202,7 +202,7 @@ fn add(places: &mut Pages, slots: &mut Slab<Slot>, id: u16, slot: Slot) -> Resul
 }
 
 /// Gives an id, which is free, the next place.
-#[inline]
+#[inline(always)]
 fn make_room(places: &mut Pages, slots: &mut Slab<Slot>, id: u16) -> Result<(), AllocError>
     requires { map.get places.old id ≡ None }
     ensures place { OnOk result (places.new ≡ map.insert places.old id slots.old.vacant_key) }
