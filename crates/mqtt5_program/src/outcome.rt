@@ -19,10 +19,7 @@ pub struct Outcome {
 /// can't be made; a fault of the run is the outcome's.
 pub fn run_steps(alloc: Global, limit: NonZeroU16, steps: &[Step]) -> Result<Outcome, StateError> {
     let mut state = MqttState::new(alloc, limit.get(), false)?;
-    let mut codec = Codec {
-        max_incoming_size: None,
-        max_outgoing_size: None,
-    };
+    let mut codec = Codec::new();
     let mut input = BytesMut::new(alloc);
     let mut written = BytesMut::new(alloc);
     may_start();

@@ -3,7 +3,6 @@
 ghost use Rattle.std.specs.Prelude.{◌≤◌, length};
 
 use crate::outcome::Outcome;
-use mqtt5_base::Error;
 use mqtt5_codec::Packet;
 use mqtt5_flow::Publish;
 use mqtt5_session::{Event, Outgoing, StateError};
@@ -32,8 +31,8 @@ pub fn write_outcome<W: Write>(output: &mut W, outcome: &Outcome) -> io::Result<
 pub fn write_fault<W: Write>(output: &mut W, fault: &StateError) -> io::Result<()> {
     match fault {
         StateError::Unsolicited(id) => writeln!(output, "fault S2 {id}"),
-        StateError::Deserialization(error) => writeln!(output, "fault S7 E{}", error_number(error)),
-        other => writeln!(output, "fault S{}", fault_number(other)),
+        StateError::Deserialization(error) => writeln!(output, "fault S7 E{}", error.number()),
+        other => writeln!(output, "fault S{}", other.number()),
     }
 }
 
@@ -124,60 +123,5 @@ fn sent(outgoing: &Outgoing) -> (&'static str, Option<u16>) {
         Outgoing::PingReq => ("PingReq", None),
         Outgoing::Disconnect => ("Disconnect", None),
         Outgoing::AwaitAck(id) => ("AwaitAck", Some(id)),
-    }
-}
-
-/// The number of a fault, or 0 of one that is never answered.
-fn fault_number(fault: &StateError) -> u8 {
-    match fault {
-        StateError::InvalidState => 1,
-        StateError::Unsolicited(_) => 2,
-        StateError::AwaitPingResp => 3,
-        StateError::WrongPacket => 4,
-        StateError::CollisionTimeout => 5,
-        StateError::EmptySubscription => 6,
-        StateError::Deserialization(_) => 7,
-        StateError::InvalidAlias { .. } => 8,
-        StateError::OutgoingPacketTooLarge { .. } => 9,
-        StateError::ServerDisconnect { .. } => 10,
-        StateError::ConnFail { .. } => 11,
-        StateError::OutOfMemory => 12,
-        StateError::Io
-        | StateError::Coversion
-        | StateError::IncomingPacketTooLarge { .. }
-        | StateError::ConnectionAborted => 0,
-    }
-}
-
-/// The number of why a frame isn't read, or a packet isn't written; 0 of one that is never answered.
-fn error_number(error: &Error) -> u8 {
-    match error {
-        Error::InvalidConnectReturnCode(_) => 1,
-        Error::InvalidProtocol => 2,
-        Error::InvalidProtocolLevel(_) => 3,
-        Error::IncorrectPacketFormat => 4,
-        Error::InvalidPacketType(_) => 5,
-        Error::InvalidRetainForwardRule(_) => 6,
-        Error::InvalidQoS(_) => 7,
-        Error::InvalidSubscribeReasonCode(_) => 8,
-        Error::PacketIdZero => 9,
-        Error::EmptySubscription => 10,
-        Error::PayloadTooLong => 11,
-        Error::PayloadSizeLimitExceeded { .. } => 12,
-        Error::PayloadRequired => 13,
-        Error::TopicNotUtf8 => 14,
-        Error::BoundaryCrossed(_) => 15,
-        Error::MalformedPacket => 16,
-        Error::MalformedRemainingLength => 17,
-        Error::InvalidPropertyType(_) => 18,
-        Error::InsufficientBytes(_) => 19,
-        Error::OutgoingPacketTooLarge { .. } => 20,
-        Error::OutOfMemory => 21,
-        Error::InvalidReason(_)
-        | Error::InvalidRemainingLength(_)
-        | Error::SubscriptionIdZero
-        | Error::PayloadSizeIncorrect
-        | Error::PayloadNotUtf8
-        | Error::Io => 0,
     }
 }
