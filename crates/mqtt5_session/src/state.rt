@@ -30,7 +30,7 @@ use crate::packed::{as_disconnect, as_ping, as_publish};
 use crate::reply::{Reply, in_short};
 use bytes::Bytes;
 use frequent::Effect;
-use mqtt5_base::{Exact, copied};
+use mqtt5_base::{Exact, QoS, copied};
 use mqtt5_codec::Packet;
 use mqtt5_flow::Publish;
 use mqtt5_held::{Aliases, Event, Ids, Incoming, Outgoing, Request, Slots, StateError};
@@ -422,13 +422,16 @@ impl MqttState {
     }
 
     /// As `handle_outgoing_packet` of a publish of QoS 1 or 2, of which a copy is sent, and answers what to send in
-    /// short.
+    /// short. S1 of one of QoS 0, which no session stores; it is then unchanged.
     pub fn send_copy(&mut self, publish: &Publish, at: u64) -> Result<Reply, StateError>
-        requires { publish.now.qos ≢ AtMostOnce }
-        ensures step { Sends (in_full result self.new) self.old self.new (out self.old (Request.Publish publish.now) at) }
+        ensures step { publish.now.qos ≢ AtMostOnce → Sends (in_full result self.new) self.old self.new (out self.old (Request.Publish publish.now) at) }
         ensures ledger { owed self.new.core ≡ owed self.old.core + accepted result (adds self.old.core (Request.Publish publish.now)) }
         ensures once { (id : ℕ) → kept_id id self.new.core ≡ kept_id id self.old.core }
+        ensures unstored { publish.now.qos ≡ AtMostOnce → (result ≡ Err StateError.InvalidState) × (self.new ≡ self.old) }
     {
+        if publish.qos == QoS::AtMostOnce {
+            return Err(StateError::InvalidState);
+        }
         self.copy_out(publish, at)
     }
 
