@@ -112,7 +112,10 @@ fn filter_options<'a>(alloc: Global, command: Command<'a>) -> Result<Command<'a>
         .value_name("FILTER")
         .help("A topic filter; may be given often")
         .action(ArgAction::Append);
-    let quality = quality_option(alloc, "The greatest quality of service of what comes, else 0");
+    let quality = quality_option(
+        alloc,
+        "The greatest quality of service of what comes, else 0",
+    );
     let count = Arg::new(alloc, "count")
         .short('C')
         .value_name("COUNT")

@@ -156,7 +156,10 @@ pub(super) fn add_fault(fault: &StateError, text: &mut String) -> Result<(), All
         StateError::EmptySubscription => text.push_str("S6"),
         StateError::Deserialization(error) => write!(text, "S7({error:?})"),
         StateError::InvalidAlias { alias, max } => write!(text, "S8({alias},{max})"),
-        StateError::OutgoingPacketTooLarge { pkt_size, max } => write!(text, "S9({pkt_size},{max})"),
+        StateError::OutgoingPacketTooLarge { pkt_size, max } => write!(
+            text,
+            "S9({pkt_size},{max})"
+        ),
         StateError::ServerDisconnect { reason_code, .. } => write!(text, "S10({reason_code:?})"),
         StateError::ConnFail { reason } => write!(text, "S11({reason:?})"),
         _other => text.push_str("S12"),
