@@ -1,9 +1,8 @@
-//! The program `mqtt5`: it runs a script of incoming bytes and requests, or of what happens between a client and
-//! its broker, and prints what came of it; or it tries the vectors.
+//! The program of `./mqtt5 drive` and `./mqtt5 bench`: it runs a script of incoming bytes and requests and prints what
+//! came of it, or it tries the vectors.
 #![tactic(auto)]
 
 mod bench;
-mod contents;
 mod outcome;
 mod report;
 pub mod run;
@@ -11,6 +10,7 @@ mod script;
 #[cfg(test)]
 mod tests;
 
+use mqtt5_scripts::refuse_words;
 use std::env::Env;
 use std::io::{BufWriter, Write};
 use std::process::ExitCode;
@@ -25,7 +25,7 @@ fn words(rt: &(impl Env + AllocGlobal)) -> io::Result<Vec<String>> {
 fn print_all(rt: &HostRuntime, output: &mut impl Write) -> u8 {
     let status = match words(rt) {
         Ok(words) => run::run(rt.alloc(), words.as_slice(), &mut rt.reader(), output),
-        Err(error) => run::refuse_words(&error, output),
+        Err(error) => refuse_words(&error, output),
     };
     match output.flush() {
         Ok(()) => status,

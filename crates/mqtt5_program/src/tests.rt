@@ -202,94 +202,6 @@ const SCRIPTS_OF_FEW: &[(&str, &str, &str, u8)] = &[
     ),
 ];
 
-/// The words, a script, and what they print of it; the status is 0.
-const WORLDS: [(&str, &str, &str); 11] = [
-    (
-        "world 2",
-        "pub 0 61 78\nloss\npub 1 62 79\nup\nloss 1\nup\ndown\n",
-        "content 0 61 78 accepted 1 handed 0 stored 0 waiting 0\ncontent 1 62 79 accepted 1 handed 2 stored 0 waiting 0\nrefused 0\ninflight 0\n",
-    ),
-    (
-        "world 1",
-        "pub 2 61 78\nup\ndown\npub 2 62 78\npub 2 63 78\nup\ndown\nup\ndown\nup\ndown\n",
-        "content 2 61 78 accepted 1 handed 1 stored 0 waiting 0\ncontent 2 62 78 accepted 1 handed 1 stored 0 waiting 0\ncontent 2 63 78 accepted 0 handed 0 stored 0 waiting 0\nrefused 1\ninflight 0\n",
-    ),
-    (
-        "world 1",
-        "pub 2 61 78\nup\nloss\nup\ndown\nup\nloss\nup\ndown\n",
-        "content 2 61 78 accepted 1 handed 1 stored 0 waiting 0\nrefused 0\ninflight 0\n",
-    ),
-    (
-        "world 1",
-        "pub 1 4A -\npub 01 4a -\n\npub 1 4a -",
-        "content 1 4a - accepted 2 handed 0 stored 1 waiting 1\nrefused 1\ninflight 1\n",
-    ),
-    (
-        "world 3",
-        "pub 2 61 78\npub 1 61 78\nup\nup\ndown\n",
-        "content 2 61 78 accepted 1 handed 1 stored 0 waiting 0\ncontent 1 61 78 accepted 1 handed 1 stored 1 waiting 0\nrefused 0\ninflight 2\n",
-    ),
-    ("world 00001", "", "refused 0\ninflight 0\n"),
-    (
-        "world 1",
-        "pub 2 61 78\npub 2 62 78\nsettle\n\n",
-        "content 2 61 78 accepted 1 handed 1 stored 0 waiting 0\ncontent 2 62 78 accepted 1 handed 1 stored 0 waiting 0\nrefused 0\ninflight 0\n",
-    ),
-    (
-        "world 2",
-        "pub 0 61 78\npub 1 62 78\nup\nup\nloss\nsettle",
-        "content 0 61 78 accepted 1 handed 1 stored 0 waiting 0\ncontent 1 62 78 accepted 1 handed 2 stored 0 waiting 0\nrefused 0\ninflight 0\n",
-    ),
-    (
-        "bytes 1",
-        "pub 2 61 78\nup 8\nloss\nup 8\n",
-        "content 2 61 78 accepted 1 handed 0 stored 1 waiting 0\nrefused 0\ninflight 1\n",
-    ),
-    (
-        "bytes 1",
-        "pub 2 61 78\nup 8\nloss\nup 8\nup 1\ndown 3\ndown 1\nup 100\ndown 100\n",
-        "content 2 61 78 accepted 1 handed 1 stored 0 waiting 0\nrefused 0\ninflight 0\n",
-    ),
-    (
-        "bytes 2",
-        "pub 1 61 78\npub 1 61 78\nup 18\ndown 8",
-        "content 1 61 78 accepted 2 handed 2 stored 0 waiting 0\nrefused 0\ninflight 0\n",
-    ),
-];
-
-/// Lines that say nothing in a world, and then over bytes.
-const BAD_EVENTS: &[(&str, &str)] = &[
-    ("world 10", "up 1"),
-    ("world 10", "up "),
-    ("world 10", "down 0"),
-    ("world 10", "loss x"),
-    ("world 10", "loss 65536"),
-    ("world 10", "loss "),
-    ("world 10", "loss 1 2"),
-    ("world 10", "pub 3 61 78"),
-    ("world 10", "pub 1 6 78"),
-    ("world 10", "pub 1 ff 78"),
-    ("world 10", "pub"),
-    ("world 10", "bye 1"),
-    ("world 10", "Up"),
-    ("world 10", "settle 1"),
-    ("world 10", "settle "),
-    ("bytes 10", "settle"),
-    ("bytes 10", "up"),
-    ("bytes 10", "down "),
-    ("bytes 10", "up 1000001"),
-    ("bytes 10", "down x"),
-    ("bytes 10", "loss 65536"),
-    ("bytes 10", "pub 3 61 78"),
-    ("bytes 10", "bye"),
-];
-
-/// What is printed of a world's script that goes on after it is settled.
-const AFTER_SETTLE: [(&str, &str); 2] = [
-    ("settle\nup", "line 2: bad\n"),
-    ("up\nsettle\n\nsettle\n", "line 4: bad\n"),
-];
-
 /// Lines that say nothing.
 const BAD_LINES: &[&str] = &[
     "pub 0 3 61 -",
@@ -355,10 +267,7 @@ const WORDS: &[(&str, &str, u8)] = &[
     ("drive ", USAGE, 2),
     ("drive 10 10", USAGE, 2),
     ("world", USAGE, 2),
-    ("world 0", USAGE, 2),
-    ("world 65536", USAGE, 2),
-    ("world 1 2", USAGE, 2),
-    ("world 065535", "fault stdin\n", 1),
+    ("world 10", USAGE, 2),
     ("bench", VECTORS, 0),
     ("bench 1", USAGE, 2),
     ("drive 1", "fault stdin\n", 1),
@@ -442,39 +351,6 @@ fn scripts_of_few_ids(rt: HostRuntime) -> Result<(), Fail> {
 }
 
 #[test]
-fn worlds(rt: HostRuntime) -> Result<(), Fail> {
-    for (words, script, lines) in WORLDS {
-        let mut input = script.as_bytes();
-        let (text, status) = printed(rt.alloc(), words, &mut input)?;
-        assert_eq!(rt; text.as_str(), lines, "of {script:?}");
-        assert_eq!(rt; status, 0, "of {script:?}");
-    }
-    Ok(())
-}
-
-#[test]
-fn bad_events(rt: HostRuntime) -> Result<(), Fail> {
-    for (words, line) in BAD_EVENTS {
-        let mut input = line.as_bytes();
-        let (text, status) = printed(rt.alloc(), words, &mut input)?;
-        assert_eq!(rt; text.as_str(), "line 1: bad\n", "of {line:?}");
-        assert_eq!(rt; status, 2, "of {line:?}");
-    }
-    Ok(())
-}
-
-#[test]
-fn after_settle(rt: HostRuntime) -> Result<(), Fail> {
-    for (script, lines) in AFTER_SETTLE {
-        let mut input = script.as_bytes();
-        let (text, status) = printed(rt.alloc(), "world 10", &mut input)?;
-        assert_eq!(rt; text.as_str(), lines, "of {script:?}");
-        assert_eq!(rt; status, 2, "of {script:?}");
-    }
-    Ok(())
-}
-
-#[test]
 fn bad_lines(rt: HostRuntime) -> Result<(), Fail> {
     for line in BAD_LINES {
         let mut input = line.as_bytes();
@@ -515,15 +391,10 @@ fn words(rt: HostRuntime) -> Result<(), Fail> {
 #[test]
 fn failing_writes(rt: HostRuntime) -> Result<(), Fail> {
     let acked = "pub 0 1 612f62 6869\nin 1 40020001\n";
-    let (world, script, contents) = WORLDS[3];
-    for (words, script, lines, done) in [
-        ("drive 10", acked, ACKED, 0),
-        (world, script, contents, 0),
-        ("fly", acked, USAGE, 2),
-    ] {
+    for (words, lines, done) in [("drive 10", ACKED, 0), ("fly", USAGE, 2)] {
         let words = owned(rt.alloc(), words)?;
         for room in 0..=lines.len() {
-            let mut input = script.as_bytes();
+            let mut input = acked.as_bytes();
             let mut output = FailingWriter { room };
             let status = run(rt.alloc(), words.as_slice(), &mut input, &mut output);
             let want = if room < lines.len() { 1 } else { done };

@@ -1,8 +1,8 @@
 //! The lines that tell of a world: what came of each content, which is a publish but for its id and dup. Printing
 //! takes no memory.
 
-use crate::report::write_message;
 use mqtt5_flow::Publish;
+use mqtt5_scripts::write_message;
 use mqtt5_session::MqttState;
 use mqtt5_streams::ByteEvent;
 use mqtt5_world::{Report, WorldEvent};
