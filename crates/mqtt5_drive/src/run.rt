@@ -1,7 +1,6 @@
 //! The loop: bytes in pieces and requests go in, frames and events come out.
 
 ghost use Rattle.std.specs.Prelude.{◌≡◌, ◌≢◌, ◌+◌, ℕ, min, Some, List, [], ◌++◌, map, Option, IfErr, OnOk, IsOk};
-ghost use Rattle.std.specs.Bool.{Decides};
 ghost use Rattle.std.specs.List.{concat};
 ghost use Rattle.mqtt5_base.specs.FrontAt.{front};
 ghost use Rattle.mqtt5_base.specs.declared.quality.QoS.TheVariants.{AtMostOnce};
@@ -20,7 +19,7 @@ ghost use Rattle.mqtt5_drive.specs.Calls.{calls_of};
 ghost use Rattle.mqtt5_drive.specs.Run.{Turn, bytes_of, of_input, turns, reply_bytes, run, IsMore, piece};
 
 use bytes::{Bytes, BytesMut};
-use mqtt5_base::{Error, QoS, check, copied};
+use mqtt5_base::{Error, QoS, copied};
 use mqtt5_codec::{Codec, Packet};
 use mqtt5_flow::{PubAck, Publish};
 use mqtt5_session::{MqttState, Reply, Request, StateError};
@@ -256,17 +255,6 @@ fn take_frames(
     Ok(())
 }
 
-/// Whether no frame is whole yet, and none is refused: most small pieces end no frame, and this makes no
-/// room for a packet.
-fn wants_more(codec: &Codec, input: &BytesMut) -> bool
-    ensures { Decides result (IsMore (front codec.now.max_incoming_size input.now.items)) }
-{
-    match check(input.as_slice(), codec.max_incoming_size) {
-        Err(Error::InsufficientBytes(_)) => true,
-        _other => false,
-    }
-}
-
 /// One step.
 fn take_step(
     alloc: Global,
@@ -286,7 +274,8 @@ fn take_step(
             let Ok(()) = input.extend_from_slice(piece.as_slice()) else {
                 return Err(StateError::OutOfMemory);
             };
-            if wants_more(codec, input) {
+            // (most small pieces end no frame, and this makes no room for a packet)
+            if codec.needs_more(input) {
                 return Ok(());
             }
             take_frames(alloc, state, codec, input, output, step.at)

@@ -2,12 +2,14 @@
 
 ghost use Rattle.std.specs.Prelude.{◌≡◌, ◌<◌, IsSome, length};
 
-use crate::contents::write_contents;
+use crate::contents::{Asks, Contents, write_contents};
 use crate::script::{ByteScript, WorldScript};
 use mqtt5_progress::play_out;
-use mqtt5_scripts::{Field, Status, read_script, write_ending, write_refusal, write_usage};
+use mqtt5_scripts::{
+    Field, Status, read_script, write_ending, write_memory_fault, write_refusal, write_usage,
+};
 use mqtt5_streams::{ByteEvent, play_bytes};
-use mqtt5_world::play;
+use mqtt5_world::{Report, play};
 use std::alloc::Global;
 use std::io;
 use std::io::{Read, Write};
@@ -81,7 +83,7 @@ fn play_all<W: Write>(
         play(alloc, limit.get(), events)
     };
     match played {
-        Ok(report) => write_contents(output, events, &report).map(|()| Status::Done),
+        Ok(report) => write_report(alloc, events, &report, output),
         Err(fault) => write_ending(output, &fault),
     }
 }
@@ -106,7 +108,23 @@ fn play_all_bytes<W: Write>(
     output: &mut W,
 ) -> io::Result<Status> {
     match play_bytes(alloc, limit.get(), None, None, events) {
-        Ok(report) => write_contents(output, events, &report).map(|()| Status::Done),
+        Ok(report) => write_report(alloc, events, &report, output),
         Err(fault) => write_ending(output, &fault),
+    }
+}
+
+/// Counts the contents, and prints them. Where memory for the counts is refused, that is all that is told.
+fn write_report<W: Write, E: Asks>(
+    alloc: Global,
+    events: &[E],
+    report: &Report,
+    output: &mut W,
+) -> io::Result<Status> {
+    match Contents::count(alloc, events, report) {
+        Ok(contents) => {
+            write_contents(output, &contents, report)?;
+            Ok(Status::Done)
+        }
+        Err(_refused) => write_memory_fault(output),
     }
 }
