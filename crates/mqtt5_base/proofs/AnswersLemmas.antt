@@ -22,10 +22,12 @@ given_back view (Err e) r s = λ memory. (r.fault e).1 (s memory)
 
 -- of the values of a row
 pub row_said : {X : Type 0} (view : X → Content) (row : Row) (h : FixedHeader) (frame : List ℕ) (result : Result X Error) → Gives view result (values_in row h.byte1 h.remaining_len (drop h.fixed_header_len frame)) → ReadsRow view row h frame result
+unfolding ReadsRow
 row_said view row h frame result g = said view result (values_read row h.byte1 h.remaining_len (drop h.fixed_header_len frame)) g
 
 -- and back
 pub row_given : {X : Type 0} (view : X → Content) (row : Row) (h : FixedHeader) (frame : List ℕ) (result : Result X Error) → ReadsRow view row h frame result → Gives view result (values_in row h.byte1 h.remaining_len (drop h.fixed_header_len frame))
+unfolding ReadsRow
 row_given view row h frame result s = given_back view result (values_read row h.byte1 h.remaining_len (drop h.fixed_header_len frame)) s
 
 -- of a part by itself

@@ -5,7 +5,7 @@ use Rattle.std.specs.Int.{w8}
 use Rattle.mqtt5_base.specs.declared.error.Error.{Error}
 use Rattle.mqtt5_base.specs.declared.error.Error.TheVariants.{InvalidPropertyType, BoundaryCrossed}
 use Rattle.mqtt5_base.specs.VarInt.{VarInt}
-use Rattle.mqtt5_base.specs.Grammar.{Kind, Atom, Entry, Found, allows, kinds, kind_among}
+use Rattle.mqtt5_base.specs.Grammar.{Kind, Atom, Entry, Found, allows, kinds, entry_of}
 use Rattle.mqtt5_base.specs.Fields.{IsKind, Takes, IsProperty, Items, IsSet, IsBlock}
 use Rattle.mqtt5_base.specs.Faults.{NumberFault, KindFault, ItemFault, FaultAfter, BlockFault}
 use Rattle.mqtt5_base.specs.Reading.{◌>>=◌, number_at, none_of, with_item, atom_of_kind, property_at, item_at, items_within, block_at}
@@ -78,7 +78,7 @@ item_reads : (table : List Entry) (found : Found) (bs : List ℕ) → Reads (ite
 unfolding item_at property_at
 item_reads table found bs = reads_then (λ id. cond (allows table id.0) (seen (λ a. with_item table id.0 a found) (property_at id.0 id.1)) (Err (InvalidPropertyType id.0))) (λ id body. bs ≡ id ∷ body)
     (λ id body y. (allows table id ≡ true) × ((a : Atom) × Takes (λ front. IsProperty id front a) body y.1 × (y.0 ≡ with_item table id a found))) (λ id body. ItemFault table id body) (byte_reads bs)
-    (λ id body _. reads_guard (allows table id) (InvalidPropertyType id) (reads_seen (λ a. with_item table id a found) (λ a after. Takes (λ front. IsProperty id front a) body after) (property_reads (kind_among kinds id) id body)))
+    (λ id body _. reads_guard (allows table id) (InvalidPropertyType id) (reads_seen (λ a. with_item table id a found) (λ a after. Takes (λ front. IsProperty id front a) body after) (property_reads (entry_of kinds id) id body)))
 
 -- items, and what they make of those found
 abbrev AddsItems : List Entry → Found → List ℕ → Found → Type 0

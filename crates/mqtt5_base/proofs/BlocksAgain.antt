@@ -5,7 +5,7 @@ use Rattle.std.proofs.lemmas.List.{nil_from_length}
 use Rattle.mqtt5_base.specs.declared.error.Error.{Error}
 use Rattle.mqtt5_base.specs.declared.error.Error.TheVariants.{BoundaryCrossed}
 use Rattle.mqtt5_base.specs.VarInt.{var_int, var_int_in}
-use Rattle.mqtt5_base.specs.Grammar.{Kind, Atom, Entry, Found, allows, kinds, kind_among}
+use Rattle.mqtt5_base.specs.Grammar.{Kind, Atom, Entry, Found, allows, kinds, entry_of}
 use Rattle.mqtt5_base.specs.Reading.{◌>>=◌, none_of, atom_of_kind, property_at, items_within, block_at}
 use Rattle.mqtt5_base.specs.Layout.{atom_bytes, tagged, tagged_by, items_bytes, block_bytes, atom_fits, all_fit, all_fit_by, items_fit, block_fits}
 use Rattle.mqtt5_base.specs.Tidy.{no_items, tidy}
@@ -18,7 +18,7 @@ use Rattle.mqtt5_base.proofs.ItemsAgain.{is_allowed, AreAgain, tagged_again}
 -- ---- a whole table
 
 -- values of an identifier's kind are read again
-are_again : (id : ℕ) (k : Kind) (here : List Atom) → kind_among kinds id ≡ Some k → AtomsAre k here → all_fit k here ≡ true → AreAgain id k here
+are_again : (id : ℕ) (k : Kind) (here : List Atom) → entry_of kinds id ≡ Some k → AtomsAre k here → all_fit k here ≡ true → AreAgain id k here
 unfolding property_at
 are_again id k [] known are fit = tt
 are_again id k (a ∷ here) known are fit =
@@ -26,7 +26,7 @@ are_again id k (a ∷ here) known are fit =
     (record { again = λ rest. ap (λ (o : Option Kind). atom_of_kind o id (atom_bytes k a ++ rest)) known ∙ atom_again k a rest are.0 f.0 }, are_again id k here known are.1 f.1)
 
 -- the values of an entry are read again
-entry_again : (here : List Atom) (n : ℕ) (t u : List Entry) (e : Entry) (kind : Option Kind) (f g : Found) (rest : List ℕ) → kind_among kinds e.id ≡ kind → length t ≡ length f → allows t e.id ≡ false → allows u e.id ≡ false → Adds e.many [] here → AtomsAreBy kind here → all_fit_by kind here ≡ true
+entry_again : (here : List Atom) (n : ℕ) (t u : List Entry) (e : Entry) (kind : Option Kind) (f g : Found) (rest : List ℕ) → entry_of kinds e.id ≡ kind → length t ≡ length f → allows t e.id ≡ false → allows u e.id ≡ false → Adds e.many [] here → AtomsAreBy kind here → all_fit_by kind here ≡ true
     → length (tagged_by e.id kind here ++ rest) ≤ n
     → (m : ℕ) × (length rest ≤ m) × (items_within n (t ++ e ∷ u) (f ++ [] ∷ g) (tagged_by e.id kind here ++ rest) ≡ items_within m (t ++ e ∷ u) (f ++ here ∷ g) rest)
 entry_again here n t u e None f g rest known l absent once adds are fit le = absurd are
@@ -78,7 +78,7 @@ table_again [] (suc n) t f [] l once set fit le = refl
 table_again [] n t f (here ∷ g) l once set fit le = absurd set
 table_again (e ∷ u) n t f [] l once set fit le = absurd set
 table_again (e ∷ u) n t f (here ∷ g) l once set fit le =
-    let kind = kind_among kinds e.id in
+    let kind = entry_of kinds e.id in
     let rest = items_bytes u g in
     let o = both_true (not (allows t e.id)) (apart (t ++ e ∷ []) u) once in
     let h = both_hold (all_fit_by kind here) (items_fit u g) fit in
@@ -99,8 +99,8 @@ empty_items : (table : List Entry) (g : Found) → IsSetOf table g → eqb (leng
 empty_items [] [] set = refl
 empty_items [] (here ∷ g) set = absurd set
 empty_items (e ∷ es) [] set = absurd set
-empty_items (e ∷ es) ([] ∷ g) set = ap (λ (b : List ℕ). eqb (length (b ++ items_bytes es g)) 0) (nothing_tagged e.id (kind_among kinds e.id)) ∙ empty_items es g set.1
-empty_items (e ∷ es) ((a ∷ here) ∷ g) set = some (kind_among kinds e.id) set.0.are
+empty_items (e ∷ es) ([] ∷ g) set = ap (λ (b : List ℕ). eqb (length (b ++ items_bytes es g)) 0) (nothing_tagged e.id (entry_of kinds e.id)) ∙ empty_items es g set.1
+empty_items (e ∷ es) ((a ∷ here) ∷ g) set = some (entry_of kinds e.id) set.0.are
   where
     some : (kind : Option Kind) → AtomsAreBy kind (a ∷ here) → eqb (length (tagged_by e.id kind (a ∷ here) ++ items_bytes es g)) 0 ≡ false
     some None are = absurd are

@@ -2,7 +2,8 @@
 use Rattle.std.specs.Prelude.{◌||◌}
 use Rattle.std.proofs.Common.{◌≡◌, ℕ, Bool, true, false, eqb, List, [], ◌∷◌, Option, None, refl}
 use Rattle.std.proofs.lemmas.Bool.{eqb-true}
-use Rattle.mqtt5_base.specs.Grammar.{Kind, bytes, Atom, content, Entry, Found, Test, passes, is_among, Wrong, Value, plain, properties, one, checked, block, remainder}
+use Rattle.mqtt5_base.specs.declared.error.Error.{Error}
+use Rattle.mqtt5_base.specs.Grammar.{Kind, bytes, Atom, content, Entry, Found, Test, passes, is_among, Value, plain, properties, one, checked, block, remainder}
 use Rattle.mqtt5_base.specs.Fields.{Takes, IsField, TakesField}
 use Rattle.mqtt5_base.specs.Views.{qos_number}
 use Rattle.mqtt5_base.specs.FromValues.{qos_of}
@@ -25,7 +26,7 @@ pub one_back : (k : Kind) (body : List ℕ) (v : Value) (after : List ℕ) → T
 one_back k body v after h = let f = h.2 in (f.0, f.2, kind_again k h.0 f.0 f.1)
 
 -- A field that is judged gives a value that passes.
-pub checked_back : (k : Kind) (t : Test) (w : Wrong) (body : List ℕ) (v : Value) (after : List ℕ) → Takes (λ front. IsField (checked k t w) front v after) body after → IsTested k t v
+pub checked_back : (k : Kind) (t : Test) (w : ℕ → Error) (body : List ℕ) (v : Value) (after : List ℕ) → Takes (λ front. IsField (checked k t w) front v after) body after → IsTested k t v
 checked_back k t w body v after h = let f = h.2 in (f.0, f.3, kind_again k h.0 f.0 f.1, f.2)
 
 -- A field of all bytes that are left gives binary data.
@@ -44,7 +45,7 @@ maybe_one true k d body v after e h = one_back k body v after h
 maybe_one false k d body v after e h = (d, h.0, e)
 
 -- a value that is judged, or the one that stands for it
-pub maybe_checked : (b : Bool) (k : Kind) (t : Test) (w : Wrong) (d : Atom) (body : List ℕ) (v : Value) (after : List ℕ) → kept_by k d ≡ d → TakesField b (checked k t w) (plain d) body v after → IsOne k v
+pub maybe_checked : (b : Bool) (k : Kind) (t : Test) (w : ℕ → Error) (d : Atom) (body : List ℕ) (v : Value) (after : List ℕ) → kept_by k d ≡ d → TakesField b (checked k t w) (plain d) body v after → IsOne k v
 maybe_checked true k t w d body v after e h = let c = checked_back k t w body v after h in (c.0, c.1, c.2)
 maybe_checked false k t w d body v after e h = (d, h.0, e)
 

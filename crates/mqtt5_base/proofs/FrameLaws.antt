@@ -2,10 +2,10 @@
 use Rattle.std.proofs.Common.{◌≡◌, ℕ, ◌/◌, true, false, List, [], length, Option, Some, None, ◌⊎◌, inl, inr, refl}
 use Rattle.mqtt5_base.specs.declared.error.Error.{Error}
 use Rattle.mqtt5_base.specs.declared.error.Error.TheVariants.{InvalidPacketType, PayloadRequired}
-use Rattle.mqtt5_base.specs.Grammar.{Row, Content}
+use Rattle.mqtt5_base.specs.Grammar.{Row, Content, entry_of}
 use Rattle.mqtt5_base.specs.Fields.{IsRow}
 use Rattle.mqtt5_base.specs.Faults.{RowFault}
-use Rattle.mqtt5_base.specs.Frames.{Rows, row_among, lacks_body, IsFrame, FrameFault}
+use Rattle.mqtt5_base.specs.Frames.{Rows, lacks_body, IsFrame, FrameFault}
 use Rattle.mqtt5_base.specs.Reading.{values_in, row_values, frame_values}
 use Rattle.mqtt5_base.specs.Laws.{Reads, IsGrammar}
 use Rattle.mqtt5_base.proofs.ReadsLemmas.{reads_err, reads_like, reads_values, reads_map, reads_unless, reads_one}
@@ -63,7 +63,7 @@ values_read row first len body = reads_values (reads_map (λ r. r.0) (row_reads 
 -- Frames are read.
 pub frame_reads : (rows : Rows) (first : ℕ) (body : List ℕ) → Reads (frame_values rows first body) (IsFrame rows first body) (FrameFault rows first body)
 unfolding frame_values
-frame_reads rows first body = row_of_reads (row_among rows (first / 16)) first body
+frame_reads rows first body = row_of_reads (entry_of rows (first / 16)) first body
 
 -- All that the grammar promises.
 pub grammar : IsGrammar

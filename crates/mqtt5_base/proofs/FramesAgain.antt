@@ -5,8 +5,8 @@ use Rattle.mqtt5_base.specs.declared.error.Error.{Error}
 use Rattle.mqtt5_base.specs.declared.error.Error.TheVariants.{PayloadTooLong}
 use Rattle.mqtt5_base.specs.VarInt.{var_int}
 use Rattle.mqtt5_base.specs.Lengths.{Finished, length_at}
-use Rattle.mqtt5_base.specs.Grammar.{Value, Row, Group, Content, Known, under}
-use Rattle.mqtt5_base.specs.Frames.{Rows, row_among, lacks_body}
+use Rattle.mqtt5_base.specs.Grammar.{Value, Row, Group, Content, Known, under, entry_of}
+use Rattle.mqtt5_base.specs.Frames.{Rows, lacks_body}
 use Rattle.mqtt5_base.specs.Reading.{◌>>=◌, parts_at, values_in, row_values, frame_values, body_in, frame_at}
 use Rattle.mqtt5_base.specs.Front.{Whole}
 use Rattle.mqtt5_base.specs.FrontAt.{front}
@@ -82,7 +82,7 @@ row_known short row p = known_again short row.steps (under p.first 0) (under p.f
 -- what must be so that the packet is read again as those values
 pub record IsReadable (rows : Rows) (row : Row) (p : WrittenPacket) (short : Bool) (q : Content) : Type 0 where
   pub brief : is_short row p ≡ short
-  pub among : row_among rows (p.first / 16) ≡ Some row
+  pub among : entry_of rows (p.first / 16) ≡ Some row
   pub whole : lacks_body row (body_of short row p) ≡ false
   pub suits : Suits short p.groups row.steps (under p.first 0) (under p.first (length (body_of short row p))) p.head.raws p.head.kept (parts_bytes row.parts (in_order row.steps p.head.raws p.head.kept) p.groups)
   pub parts : PartsAre row.parts (in_order row.steps p.head.raws p.head.kept) (row_known short row p).values p.groups q.1
@@ -118,7 +118,7 @@ body_found body small =
     ap (λ l. body_in l (len ++ body)) (var_int_finds len body (length body) (var_int_stands (length body) small)) ∙ (cut_at len body (length len) refl).1
 
 -- a frame of a type whose row reads its body is read
-frame_again : (rows : Rows) (row : Row) (first : ℕ) (body : List ℕ) (q : Content) → row_among rows (first / 16) ≡ Some row → lacks_body row body ≡ false → length body < 268435456 → values_in row first (length body) body ≡ content_read q → frame_at rows (frame_of first body) ≡ content_read q
+frame_again : (rows : Rows) (row : Row) (first : ℕ) (body : List ℕ) (q : Content) → entry_of rows (first / 16) ≡ Some row → lacks_body row body ≡ false → length body < 268435456 → values_in row first (length body) body ≡ content_read q → frame_at rows (frame_of first body) ≡ content_read q
 unfolding frame_at frame_values
 frame_again rows row first body q among whole small is =
     ap (frame_values rows first) (body_found body small) ∙ ap (λ (o : Option Row). row_values o first body) among ∙ rw whole is

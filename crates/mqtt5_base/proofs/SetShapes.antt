@@ -5,7 +5,7 @@ use Rattle.std.specs.Str.{is_utf8}
 use Rattle.std.proofs.lemmas.Bool.{eqb-true}
 use Rattle.mqtt5_base.specs.Codes.{text_back}
 use Rattle.mqtt5_base.specs.Texts.{text_of}
-use Rattle.mqtt5_base.specs.Grammar.{Kind, u8, u16, u32, varint, bytes, text, pair, Atom, number, content, number_of, content_of, couple, Entry, Found, kinds, kind_among}
+use Rattle.mqtt5_base.specs.Grammar.{Kind, u8, u16, u32, varint, bytes, text, pair, Atom, number, content, number_of, content_of, couple, Entry, Found, kinds, entry_of}
 use Rattle.mqtt5_base.specs.Fields.{IsKind, Items, values_of, last_of, props, IsBlock}
 use Rattle.mqtt5_base.specs.Views.{text_atom, pair_atom, numbers, contents, texts, pairs, identifiers}
 use Rattle.mqtt5_base.specs.FromValues.{pair_of, one_number, one_content, one_text, all_pairs, all_numbers}
@@ -45,18 +45,18 @@ kept_as (Some k) a = kept_by k a
 
 -- each value of these items comes back from a field of its identifier's kind
 abbrev pub ComeBack : List (ℕ × Atom) → Type 0
-ComeBack items = (id : ℕ) → map (kept_as (kind_among kinds id)) (values_of id items) ≡ values_of id items
+ComeBack items = (id : ℕ) → map (kept_as (entry_of kinds id)) (values_of id items) ≡ values_of id items
 
 -- The values of items that were read come back.
 pub items_again : (table : List Entry) (bs : List ℕ) (items : List (ℕ × Atom)) → Items table bs items → ComeBack items
 items_again table bs [] h id = refl
 items_again table bs (i ∷ items) h id = by_test (eqb i.0 id) refl (items_again table h.1 items h.5 id)
   where
-    value : i.0 ≡ id → kept_as (kind_among kinds id) i.1 ≡ i.1
-    value same = ap (λ o. kept_as o i.1) (ap (kind_among kinds) (sym same) ∙ h.4.2.1) ∙ kind_again h.4.2.0 h.4.0 i.1 h.4.2.2
+    value : i.0 ≡ id → kept_as (entry_of kinds id) i.1 ≡ i.1
+    value same = ap (λ o. kept_as o i.1) (ap (entry_of kinds) (sym same) ∙ h.4.2.1) ∙ kind_again h.4.2.0 h.4.0 i.1 h.4.2.2
 
-    by_test : (b : Bool) → eqb i.0 id ≡ b → map (kept_as (kind_among kinds id)) (values_of id items) ≡ values_of id items
-        → map (kept_as (kind_among kinds id)) (cond b (i.1 ∷ values_of id items) (values_of id items)) ≡ cond b (i.1 ∷ values_of id items) (values_of id items)
+    by_test : (b : Bool) → eqb i.0 id ≡ b → map (kept_as (entry_of kinds id)) (values_of id items) ≡ values_of id items
+        → map (kept_as (entry_of kinds id)) (cond b (i.1 ∷ values_of id items) (values_of id items)) ≡ cond b (i.1 ∷ values_of id items) (values_of id items)
     by_test true e rest = λ j. value (eqb-true i.0 id e) j ∷ rest j
     by_test false e rest = rest
 

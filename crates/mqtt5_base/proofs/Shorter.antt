@@ -5,7 +5,7 @@ use Rattle.std.specs.Str.{is_utf8}
 use Rattle.mqtt5_base.specs.declared.error.Error.{Error}
 use Rattle.mqtt5_base.specs.declared.error.Error.TheVariants.{MalformedPacket, BoundaryCrossed, TopicNotUtf8, InvalidPropertyType}
 use Rattle.mqtt5_base.specs.Lengths.{Length, Overlong, Unfinished, Finished, length_at}
-use Rattle.mqtt5_base.specs.Grammar.{Kind, u8, u16, u32, varint, bytes, text, pair, Entry, Found, allows, kinds, kind_among}
+use Rattle.mqtt5_base.specs.Grammar.{Kind, u8, u16, u32, varint, bytes, text, pair, Entry, Found, allows, kinds, entry_of}
 use Rattle.mqtt5_base.specs.Reading.{◌>>=◌, number_at, bytes_at, text_at, by_length, var_int_at, atom_at, atom_of_kind, property_at, item_at, with_item}
 
 abbrev AtMost : {X : Type 0} → ℕ → Result (X × List ℕ) Error → Type 0
@@ -67,7 +67,7 @@ byte_again b rest = grind arith
 item_most : (table : List Entry) (found : Found) (b : ℕ) (bs : List ℕ) → AtMost (length bs) (item_at table found (b ∷ bs))
 unfolding item_at property_at
 item_most table found b bs =
-    rw (byte_again b bs) (cond_most (length bs) (allows table b) (atom_of_kind (kind_among kinds b) b bs >>= λ a. Ok (with_item table b a.0 found, a.1)) (Err (InvalidPropertyType b)) (seen_most (length bs) (atom_of_kind (kind_among kinds b) b bs) (λ a. with_item table b a found) (kind_most (kind_among kinds b) b bs)) tt)
+    rw (byte_again b bs) (cond_most (length bs) (allows table b) (atom_of_kind (entry_of kinds b) b bs >>= λ a. Ok (with_item table b a.0 found, a.1)) (Err (InvalidPropertyType b)) (seen_most (length bs) (atom_of_kind (entry_of kinds b) b bs) (λ a. with_item table b a found) (kind_most (entry_of kinds b) b bs)) tt)
 
 read_most : {X : Type 0} (n : ℕ) (r : Result (X × List ℕ) Error) (x : X × List ℕ) → AtMost n r → r ≡ Ok x → length x.1 ≤ n
 read_most n (Ok y) x h e = let same : y ≡ x = cc in subst (λ z. length z.1 ≤ n) same h

@@ -3,7 +3,7 @@ use Rattle.std.proofs.Common.{◌≡◌, ℕ, ◌<◌, Bool, true, false, cond, 
 use Rattle.std.proofs.lemmas.Bool.{false≢true}
 use Rattle.std.proofs.lemmas.List.{append-nil}
 use Rattle.mqtt5_base.specs.declared.error.Error.{Error}
-use Rattle.mqtt5_base.specs.Grammar.{Atom, number_of, content, Value, plain, properties, atom_of, Test, Wrong, passes, fault_of, Field, one, checked, block, remainder, Condition, always, longer, set, Step, field, raw, note, judge, more, Known, cut_in, holds, with_value, with_raw}
+use Rattle.mqtt5_base.specs.Grammar.{Atom, number_of, content, Value, plain, properties, atom_of, Test, passes, Field, one, checked, block, remainder, Condition, always, longer, set, Step, field, raw, note, judge, more, Known, cut_in, holds, with_value, with_raw}
 use Rattle.mqtt5_base.specs.Reading.{◌>>=◌, field_at, optional_at, optional_judged, some_left, read_steps}
 use Rattle.mqtt5_base.specs.Layout.{WrittenGroup, found_of, field_bytes, is_written, steps_bytes, atom_bytes, atom_fits, field_fits, steps_fit, is_listed, unless_wrong}
 use Rattle.mqtt5_base.specs.Sets.{AtomIs, IsBlockOf, apart}
@@ -70,7 +70,7 @@ judged_ok false c r e y h = (λ z. absurd (false≢true z), h)
 field_ok : (c : Condition) (f : Field) (d : Value) (steps : List Step) (w : Known) (raws : List Value) (v : Value) (kept : List Value) (gs : List WrittenGroup) (next : Result (List ℕ) Error) (bs : List ℕ)
     → unless_wrong (field c f d ∷ steps) w raws (v ∷ kept) gs next ≡ Ok bs → (is_written false w c ≡ true → passing f v ≡ true) × (unless_wrong steps (with_value w v) raws kept gs next ≡ Ok bs)
 field_ok c (one k) d steps w raws v kept gs next bs h = (λ _. refl, h)
-field_ok c (checked k t e) d steps w raws v kept gs next bs h = judged_ok (is_written false w c) (passes t (atom_of v)) (unless_wrong steps (with_value w v) raws kept gs next) (fault_of e (number_of (atom_of v))) bs h
+field_ok c (checked k t e) d steps w raws v kept gs next bs h = judged_ok (is_written false w c) (passes t (atom_of v)) (unless_wrong steps (with_value w v) raws kept gs next) (e (number_of (atom_of v))) bs h
 field_ok c (block table) d steps w raws v kept gs next bs h = (λ _. refl, h)
 field_ok c remainder d steps w raws v kept gs next bs h = (λ _. refl, h)
 
@@ -87,8 +87,8 @@ next_written (raw k ∷ steps) w (v ∷ raws) kept gs next bs h = next_written s
 next_written (note c ∷ steps) w raws [] gs next bs h = h
 next_written (note c ∷ steps) w raws (v ∷ kept) gs next bs h = next_written steps (with_value w v) raws kept gs next bs h
 next_written (judge c s t e ∷ steps) w raws kept gs next bs h =
-    next_written steps w raws kept gs next bs (judged_ok (is_written false w c) (passes t (cut_in w s)) (unless_wrong steps w raws kept gs next) (fault_of e (number_of (cut_in w s))) bs h).1
-next_written (more e ∷ steps) w raws kept gs next bs h = next_written steps w raws kept gs next bs (chosen_ok (is_listed gs) (unless_wrong steps w raws kept gs next) (fault_of e 0) bs h).1
+    next_written steps w raws kept gs next bs (judged_ok (is_written false w c) (passes t (cut_in w s)) (unless_wrong steps w raws kept gs next) (e (number_of (cut_in w s))) bs h).1
+next_written (more e ∷ steps) w raws kept gs next bs h = next_written steps w raws kept gs next bs (chosen_ok (is_listed gs) (unless_wrong steps w raws kept gs next) e bs h).1
 
 -- what a short body has, a long one has
 in_long : (short : Bool) (w : Known) (c : Condition) → is_written short w c ≡ true → is_written false w c ≡ true
@@ -131,12 +131,12 @@ abbrev pub after_steps : Known → List ℕ → Result (Known × List ℕ) Error
 after_steps k bs = Ok (k, bs)
 
 -- a judgement that was passed in writing is passed in reading
-judge_again : (b : Bool) (t : Test) (e : Wrong) (a : Atom) → (b ≡ true → passes t a ≡ true) → optional_judged b t e a ≡ Ok a
+judge_again : (b : Bool) (t : Test) (e : ℕ → Error) (a : Atom) → (b ≡ true → passes t a ≡ true) → optional_judged b t e a ≡ Ok a
 judge_again true t e a pass = rw (pass refl) refl
 judge_again false t e a pass = refl
 
 -- bytes that are left are
-left_again : (e : Wrong) (bs : List ℕ) → 0 < length bs → some_left e bs ≡ Ok bs
+left_again : (e : Error) (bs : List ℕ) → 0 < length bs → some_left e bs ≡ Ok bs
 left_again e [] lt = absurd (omega arith)
 left_again e (b ∷ bs) lt = rw (some_bytes b bs) refl
 
@@ -170,10 +170,10 @@ steps_again short gs (note c ∷ steps) w r raws (v ∷ kept) rest next bs fit p
     let body = steps_bytes short steps (with_value w v) raws kept ++ rest in
     ap (λ (x : Value). read_steps steps (with_value r x) body) (sym suits.0) ∙ steps_again short gs steps (with_value w v) (with_value r v) raws kept rest next bs fit pass suits.1
 steps_again short gs (judge c s t e ∷ steps) w r raws kept rest next bs fit pass suits =
-    let ok = judged_ok (is_written false w c) (passes t (cut_in w s)) (unless_wrong steps w raws kept gs next) (fault_of e (number_of (cut_in w s))) bs pass in
+    let ok = judged_ok (is_written false w c) (passes t (cut_in w s)) (unless_wrong steps w raws kept gs next) (e (number_of (cut_in w s))) bs pass in
     let here : optional_judged (holds r c) t e (cut_in r s) ≡ Ok (cut_in r s) = judge_again (holds r c) t e (cut_in r s) (λ z. let same = suits.0 z in ap (passes t) (sym same.1) ∙ ok.0 same.0) in
     ap (λ (y : Result Atom Error). y >>= λ a. read_steps steps r (steps_bytes short steps w raws kept ++ rest)) here ∙ steps_again short gs steps w r raws kept rest next bs fit ok.1 suits.1
 steps_again short gs (more e ∷ steps) w r raws kept rest next bs fit pass suits =
     let body = steps_bytes short steps w raws kept ++ rest in
-    let ok = chosen_ok (is_listed gs) (unless_wrong steps w raws kept gs next) (fault_of e 0) bs pass in
+    let ok = chosen_ok (is_listed gs) (unless_wrong steps w raws kept gs next) e bs pass in
     ap (λ (y : Result (List ℕ) Error). y >>= λ b. read_steps steps r body) (left_again e body (suits.0 ok.0)) ∙ steps_again short gs steps w r raws kept rest next bs fit ok.1 suits.1

@@ -28,7 +28,7 @@ Says view (Err e) Holds First = (e ≡ OutOfMemory → ⊥) → First e
 
 -- The body of a frame, of which the header is, is a row's fields of what was answered, seen by view, and bytes after them;
 -- or the error is the row's first fault, unless memory ran out. The contracts of readers say this (3).
-abbrev pub ReadsRow : {X : Type 0} → (X → Content) → Row → FixedHeader → List ℕ → Result X Error → Type 0
+unfoldable pub ReadsRow : {X : Type 0} → (X → Content) → Row → FixedHeader → List ℕ → Result X Error → Type 0
 ReadsRow view row h frame result =
     let body = drop h.fixed_header_len frame in
     Says view result (λ c. (rest : List ℕ) × IsRow row h.byte1 h.remaining_len body c rest) (RowFault row h.byte1 h.remaining_len body)

@@ -6,7 +6,7 @@ use Rattle.std.specs.Str.{is_utf8}
 use Rattle.mqtt5_base.specs.declared.error.Error.{Error}
 use Rattle.mqtt5_base.specs.declared.error.Error.TheVariants.{MalformedPacket, MalformedRemainingLength, BoundaryCrossed, TopicNotUtf8, InvalidPropertyType}
 use Rattle.mqtt5_base.specs.VarInt.{VarInt}
-use Rattle.mqtt5_base.specs.Grammar.{Kind, u8, u16, u32, varint, bytes, text, pair, Atom, Entry, allows, kinds, kind_among, number_of, passes, fault_of, Value, plain, Field, one, checked, block, remainder, Step, field, raw, note, judge, more, Part, choice, filled, each, Row, Group, Known, under, with_value, with_raw, cut_in, holds, number_in}
+use Rattle.mqtt5_base.specs.Grammar.{Kind, u8, u16, u32, varint, bytes, text, pair, Atom, Entry, allows, kinds, entry_of, number_of, passes, Value, plain, Field, one, checked, block, remainder, Step, field, raw, note, judge, more, Part, choice, filled, each, Row, Group, Known, under, with_value, with_raw, cut_in, holds, number_in}
 use Rattle.mqtt5_base.specs.Fields.{Takes, IsNumber, IsContent, IsText, IsKind, IsProperty, TakesField, Fields, Kept, repeated, IsPart}
 
 -- ---- one value
@@ -50,7 +50,7 @@ KindFault pair bs e = TextFault bs e ⊎ ((k : List ℕ) × (after : List ℕ) �
 abbrev pub ItemFault : List Entry → ℕ → List ℕ → Error → Type 0
 ItemFault table id bs e =
     ((allows table id ≡ false) × (e ≡ InvalidPropertyType id))
-    ⊎ ((allows table id ≡ true) × (((kind_among kinds id ≡ None) × (e ≡ InvalidPropertyType id)) ⊎ ((k : Kind) × (kind_among kinds id ≡ Some k) × KindFault k bs e)))
+    ⊎ ((allows table id ≡ true) × (((entry_of kinds id ≡ None) × (e ≡ InvalidPropertyType id)) ⊎ ((k : Kind) × (entry_of kinds id ≡ Some k) × KindFault k bs e)))
 
 -- the fault of the first item after these (2.2.2.2)
 abbrev pub FaultAfter : List Entry → List ℕ → List (ℕ × Atom) → Error → Type 0
@@ -71,7 +71,7 @@ BlockFault table bs e =
 abbrev pub FieldFault : Field → List ℕ → Error → Type 0
 FieldFault (one k) bs e = KindFault k bs e
 FieldFault (checked k t w) bs e =
-    KindFault k bs e ⊎ ((a : Atom) × (after : List ℕ) × Takes (λ front. IsKind k front a) bs after × ((passes t a ≡ false) × (e ≡ fault_of w (number_of a))))
+    KindFault k bs e ⊎ ((a : Atom) × (after : List ℕ) × Takes (λ front. IsKind k front a) bs after × ((passes t a ≡ false) × (e ≡ w (number_of a))))
 FieldFault (block table) bs e = BlockFault table bs e
 FieldFault remainder bs e = ⊥
 
@@ -87,9 +87,9 @@ Faulty (field c f d ∷ steps) known body e = FaultIf (holds known c) f body e �
 Faulty (raw k ∷ steps) known body e = KindFault k body e ⊎ ((a : Atom) × (after : List ℕ) × Takes (λ front. IsKind k front a) body after × Faulty steps (with_raw known (plain a)) after e)
 Faulty (note c ∷ steps) known body e = Faulty steps (with_value known (plain (cut_in known c))) body e
 Faulty (judge c s t w ∷ steps) known body e =
-    ((holds known c ≡ true) × (passes t (cut_in known s) ≡ false) × (e ≡ fault_of w (number_of (cut_in known s))))
+    ((holds known c ≡ true) × (passes t (cut_in known s) ≡ false) × (e ≡ w (number_of (cut_in known s))))
     ⊎ ((holds known c ≡ true → passes t (cut_in known s) ≡ true) × Faulty steps known body e)
-Faulty (more w ∷ steps) known body e = ((length body ≡ 0) × (e ≡ fault_of w 0)) ⊎ ((0 < length body) × Faulty steps known body e)
+Faulty (more w ∷ steps) known body e = ((length body ≡ 0) × (e ≡ w)) ⊎ ((0 < length body) × Faulty steps known body e)
 
 -- ---- parts (3)
 

@@ -4,7 +4,7 @@ use Rattle.std.specs.Prelude.{◌≡◌, ℕ, ◌<◌, Bool, true, false, List, 
 use Rattle.std.specs.Int.{Width, w8, w16, w32, byte_len, from_be_bytes}
 use Rattle.std.specs.Str.{is_utf8}
 use Rattle.mqtt5_base.specs.VarInt.{VarInt}
-use Rattle.mqtt5_base.specs.Grammar.{Kind, u8, u16, u32, varint, bytes, text, pair, Atom, number, content, couple, Entry, Found, allows, kinds, kind_among, passes, Value, plain, properties, Field, one, checked, block, remainder, always, Step, field, raw, note, judge, more, Part, choice, filled, each, Row, Group, optional, several, Content, Known, under, with_value, with_raw, number_in, cut_in, holds, unless_empty}
+use Rattle.mqtt5_base.specs.Grammar.{Kind, u8, u16, u32, varint, bytes, text, pair, Atom, number, content, couple, Entry, Found, allows, kinds, entry_of, passes, Value, plain, properties, Field, one, checked, block, remainder, always, Step, field, raw, note, judge, more, Part, choice, filled, each, Row, Group, optional, several, Content, Known, under, with_value, with_raw, number_in, cut_in, holds, unless_empty}
 
 -- the body begins with such bytes, and these are after them
 abbrev pub Takes : (List ℕ → Type 0) → List ℕ → List ℕ → Type 0
@@ -38,7 +38,7 @@ IsKind pair front a = (first second : List ℕ) × (k v : List ℕ) × (front �
 
 -- a value of that property (2.2.2.2)
 abbrev pub IsProperty : ℕ → List ℕ → Atom → Type 0
-IsProperty id front a = (k : Kind) × (kind_among kinds id ≡ Some k) × IsKind k front a
+IsProperty id front a = (k : Kind) × (entry_of kinds id ≡ Some k) × IsKind k front a
 
 -- the block is the items one after the other, each an allowed identifier and a value of its kind (2.2.2.2)
 abbrev pub Items : List Entry → List ℕ → List (ℕ × Atom) → Type 0

@@ -1,20 +1,15 @@
 -- Whole frames: the first byte, the remaining length and the body (MQTT 5.0 sections 2.1 and 3).
-use Rattle.std.specs.Prelude.{◌≡◌, ℕ, ◌/◌, Bool, true, false, not, ◌&&◌, List, [], ◌∷◌, ◌++◌, length, Option, Some, None, ◌==◌, if◌then◌else◌, ◌⊎◌}
+use Rattle.std.specs.Prelude.{◌≡◌, ℕ, ◌/◌, Bool, true, false, not, ◌&&◌, List, ◌∷◌, ◌++◌, length, Some, None, ◌==◌, ◌⊎◌}
 use Rattle.mqtt5_base.specs.declared.error.Error.{Error}
 use Rattle.mqtt5_base.specs.declared.error.Error.TheVariants.{InvalidPacketType, PayloadRequired}
 use Rattle.mqtt5_base.specs.VarInt.{VarInt}
-use Rattle.mqtt5_base.specs.Grammar.{Row, Content}
+use Rattle.mqtt5_base.specs.Grammar.{entry_of, Row, Content}
 use Rattle.mqtt5_base.specs.Fields.{IsRow}
 use Rattle.mqtt5_base.specs.Faults.{RowFault}
 
 -- a table has the row of each packet type that is read (2.1.2)
 abbrev pub Rows : Type 0
 Rows = List (ℕ × Row)
-
--- the row of a packet type, if the type is read (2.1.2)
-abbrev pub row_among : Rows → ℕ → Option Row
-row_among [] kind = None
-row_among (r ∷ rows) kind = if kind == r.0 then Some r.1 else row_among rows kind
 
 -- whether a body is missing that the type needs (3)
 abbrev pub lacks_body : Row → List ℕ → Bool
@@ -24,13 +19,13 @@ lacks_body row body = length body == 0 && not row.bare
 -- bytes after the last field are ignored.
 abbrev pub IsFrame : Rows → ℕ → List ℕ → Content → Type 0
 IsFrame rows first body p =
-    (row : Row) × (row_among rows (first / 16) ≡ Some row) × (lacks_body row body ≡ false) × (rest : List ℕ) × IsRow row first (length body) body p rest
+    (row : Row) × (entry_of rows (first / 16) ≡ Some row) × (lacks_body row body ≡ false) × (rest : List ℕ) × IsRow row first (length body) body p rest
 
 -- no type that is read (2.1.2), no body where one is needed, or the row's first fault (3)
 abbrev pub FrameFault : Rows → ℕ → List ℕ → Error → Type 0
 FrameFault rows first body e =
-    ((row_among rows (first / 16) ≡ None) × (e ≡ InvalidPacketType (first / 16)))
-    ⊎ ((row : Row) × (row_among rows (first / 16) ≡ Some row)
+    ((entry_of rows (first / 16) ≡ None) × (e ≡ InvalidPacketType (first / 16)))
+    ⊎ ((row : Row) × (entry_of rows (first / 16) ≡ Some row)
     × (((lacks_body row body ≡ true) × (e ≡ PayloadRequired)) ⊎ ((lacks_body row body ≡ false) × RowFault row first (length body) body e)))
 
 -- these bytes are a first byte, the length of the body and the body (2.1)

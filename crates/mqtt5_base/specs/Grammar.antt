@@ -3,7 +3,6 @@ use Rattle.std.specs.Prelude.{ℕ, zero, suc, ◌/◌, ◌%◌, Bool, true, fals
 use Rattle.std.specs.List.{list_all, list_any}
 use Rattle.std.specs.Str.{bytes_eq}
 use Rattle.mqtt5_base.specs.declared.error.Error.{Error}
-use Rattle.mqtt5_base.specs.declared.error.Error.TheVariants.{InvalidConnectReturnCode, InvalidProtocol, InvalidProtocolLevel, IncorrectPacketFormat, InvalidPacketType, InvalidRetainForwardRule, InvalidQoS, InvalidSubscribeReasonCode, PacketIdZero, EmptySubscription, MalformedPacket}
 
 -- ---- one value (1.5)
 
@@ -65,10 +64,10 @@ kinds =
     ∷ (24, u32) ∷ (25, u8) ∷ (26, text) ∷ (28, text) ∷ (31, text) ∷ (33, u16) ∷ (34, u16) ∷ (35, u16) ∷ (36, u8) ∷ (37, u8) ∷ (38, pair) ∷ (39, u32)
     ∷ (40, u8) ∷ (41, u8) ∷ (42, u8) ∷ []
 
--- the kind of an identifier, if it has one
-abbrev pub kind_among : List (ℕ × Kind) → ℕ → Option Kind
-kind_among [] id = None
-kind_among (k ∷ ks) id = if id == k.0 then Some k.1 else kind_among ks id
+-- what a table has for a number, if it has the number
+abbrev pub entry_of : {A : Type 0} → List (ℕ × A) → ℕ → Option A
+entry_of [] n = None
+entry_of (e ∷ es) n = if n == e.0 then Some e.1 else entry_of es n
 
 -- ---- judgements (3)
 
@@ -77,34 +76,6 @@ pub data Test : Type 0 where
   any_of : List ℕ → Test
   not_zero : Test
   spells : List ℕ → Test
-
--- what is wrong with a value that isn't
-pub data Wrong : Type 0 where
-  bad_reason : Wrong
-  bad_protocol : Wrong
-  bad_level : Wrong
-  bad_flags : Wrong
-  bad_type : Wrong
-  bad_rule : Wrong
-  bad_qos : Wrong
-  bad_subscribe_reason : Wrong
-  zero_id : Wrong
-  no_filters : Wrong
-  malformed : Wrong
-
--- the fault, of the number that is wrong
-abbrev pub fault_of : Wrong → ℕ → Error
-fault_of bad_reason n = InvalidConnectReturnCode n
-fault_of bad_protocol n = InvalidProtocol
-fault_of bad_level n = InvalidProtocolLevel n
-fault_of bad_flags n = IncorrectPacketFormat
-fault_of bad_type n = InvalidPacketType n
-fault_of bad_rule n = InvalidRetainForwardRule n
-fault_of bad_qos n = InvalidQoS n
-fault_of bad_subscribe_reason n = InvalidSubscribeReasonCode n
-fault_of zero_id n = PacketIdZero
-fault_of no_filters n = EmptySubscription
-fault_of malformed n = MalformedPacket
 
 -- whether a number is one of these
 abbrev pub is_among : List ℕ → ℕ → Bool
@@ -131,8 +102,8 @@ atom_of (properties p) = number 0
 -- a field: one value, one that is judged, a property block, or all that is left
 pub data Field : Type 0 where
   one : Kind → Field
-  -- a value that is judged
-  checked : Kind → Test → Wrong → Field
+  -- a value that is judged, and the fault of a number that isn't what it must be
+  checked : Kind → Test → (ℕ → Error) → Field
   block : List Entry → Field
   -- all bytes that are left
   remainder : Field
@@ -164,10 +135,10 @@ pub data Step : Type 0 where
   raw : Kind → Step
   -- a value, or bits, of what was read before
   note : Cut → Step
-  -- what must be so, where the condition holds
-  judge : Condition → Cut → Test → Wrong → Step
-  -- bytes must be left
-  more : Wrong → Step
+  -- what must be so, where the condition holds, and the fault of a number that isn't
+  judge : Condition → Cut → Test → (ℕ → Error) → Step
+  -- bytes must be left, or else the fault
+  more : Error → Step
 
 -- Steps of their own, after a packet's: under a value that was read, either the second steps, where the condition
 -- holds, or else the first, of which nothing is kept; under a value, steps that stand for nothing where each of their

@@ -1,4 +1,4 @@
--- A property as its identifier and its value (MQTT 5.0 section 2.2.2.2).
+-- This file serves the logic alone: a property as its identifier and its value (MQTT 5.0 section 2.2.2.2).
 use Rattle.std.specs.Prelude.{ℕ}
 use Rattle.mqtt5_base.specs.Grammar.{Atom, number, content, couple}
 use Rattle.mqtt5_base.specs.declared.property.Property.{Property}

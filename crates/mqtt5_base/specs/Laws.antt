@@ -9,7 +9,7 @@ use Rattle.mqtt5_base.specs.declared.quality.QoS.TheVariants.{AtMostOnce}
 use Rattle.mqtt5_base.specs.contracts.quality.QoSOrd.TheImpl as order
 use Rattle.mqtt5_base.specs.contracts.quality.QoSDefault.TheImpl as default
 use Rattle.mqtt5_base.specs.VarInt.{VarInt, var_int}
-use Rattle.mqtt5_base.specs.Grammar.{Kind, Atom, Value, Entry, Test, Wrong, passes, fault_of, number_of, Part, Row}
+use Rattle.mqtt5_base.specs.Grammar.{Kind, Atom, Value, Entry, Test, passes, number_of, Part, Row}
 use Rattle.mqtt5_base.specs.Fields.{Takes, IsNumber, IsContent, IsText, IsKind, props, IsBlock, IsPart, IsRow}
 use Rattle.mqtt5_base.specs.Faults.{NumberFault, VarIntFault, ContentFault, TextFault, KindFault, BlockFault, PartFault, RowFault}
 use Rattle.mqtt5_base.specs.Frames.{Rows, IsFrame, FrameFault}
@@ -40,7 +40,7 @@ pub record IsGrammar : Type 0 where
   pub blocks : (table : List Entry) (bs : List ℕ) → Reads (block_at table bs) (λ x. Takes (λ front. IsBlock table front x.0) bs x.1) (BlockFault table bs)
   pub no_items : (table : List Entry) → none_of table ≡ props table []
   pub one_more : (table : List Entry) (items : List (ℕ × Atom)) (id : ℕ) (a : Atom) → with_item table id a (props table items) ≡ props table (items ++ (id, a) ∷ [])
-  pub judgements : (t : Test) (w : Wrong) (a : Atom) → Reads (judged t w a) (λ b. (passes t a ≡ true) × (b ≡ a)) (λ e. (passes t a ≡ false) × (e ≡ fault_of w (number_of a)))
+  pub judgements : (t : Test) (w : ℕ → Error) (a : Atom) → Reads (judged t w a) (λ b. (passes t a ≡ true) × (b ≡ a)) (λ e. (passes t a ≡ false) × (e ≡ w (number_of a)))
   pub parts : (p : Part) (values : List Value) (bs : List ℕ) → Reads (part_at p values bs) (λ x. IsPart p values bs x.0 x.1) (PartFault p values bs)
   pub rows : (row : Row) (first len : ℕ) (body : List ℕ) → Reads (read_row row first len body) (λ x. IsRow row first len body x.0 x.1) (RowFault row first len body)
   pub values : (row : Row) (first len : ℕ) (body : List ℕ) → Reads (values_in row first len body) (λ p. (rest : List ℕ) × IsRow row first len body p rest) (RowFault row first len body)

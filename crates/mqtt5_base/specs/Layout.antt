@@ -5,7 +5,7 @@ use Rattle.std.specs.List.{flat_map, list_all}
 use Rattle.mqtt5_base.specs.declared.error.Error.{Error}
 use Rattle.mqtt5_base.specs.declared.error.Error.TheVariants.{PayloadTooLong}
 use Rattle.mqtt5_base.specs.VarInt.{var_int}
-use Rattle.mqtt5_base.specs.Grammar.{Kind, u8, u16, u32, varint, Atom, number, content, couple, number_of, content_of, Entry, Found, kinds, kind_among, passes, fault_of, Value, plain, properties, atom_of, Field, one, checked, block, remainder, Condition, always, longer, set, Step, field, raw, note, judge, more, Part, choice, filled, each, Row, Group, optional, several, Content, Known, under, with_value, with_raw, cut_in, number_in}
+use Rattle.mqtt5_base.specs.Grammar.{Kind, u8, u16, u32, varint, Atom, number, content, couple, number_of, content_of, Entry, Found, kinds, entry_of, passes, Value, plain, properties, atom_of, Field, one, checked, block, remainder, Condition, always, longer, set, Step, field, raw, note, judge, more, Part, choice, filled, each, Row, Group, optional, several, Content, Known, under, with_value, with_raw, cut_in, number_in}
 use Rattle.mqtt5_base.specs.Fields.{repeated}
 
 -- ---- a packet as it is written (3)
@@ -53,19 +53,15 @@ content_of_packet p = (p.head.kept, map group_of p.groups)
 abbrev pub with_length : List ℕ → List ℕ
 with_length bs = to_be_bytes w16 (length bs) ++ bs
 
--- the bytes of binary data, of a text, or of two texts (1.5.4, 1.5.6, 1.5.7)
-abbrev pub content_bytes : Atom → List ℕ
-content_bytes (number n) = []
-content_bytes (content c) = with_length c
-content_bytes (couple a b) = with_length a ++ with_length b
-
--- the bytes of a value of a kind (1.5)
+-- the bytes of a value of a kind: of a number, of binary data or a text, and of two texts (1.5)
 abbrev pub atom_bytes : Kind → Atom → List ℕ
 atom_bytes u8 a = number_of a ∷ []
 atom_bytes u16 a = to_be_bytes w16 (number_of a)
 atom_bytes u32 a = to_be_bytes w32 (number_of a)
 atom_bytes varint a = var_int (number_of a)
-atom_bytes k a = content_bytes a
+atom_bytes k (number n) = []
+atom_bytes k (content c) = with_length c
+atom_bytes k (couple a b) = with_length a ++ with_length b
 
 -- the bytes of values, each behind its identifier (2.2.2.2)
 abbrev pub tagged : ℕ → Kind → List Atom → List ℕ
@@ -80,7 +76,7 @@ tagged_by id (Some k) here = tagged id k here
 abbrev pub items_bytes : List Entry → Found → List ℕ
 items_bytes [] found = []
 items_bytes (e ∷ es) [] = []
-items_bytes (e ∷ es) (here ∷ found) = tagged_by e.id (kind_among kinds e.id) here ++ items_bytes es found
+items_bytes (e ∷ es) (here ∷ found) = tagged_by e.id (entry_of kinds e.id) here ++ items_bytes es found
 
 -- the length of the items, and the items; of an absent set the length 0 (2.2.2.1)
 abbrev pub block_bytes : List Entry → Option Found → List ℕ
@@ -221,7 +217,7 @@ all_fit_by (Some k) here = all_fit k here
 abbrev pub items_fit : List Entry → Found → Bool
 items_fit [] found = true
 items_fit (e ∷ es) [] = true
-items_fit (e ∷ es) (here ∷ found) = all_fit_by (kind_among kinds e.id) here && items_fit es found
+items_fit (e ∷ es) (here ∷ found) = all_fit_by (entry_of kinds e.id) here && items_fit es found
 
 -- whether each property fits, and the length of the items (2.2.2.1)
 abbrev pub block_fits : List Entry → Option Found → Bool
@@ -289,13 +285,13 @@ is_listed gs = false
 -- why the values of steps aren't written: the first judgement that they fail, with what follows
 abbrev pub unless_wrong : List Step → Known → List Value → List Value → List WrittenGroup → Result (List ℕ) Error → Result (List ℕ) Error
 unless_wrong (field c (checked k t w) d ∷ steps) known raws (v ∷ kept) gs next =
-    if is_written false known c then (if passes t (atom_of v) then unless_wrong steps (with_value known v) raws kept gs next else Err (fault_of w (number_of (atom_of v)))) else unless_wrong steps (with_value known v) raws kept gs next
+    if is_written false known c then (if passes t (atom_of v) then unless_wrong steps (with_value known v) raws kept gs next else Err (w (number_of (atom_of v)))) else unless_wrong steps (with_value known v) raws kept gs next
 unless_wrong (field c f d ∷ steps) known raws (v ∷ kept) gs next = unless_wrong steps (with_value known v) raws kept gs next
 unless_wrong (raw k ∷ steps) known (v ∷ raws) kept gs next = unless_wrong steps (with_raw known v) raws kept gs next
 unless_wrong (note c ∷ steps) known raws (v ∷ kept) gs next = unless_wrong steps (with_value known v) raws kept gs next
 unless_wrong (judge c s t w ∷ steps) known raws kept gs next =
-    if is_written false known c then (if passes t (cut_in known s) then unless_wrong steps known raws kept gs next else Err (fault_of w (number_of (cut_in known s)))) else unless_wrong steps known raws kept gs next
-unless_wrong (more w ∷ steps) known raws kept gs next = if is_listed gs then unless_wrong steps known raws kept gs next else Err (fault_of w 0)
+    if is_written false known c then (if passes t (cut_in known s) then unless_wrong steps known raws kept gs next else Err (w (number_of (cut_in known s)))) else unless_wrong steps known raws kept gs next
+unless_wrong (more w ∷ steps) known raws kept gs next = if is_listed gs then unless_wrong steps known raws kept gs next else Err w
 unless_wrong steps known raws kept gs next = next
 
 -- The packet's bytes, or why it isn't writable: what is too long first, then the first judgement of its row.

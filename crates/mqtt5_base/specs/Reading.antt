@@ -5,9 +5,9 @@ use Rattle.std.specs.Str.{is_utf8}
 use Rattle.mqtt5_base.specs.declared.error.Error.{Error}
 use Rattle.mqtt5_base.specs.declared.error.Error.TheVariants.{MalformedPacket, MalformedRemainingLength, BoundaryCrossed, TopicNotUtf8, InvalidPropertyType, InvalidPacketType, PayloadRequired}
 use Rattle.mqtt5_base.specs.Lengths.{Length, Overlong, Unfinished, Finished, length_at}
-use Rattle.mqtt5_base.specs.Grammar.{Kind, u8, u16, u32, varint, bytes, text, pair, Atom, number, content, couple, Entry, Found, allows, kinds, kind_among, Test, Wrong, fault_of, number_of, passes, Value, plain, properties, Field, one, checked, block, remainder, Step, field, raw, note, judge, more, Part, choice, filled, each, Row, Group, optional, several, Content, Known, under, with_value, with_raw, cut_in, holds, unless_empty, number_in}
+use Rattle.mqtt5_base.specs.Grammar.{Kind, u8, u16, u32, varint, bytes, text, pair, Atom, number, content, couple, Entry, Found, allows, kinds, entry_of, Test, number_of, passes, Value, plain, properties, Field, one, checked, block, remainder, Step, field, raw, note, judge, more, Part, choice, filled, each, Row, Group, optional, several, Content, Known, under, with_value, with_raw, cut_in, holds, unless_empty, number_in}
 use Rattle.mqtt5_base.specs.Fields.{repeated}
-use Rattle.mqtt5_base.specs.Frames.{Rows, row_among, lacks_body}
+use Rattle.mqtt5_base.specs.Frames.{Rows, lacks_body}
 
 -- one after the other, to the first error
 infixl 10 ◌>>=◌
@@ -86,7 +86,7 @@ atom_of_kind (Some k) id bs = atom_at k bs
 
 -- a value of an identifier
 unfoldable pub property_at : ℕ → List ℕ → Result (Atom × List ℕ) Error
-property_at id bs = atom_of_kind (kind_among kinds id) id bs
+property_at id bs = atom_of_kind (entry_of kinds id) id bs
 
 -- an item, added to those before it
 unfoldable pub item_at : List Entry → Found → List ℕ → Result (Found × List ℕ) Error
@@ -108,8 +108,8 @@ block_at table bs = do
 -- ---- steps
 
 -- a value that is judged
-abbrev pub judged : Test → Wrong → Atom → Result Atom Error
-judged t w a = if passes t a then Ok a else Err (fault_of w (number_of a))
+abbrev pub judged : Test → (ℕ → Error) → Atom → Result Atom Error
+judged t w a = if passes t a then Ok a else Err (w (number_of a))
 
 -- a field
 abbrev pub field_at : Field → List ℕ → Result (Value × List ℕ) Error
@@ -124,13 +124,13 @@ optional_at true f d bs = field_at f bs
 optional_at false f d bs = Ok (d, bs)
 
 -- a judgement that may be absent
-abbrev pub optional_judged : Bool → Test → Wrong → Atom → Result Atom Error
+abbrev pub optional_judged : Bool → Test → (ℕ → Error) → Atom → Result Atom Error
 optional_judged true t w a = judged t w a
 optional_judged false t w a = Ok a
 
 -- bytes that must be left
-abbrev pub some_left : Wrong → List ℕ → Result (List ℕ) Error
-some_left w bs = if length bs == 0 then Err (fault_of w 0) else Ok bs
+abbrev pub some_left : Error → List ℕ → Result (List ℕ) Error
+some_left w bs = if length bs == 0 then Err w else Ok bs
 
 -- the steps in order
 abbrev pub read_steps : List Step → Known → List ℕ → Result (Known × List ℕ) Error
@@ -191,7 +191,7 @@ row_values (Some row) first body = if lacks_body row body then Err PayloadRequir
 
 -- the values of a frame
 unfoldable pub frame_values : Rows → ℕ → List ℕ → Result Content Error
-frame_values rows first body = row_values (row_among rows (first / 16)) first body
+frame_values rows first body = row_values (entry_of rows (first / 16)) first body
 
 -- the body behind the remaining length
 abbrev pub body_in : Length → List ℕ → List ℕ

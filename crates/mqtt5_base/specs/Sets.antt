@@ -1,7 +1,7 @@
 -- This file serves the logic alone: what the types of a set's fields say of its values.
 use Rattle.std.specs.Prelude.{◌≡◌, ◌<◌, ◌++◌, Bool, true, false, not, ◌&&◌, List, [], ◌∷◌, Option, Some, None}
 use Rattle.std.specs.Str.{is_utf8}
-use Rattle.mqtt5_base.specs.Grammar.{Kind, u8, u16, u32, varint, bytes, text, pair, Atom, number, content, couple, Entry, Found, allows, kinds, kind_among}
+use Rattle.mqtt5_base.specs.Grammar.{Kind, u8, u16, u32, varint, bytes, text, pair, Atom, number, content, couple, Entry, Found, allows, kinds, entry_of}
 
 -- what the type of a field says of its value
 abbrev pub AtomIs : Kind → Atom → Type 0
@@ -35,7 +35,7 @@ Adds false (o ∷ old) (a ∷ here) = ⊥
 -- the values that a property of a set may have
 pub record IsIn (e : Entry) (here : List Atom) : Type 0 where
   pub adds : Adds e.many [] here
-  pub are : AtomsAreBy (kind_among kinds e.id) here
+  pub are : AtomsAreBy (entry_of kinds e.id) here
 
 -- each property has values that it may have
 abbrev pub IsSetOf : List Entry → Found → Type 0

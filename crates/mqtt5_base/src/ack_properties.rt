@@ -4,7 +4,7 @@ ghost use Rattle.std.specs.Prelude.{◌≡◌, [], None};
 ghost use Rattle.mqtt5_base.specs.AckSets.{ack_table, ack_found};
 
 use crate::exact::Exact;
-use crate::property::{Property, PropertySet};
+use crate::property::{Property, PropertyBlock, PropertySet};
 use crate::sequence::Sequence;
 use crate::tagged::Tagged;
 use crate::text::Text;
@@ -75,6 +75,8 @@ impl PropertySet for AckProperties {
         self.user_properties.values_known();
     }
 }
+
+impl PropertyBlock for AckProperties {}
 
 /// A clone is the same set, and `==` decides equality.
 impl Exact for AckProperties {

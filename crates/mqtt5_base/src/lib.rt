@@ -29,7 +29,7 @@ pub use mqttbytes::{
     has_wildcards, matches, matching_laws, qos, read_qos, valid_filter, valid_topic,
 };
 pub use property::{
-    Property, PropertySet, block_fits, block_known, block_len, put_block, read_block,
+    Property, PropertyBlock, PropertySet, block_fits, block_known, block_len, put_block, read_block,
 };
 pub use quality::QoS;
 pub use sequence::Sequence;

@@ -1,7 +1,7 @@
 //! Rules that all packets share: the QoS of a number, topic names and topic filters.
 
 ghost use Rattle.std.specs.Prelude.{◌≡◌, ◌<◌, IsSome, IfSome, ◌↔◌};
-ghost use Rattle.mqtt5_base.specs.Grammar.{bad_qos, is_among, is_qos, number};
+ghost use Rattle.mqtt5_base.specs.Grammar.{is_among, is_qos, number};
 ghost use Rattle.mqtt5_base.specs.Answers.{Finds};
 ghost use Rattle.mqtt5_base.specs.Reading.{judged};
 ghost use Rattle.mqtt5_base.specs.Topics.{IsMatching, covers, has_wildcards, is_inner, is_reserved, is_valid_filter, is_valid_topic, levels, match_levels, stands_alone, topic_matches};
@@ -25,7 +25,7 @@ pub fn qos(num: u8) -> Option<QoS>
 
 /// The QoS of a number that was read; E7 where it isn't 0, 1 or 2. Takes no memory.
 pub fn read_qos(num: u8) -> Result<QoS, Error>
-    ensures { Finds (λ q. number (qos_number q)) result (judged is_qos bad_qos (number num)) }
+    ensures { Finds (λ q. number (qos_number q)) result (judged is_qos Error.InvalidQoS (number num)) }
 {
     qos(num).ok_or(Error::InvalidQoS(num))
 }

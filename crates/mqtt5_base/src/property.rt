@@ -118,7 +118,7 @@ fn read_property(alloc: Global, id: u8, block: &mut Bytes) -> Result<Property, E
     })
 }
 
-/// The properties that one kind of packet may have.
+/// The properties that one kind of packet may have: what a set is read and written by.
 pub trait PropertySet: Drop {
     /// Which they are, in the order of writing.
     ghost table: { List Entry };
@@ -158,35 +158,6 @@ pub trait PropertySet: Drop {
     /// Says of its values what the types of its fields do. A law: it changes nothing.
     fn set_known(&self)
         ensures { IsSetOf table (found self.now) };
-
-    /// The set of the block at the front, or None of a block of length 0, and takes the block out.
-    /// E16 or E17 of the length, E15 with the length where fewer bytes are there, else the fault of
-    /// the first item that can't be read: E18 of its identifier, E14 to E17 of its value; E21. After a
-    /// refusal the bytes are unchanged.
-    #[tactic(auto, using(crate::proofs::AnswersLemmas::block_said))]
-    final fn read(alloc: Global, stream: &mut Bytes) -> Result<Option<Self>, Error>
-    where
-        Self: Sized,
-        ensures read { ReadsBlock (λ p. (option_map found p, stream.new)) table stream.old result }
-        ensures kept { OnErr result (stream.new ≡ stream.old) }
-    {
-        read_block(alloc, stream)
-    }
-
-    /// Appends the set as a block. E11 where a text or bytes are over 65,535 bytes, or a subscription
-    /// identifier or the block's length over 268,435,455; E21. The buffer is then unchanged.
-    final fn write(&self, buffer: &mut BytesMut) -> Result<(), Error>
-        ensures { Writes (λ _. tt) (block_writing table (Some (found self.now))) result buffer.old.items buffer.new.items }
-    {
-        let len = self.set_len();
-        if !self.set_fits() || !len.fits() {
-            return Err(Error::PayloadTooLong);
-        }
-        buffer.reserve(varint_len(len) + len)?;
-        len.put_field(buffer);
-        self.put_set(buffer);
-        Ok(())
-    }
 }
 
 #[tactic(auto, unfolding(crate::specs::Reading::item_at))]
@@ -274,6 +245,38 @@ pub fn put_block<P: PropertySet>(properties: &Option<P>, out: &mut BytesMut)
             set.put_set(out);
         }
         None => 0u8.put_field(out),
+    }
+}
+
+/// A property set that is read and written as a block by itself.
+pub trait PropertyBlock: PropertySet {
+    /// The set of the block at the front, or None of a block of length 0, and takes the block out.
+    /// E16 or E17 of the length, E15 with the length where fewer bytes are there, else the fault of
+    /// the first item that can't be read: E18 of its identifier, E14 to E17 of its value; E21. After a
+    /// refusal the bytes are unchanged.
+    #[tactic(auto, using(crate::proofs::AnswersLemmas::block_said))]
+    final fn read(alloc: Global, stream: &mut Bytes) -> Result<Option<Self>, Error>
+    where
+        Self: Sized,
+        ensures read { ReadsBlock (λ p. (option_map Self.found p, stream.new)) Self.table stream.old result }
+        ensures kept { OnErr result (stream.new ≡ stream.old) }
+    {
+        read_block(alloc, stream)
+    }
+
+    /// Appends the set as a block. E11 where a text or bytes are over 65,535 bytes, or a subscription
+    /// identifier or the block's length over 268,435,455; E21. The buffer is then unchanged.
+    final fn write(&self, buffer: &mut BytesMut) -> Result<(), Error>
+        ensures { Writes (λ _. tt) (block_writing Self.table (Some (Self.found self.now))) result buffer.old.items buffer.new.items }
+    {
+        let len = self.set_len();
+        if !self.set_fits() || !len.fits() {
+            return Err(Error::PayloadTooLong);
+        }
+        buffer.reserve(varint_len(len) + len)?;
+        len.put_field(buffer);
+        self.put_set(buffer);
+        Ok(())
     }
 }
 

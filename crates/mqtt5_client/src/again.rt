@@ -22,7 +22,7 @@ pub(crate) fn encode(
 ) -> Result<(), StateError>
     ensures { Replies result (reply_bytes codec.now (Some packet.now)) output.old.items output.new.items }
 {
-    match codec.encode(packet, output) {
+    match codec.write(packet, output) {
         Ok(()) => Ok(()),
         Err(error) => Err(StateError::from(error)),
     }

@@ -64,7 +64,7 @@ fn frame_of(alloc: Global, packet: &Packet) -> Result<BytesMut, Error>
     ensures { IsFrameOf packet.now result }
 {
     let mut frame = BytesMut::new(alloc);
-    NO_LIMITS.encode(packet, &mut frame)?;
+    NO_LIMITS.write(packet, &mut frame)?;
     Ok(frame)
 }
 

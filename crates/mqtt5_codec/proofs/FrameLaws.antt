@@ -2,9 +2,9 @@
 use Rattle.std.proofs.Common.{◌≡◌, ℕ, ◌/◌, Bool, true, false, cond, eqb, List, [], ◌∷◌, length, Option, Some, None, refl, sym, ap, subst, ◌∙◌}
 use Rattle.std.proofs.lemmas.Bool.{eqb-true}
 use Rattle.mqtt5_base.specs.declared.error.Error.{Error}
-use Rattle.mqtt5_base.specs.Grammar.{Row, Content}
+use Rattle.mqtt5_base.specs.Grammar.{Row, Content, entry_of}
 use Rattle.mqtt5_base.specs.Fields.{IsRow}
-use Rattle.mqtt5_base.specs.Frames.{Rows, row_among, IsWhole, IsFrame, FrameFault}
+use Rattle.mqtt5_base.specs.Frames.{Rows, IsWhole, IsFrame, FrameFault}
 use Rattle.mqtt5_base.specs.Reading.{frame_at}
 use Rattle.mqtt5_base.specs.Laws.{Reads}
 use Rattle.mqtt5_base.proofs.ReadsLemmas.{reads_like, reads_map, reads_one}
@@ -69,14 +69,14 @@ unfolding row_or
 same_row r s e = ap (row_or r) e
 
 -- a row of a type that is in a table has the property of each
-row_each : (P : ℕ → Row → Type 0) (rows : Rows) → EachRow P rows → (kind : ℕ) (row : Row) → row_among rows kind ≡ Some row → P kind row
+row_each : (P : ℕ → Row → Type 0) (rows : Rows) → EachRow P rows → (kind : ℕ) (row : Row) → entry_of rows kind ≡ Some row → P kind row
 row_each P [] all kind row e = absurd (none e)
   where
     none : no_row ≡ a_row row → ⊥
     none e = absurd cc
 row_each P (r ∷ rows) all kind row e = by_test (eqb kind r.0) refl (row_each P rows all.1 kind row) e
   where
-    by_test : (b : Bool) → eqb kind r.0 ≡ b → (row_among rows kind ≡ Some row → P kind row) → cond b (Some r.1) (row_among rows kind) ≡ Some row → P kind row
+    by_test : (b : Bool) → eqb kind r.0 ≡ b → (entry_of rows kind ≡ Some row → P kind row) → cond b (Some r.1) (entry_of rows kind) ≡ Some row → P kind row
     by_test true same others e = subst (λ k. P k row) (sym (eqb-true kind r.0 same)) (subst (λ s. P r.0 s) (same_row r.1 row e) all.0)
     by_test false same others e = others e
 

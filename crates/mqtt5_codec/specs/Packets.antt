@@ -4,11 +4,10 @@ use Rattle.mqtt5_base.specs.declared.error.Error.{Error}
 use Rattle.mqtt5_base.specs.declared.error.Error.TheVariants.{OutgoingPacketTooLarge}
 use Rattle.mqtt5_base.specs.Grammar.{Row, Content}
 use Rattle.mqtt5_base.specs.Frames.{Rows, IsWhole, IsFrame, FrameFault}
-use Rattle.mqtt5_base.specs.Layout.{WrittenPacket, content_of_packet, layout, writing}
+use Rattle.mqtt5_base.specs.Layout.{WrittenPacket, plainly, content_of_packet, layout, writing}
 use Rattle.mqtt5_flow.specs.Rows.{publish_row, puback_row, pubrel_row, ping_row}
 use Rattle.mqtt5_flow.specs.Publishes.{publish_packet}
 use Rattle.mqtt5_flow.specs.Acks.{puback_packet, pubrec_packet, pubrel_packet, pubcomp_packet}
-use Rattle.mqtt5_flow.specs.Pings.{pingreq_packet, pingresp_packet}
 use Rattle.mqtt5_subs.specs.Rows.{subscribe_row, suback_row, unsubscribe_row, unsuback_row}
 use Rattle.mqtt5_subs.specs.Subscribes.{subscribe_packet}
 use Rattle.mqtt5_subs.specs.SubAcks.{suback_packet, suback_settled}
@@ -31,23 +30,23 @@ packet_rows =
 
 -- ---- a packet and its frame
 
--- the number of a packet's type (2.1.2), and the packet as it is written (3)
-abbrev pub typed_packet : Packet → ℕ × WrittenPacket
-typed_packet (packets.Connect c will login) = (1, connect_packet c will login)
-typed_packet (packets.ConnAck p) = (2, connack_packet p)
-typed_packet (packets.Publish p) = (3, publish_packet p)
-typed_packet (packets.PubAck p) = (4, puback_packet p)
-typed_packet (packets.PubRec p) = (5, pubrec_packet p)
-typed_packet (packets.PubRel p) = (6, pubrel_packet p)
-typed_packet (packets.PubComp p) = (7, pubcomp_packet p)
-typed_packet (packets.Subscribe p) = (8, subscribe_packet p)
-typed_packet (packets.SubAck p) = (9, suback_packet p)
-typed_packet (packets.Unsubscribe p) = (10, unsubscribe_packet p)
-typed_packet (packets.UnsubAck p) = (11, unsuback_packet p)
-typed_packet (packets.PingReq p) = (12, pingreq_packet)
-typed_packet (packets.PingResp p) = (13, pingresp_packet)
-typed_packet (packets.Disconnect p) = (14, disconnect_packet p)
-typed_packet (packets.Auth p) = (15, auth_packet p)
+-- the number of a packet's type (2.1.2), its row, and the packet as it is written (3)
+abbrev pub typed_packet : Packet → ℕ × Row × WrittenPacket
+typed_packet (packets.Connect c will login) = (1, connect_row, connect_packet c will login)
+typed_packet (packets.ConnAck p) = (2, connack_row, connack_packet p)
+typed_packet (packets.Publish p) = (3, publish_row, publish_packet p)
+typed_packet (packets.PubAck p) = (4, puback_row, puback_packet p)
+typed_packet (packets.PubRec p) = (5, puback_row, pubrec_packet p)
+typed_packet (packets.PubRel p) = (6, pubrel_row, pubrel_packet p)
+typed_packet (packets.PubComp p) = (7, pubrel_row, pubcomp_packet p)
+typed_packet (packets.Subscribe p) = (8, subscribe_row, subscribe_packet p)
+typed_packet (packets.SubAck p) = (9, suback_row, suback_packet p)
+typed_packet (packets.Unsubscribe p) = (10, unsubscribe_row, unsubscribe_packet p)
+typed_packet (packets.UnsubAck p) = (11, unsuback_row, unsuback_packet p)
+typed_packet (packets.PingReq p) = (12, ping_row, plainly 192 [])
+typed_packet (packets.PingResp p) = (13, ping_row, plainly 208 [])
+typed_packet (packets.Disconnect p) = (14, disconnect_row, disconnect_packet p)
+typed_packet (packets.Auth p) = (15, auth_row, auth_packet p)
 
 -- a packet's type as its number (2.1.2)
 abbrev pub packet_type : Packet → ℕ
@@ -55,25 +54,11 @@ packet_type p = (typed_packet p).0
 
 -- the row of a packet's type (3)
 abbrev pub packet_row : Packet → Row
-packet_row (packets.Connect c will login) = connect_row
-packet_row (packets.ConnAck p) = connack_row
-packet_row (packets.Publish p) = publish_row
-packet_row (packets.PubAck p) = puback_row
-packet_row (packets.PubRec p) = puback_row
-packet_row (packets.PubRel p) = pubrel_row
-packet_row (packets.PubComp p) = pubrel_row
-packet_row (packets.Subscribe p) = subscribe_row
-packet_row (packets.SubAck p) = suback_row
-packet_row (packets.Unsubscribe p) = unsubscribe_row
-packet_row (packets.UnsubAck p) = unsuback_row
-packet_row (packets.PingReq p) = ping_row
-packet_row (packets.PingResp p) = ping_row
-packet_row (packets.Disconnect p) = disconnect_row
-packet_row (packets.Auth p) = auth_row
+packet_row p = (typed_packet p).1
 
 -- the packet as it is written (3)
 abbrev pub written_packet : Packet → WrittenPacket
-written_packet p = (typed_packet p).1
+written_packet p = (typed_packet p).2
 
 -- the packet as the values of its row (3)
 abbrev pub packet_content : Packet → Content

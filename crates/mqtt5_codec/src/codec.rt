@@ -67,7 +67,16 @@ impl Codec {
 
     /// Appends the packet's frame. E20, E11, E9, E10, E16, E1 or E21, as of `Packet::write` under the
     /// outgoing limit; the buffer is then unchanged.
-    pub fn encode(&self, packet: &Packet, buffer: &mut BytesMut) -> Result<(), Error>
+    pub fn encode(&self, item: Packet, buffer: &mut BytesMut) -> Result<(), Error>
+        ensures { Writes (λ _. tt) (writing_under self.now.max_outgoing_size item) result buffer.old.items buffer.new.items }
+    {
+        let written = self.write(&item, buffer);
+        drop(item);
+        written
+    }
+
+    /// The same of a packet that stays the caller's.
+    pub fn write(&self, packet: &Packet, buffer: &mut BytesMut) -> Result<(), Error>
         ensures { Writes (λ _. tt) (writing_under self.now.max_outgoing_size packet.now) result buffer.old.items buffer.new.items }
     {
         packet.write(buffer, self.max_outgoing_size)?;

@@ -1,7 +1,6 @@
 //! Packets of every type, and the codec of a stream of them.
 #![tactic(auto)]
 
-mod bodies;
 mod codec;
 mod exact;
 mod frames;

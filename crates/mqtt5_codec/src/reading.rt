@@ -5,11 +5,13 @@ ghost use Rattle.std.specs.Prelude.{◌≡◌, ◌/◌, ◌<◌, drop, MatchResu
 ghost use Rattle.mqtt5_base.specs.Headers.{IsHeader};
 ghost use Rattle.mqtt5_codec.specs.Taken.{ReadsBody};
 
-use crate::bodies;
 use crate::packet::Packet;
 use bytes::Bytes;
 use mqtt5_base::{Error, FixedHeader};
-use mqtt5_flow::{PingReq, PingResp};
+use mqtt5_connect::Connect;
+use mqtt5_flow::{PingReq, PingResp, PubAck, PubComp, PubRec, PubRel, Publish};
+use mqtt5_link::{Auth, ConnAck, Disconnect};
+use mqtt5_subs::{SubAck, Subscribe, UnsubAck, Unsubscribe};
 use std::alloc::Global;
 
 /// E13 of a frame without a body.
@@ -34,7 +36,7 @@ pub(crate) fn read_connect(
     ensures { ReadsBody result header.byte1 (drop header.fixed_header_len frame) }
 {
     needs_body(header)?;
-    let (connect, will, login) = bodies::connect(alloc, header, frame)?;
+    let (connect, will, login) = Connect::read(alloc, header, frame)?;
     Ok(Some(Packet::Connect(connect, will, login)))
 }
 
@@ -50,7 +52,7 @@ pub(crate) fn read_connack(
     ensures { ReadsBody result header.byte1 (drop header.fixed_header_len frame) }
 {
     needs_body(header)?;
-    Ok(Some(Packet::ConnAck(bodies::connack(alloc, header, frame)?)))
+    Ok(Some(Packet::ConnAck(ConnAck::read(alloc, header, frame)?)))
 }
 
 #[inline(always)]
@@ -65,7 +67,7 @@ pub(crate) fn read_publish(
     ensures { ReadsBody result header.byte1 (drop header.fixed_header_len frame) }
 {
     needs_body(header)?;
-    Ok(Some(Packet::Publish(bodies::publish(alloc, header, frame)?)))
+    Ok(Some(Packet::Publish(Publish::read(alloc, header, frame)?)))
 }
 
 #[inline(always)]
@@ -80,7 +82,7 @@ pub(crate) fn read_puback(
     ensures { ReadsBody result header.byte1 (drop header.fixed_header_len frame) }
 {
     needs_body(header)?;
-    Ok(Some(Packet::PubAck(bodies::puback(alloc, header, frame)?)))
+    Ok(Some(Packet::PubAck(PubAck::read(alloc, header, frame)?)))
 }
 
 #[inline(always)]
@@ -95,7 +97,7 @@ pub(crate) fn read_pubrec(
     ensures { ReadsBody result header.byte1 (drop header.fixed_header_len frame) }
 {
     needs_body(header)?;
-    Ok(Some(Packet::PubRec(bodies::pubrec(alloc, header, frame)?)))
+    Ok(Some(Packet::PubRec(PubRec::read(alloc, header, frame)?)))
 }
 
 #[inline(always)]
@@ -110,7 +112,7 @@ pub(crate) fn read_pubrel(
     ensures { ReadsBody result header.byte1 (drop header.fixed_header_len frame) }
 {
     needs_body(header)?;
-    Ok(Some(Packet::PubRel(bodies::pubrel(alloc, header, frame)?)))
+    Ok(Some(Packet::PubRel(PubRel::read(alloc, header, frame)?)))
 }
 
 #[inline(always)]
@@ -125,7 +127,7 @@ pub(crate) fn read_pubcomp(
     ensures { ReadsBody result header.byte1 (drop header.fixed_header_len frame) }
 {
     needs_body(header)?;
-    Ok(Some(Packet::PubComp(bodies::pubcomp(alloc, header, frame)?)))
+    Ok(Some(Packet::PubComp(PubComp::read(alloc, header, frame)?)))
 }
 
 #[inline(always)]
@@ -140,7 +142,7 @@ pub(crate) fn read_subscribe(
     ensures { ReadsBody result header.byte1 (drop header.fixed_header_len frame) }
 {
     needs_body(header)?;
-    Ok(Some(Packet::Subscribe(bodies::subscribe(alloc, header, frame)?)))
+    Ok(Some(Packet::Subscribe(Subscribe::read(alloc, header, frame)?)))
 }
 
 #[inline(always)]
@@ -155,7 +157,7 @@ pub(crate) fn read_suback(
     ensures { ReadsBody result header.byte1 (drop header.fixed_header_len frame) }
 {
     needs_body(header)?;
-    Ok(Some(Packet::SubAck(bodies::suback(alloc, header, frame)?)))
+    Ok(Some(Packet::SubAck(SubAck::read(alloc, header, frame)?)))
 }
 
 #[inline(always)]
@@ -170,7 +172,7 @@ pub(crate) fn read_unsubscribe(
     ensures { ReadsBody result header.byte1 (drop header.fixed_header_len frame) }
 {
     needs_body(header)?;
-    Ok(Some(Packet::Unsubscribe(bodies::unsubscribe(alloc, header, frame)?)))
+    Ok(Some(Packet::Unsubscribe(Unsubscribe::read(alloc, header, frame)?)))
 }
 
 #[inline(always)]
@@ -185,7 +187,7 @@ pub(crate) fn read_unsuback(
     ensures { ReadsBody result header.byte1 (drop header.fixed_header_len frame) }
 {
     needs_body(header)?;
-    Ok(Some(Packet::UnsubAck(bodies::unsuback(alloc, header, frame)?)))
+    Ok(Some(Packet::UnsubAck(UnsubAck::read(alloc, header, frame)?)))
 }
 
 #[inline(always)]
@@ -199,7 +201,7 @@ pub(crate) fn read_disconnect(
     requires kind { header.byte1 / 16 ≡ 14 }
     ensures { ReadsBody result header.byte1 (drop header.fixed_header_len frame) }
 {
-    Ok(Some(Packet::Disconnect(bodies::disconnect(alloc, header, frame)?)))
+    Ok(Some(Packet::Disconnect(Disconnect::read(alloc, header, frame)?)))
 }
 
 #[inline(always)]
@@ -213,7 +215,7 @@ pub(crate) fn read_auth(
     requires kind { header.byte1 / 16 ≡ 15 }
     ensures { ReadsBody result header.byte1 (drop header.fixed_header_len frame) }
 {
-    Ok(Some(Packet::Auth(bodies::auth(alloc, header, frame)?)))
+    Ok(Some(Packet::Auth(Auth::read(alloc, header, frame)?)))
 }
 
 #[inline(always)]

@@ -4,9 +4,9 @@ use Rattle.std.specs.Prelude.{slice_index}
 use Rattle.std.specs.Str.{is_utf8}
 use Rattle.std.proofs.lemmas.Str.{is_utf8-from_IsUtf8, IsUtf8-from_ascii}
 use Rattle.mqtt5_base.specs.declared.quality.QoS.{QoS}
-use Rattle.mqtt5_base.specs.Grammar.{number, content, Found, passes, is_qos, Value, plain, properties, optional, all_empty, unless_empty}
+use Rattle.mqtt5_base.specs.Grammar.{number, content, Found, passes, is_qos, Value, plain, properties, optional, all_empty, unless_empty, entry_of}
 use Rattle.mqtt5_base.specs.Views.{qos_number, bit}
-use Rattle.mqtt5_base.specs.Frames.{Rows, row_among}
+use Rattle.mqtt5_base.specs.Frames.{Rows}
 use Rattle.mqtt5_base.specs.Reading.{frame_at}
 use Rattle.mqtt5_base.specs.Layout.{just, group_of, writing, content_of_packet}
 use Rattle.mqtt5_base.specs.Sets.{IsBlockOf}
@@ -108,7 +108,7 @@ abbrev connect_with : Connect → Option Found → List Value
 connect_with c p = plain (number (bit c.clean_start)) ∷ plain (number c.keep_alive) ∷ properties p ∷ plain (content c.client_id.bytes) ∷ []
 
 -- the row of a Connect reads it
-connect_readable : (rows : Rows) (c : Connect) (will : Option LastWill) (login : Option Login) → row_among rows 1 ≡ Some connect_row → c.keep_alive < 65536 → IsBlockOf connect_table (option_map connect_found c.properties) → IsBlockOf will_table (will_block will)
+connect_readable : (rows : Rows) (c : Connect) (will : Option LastWill) (login : Option Login) → entry_of rows 1 ≡ Some connect_row → c.keep_alive < 65536 → IsBlockOf connect_table (option_map connect_found c.properties) → IsBlockOf will_table (will_block will)
     → IsReadable rows connect_row (connect_packet c will login) false (content_of_packet (connect_packet (connect_norm c) (will_norm will) (login_norm login)))
 connect_readable rows c will login among small set will_set =
     let n = connect_flags c will login in
@@ -134,7 +134,7 @@ connect_readable rows c will login among small set will_set =
     }
 
 -- A Connect that was written with its will and its login is read again as the values of its norm.
-pub connect_again : (rows : Rows) (c : Connect) (will : Option LastWill) (login : Option Login) (bs : List ℕ) → row_among rows 1 ≡ Some connect_row → c.keep_alive < 65536 → IsBlockOf connect_table (option_map connect_found c.properties) → IsBlockOf will_table (will_block will)
+pub connect_again : (rows : Rows) (c : Connect) (will : Option LastWill) (login : Option Login) (bs : List ℕ) → entry_of rows 1 ≡ Some connect_row → c.keep_alive < 65536 → IsBlockOf connect_table (option_map connect_found c.properties) → IsBlockOf will_table (will_block will)
     → writing connect_row (connect_packet c will login) ≡ Ok bs → frame_at rows bs ≡ content_read (content_of_packet (connect_packet (connect_norm c) (will_norm will) (login_norm login)))
 connect_again rows c will login bs among small set will_set h =
     written_again rows connect_row (connect_packet c will login) false (content_of_packet (connect_packet (connect_norm c) (will_norm will) (login_norm login))) bs h (connect_readable rows c will login among small set will_set)

@@ -9,15 +9,11 @@ use Rattle.mqtt5_connect.specs.Connects.{connect_found, will_found, login_values
 
 -- an empty property set is none (2.2.2.1)
 abbrev pub connect_norm : Connect → Connect
-connect_norm c = record { keep_alive = c.keep_alive; client_id = c.client_id; clean_start = c.clean_start; properties = tidy connect_found c.properties }
+connect_norm c = record c { properties = tidy connect_found c.properties }
 
 -- the same of a will
-abbrev pub tidy_will : LastWill → LastWill
-tidy_will w = record { topic = w.topic; message = w.message; qos = w.qos; retain = w.retain; properties = tidy will_found w.properties }
-
--- the same of a will that may be absent
 abbrev pub will_norm : Option LastWill → Option LastWill
-will_norm will = option_map tidy_will will
+will_norm will = option_map (λ (w : LastWill). record w { properties = tidy will_found w.properties }) will
 
 -- a login of two empty texts is none
 abbrev pub login_norm : Option Login → Option Login

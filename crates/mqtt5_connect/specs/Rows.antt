@@ -1,6 +1,7 @@
 -- The row of Connect (MQTT 5.0 section 3.1).
 use Rattle.std.specs.Prelude.{ℕ, false, List, [], ◌∷◌}
-use Rattle.mqtt5_base.specs.Grammar.{u8, u16, bytes, text, content, Entry, single, several_of, spells, bad_protocol, bad_level, bad_flags, bad_qos, plain, one, block, given, read, whole, bits, always, set, Step, field, raw, note, judge, Part, choice, filled, Row, there, bit_of, is, is_qos}
+use Rattle.mqtt5_base.specs.declared.error.Error.TheVariants.{IncorrectPacketFormat, InvalidProtocol, InvalidProtocolLevel, InvalidQoS}
+use Rattle.mqtt5_base.specs.Grammar.{u8, u16, bytes, text, content, Entry, single, several_of, spells, plain, one, block, given, read, whole, bits, always, set, Step, field, raw, note, judge, Part, choice, filled, Row, there, bit_of, is, is_qos}
 
 -- the properties of a Connect, in the order of writing (3.1.2.11)
 abbrev pub connect_table : List Entry
@@ -18,7 +19,7 @@ protocol = 77 ∷ 81 ∷ 84 ∷ 84 ∷ []
 
 -- without a will its QoS and its retain are 0 (3.1.2.6, 3.1.2.7)
 abbrev pub no_will : List Step
-no_will = judge always (bits given 8 8) (is 0) bad_flags ∷ []
+no_will = judge always (bits given 8 8) (is 0) (λ _. IncorrectPacketFormat) ∷ []
 
 -- the properties, the topic and the message; the QoS and retain of the flags (3.1.3.2 to 3.1.3.4)
 abbrev pub will_steps : List Step
@@ -26,7 +27,7 @@ will_steps =
     there (block will_table)
     ∷ there (one bytes)
     ∷ there (one bytes)
-    ∷ judge always (bits given 8 4) is_qos bad_qos
+    ∷ judge always (bits given 8 4) is_qos InvalidQoS
     ∷ note (bits given 8 4)
     ∷ note (bit_of given 32)
     ∷ []
@@ -59,8 +60,8 @@ connect_row = record {
   steps =
       raw text
       ∷ raw u8
-      ∷ judge always (whole (read 0)) (spells protocol) bad_protocol
-      ∷ judge always (whole (read 1)) (is 5) bad_level
+      ∷ judge always (whole (read 0)) (spells protocol) (λ _. InvalidProtocol)
+      ∷ judge always (whole (read 1)) (is 5) InvalidProtocolLevel
       ∷ raw u8
       ∷ connect_fields;
   parts = connect_parts;

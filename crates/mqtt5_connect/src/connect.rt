@@ -14,8 +14,9 @@ use crate::login::Login;
 use crate::will::LastWill;
 use bytes::{Bytes, BytesMut};
 use mqtt5_base::{
-    Error, FieldValue, FixedHeader, Property, PropertySet, Sequence, Tagged, Text, block_fits,
-    block_len, frame_size, put_block, read_block, read_text, read_u8, read_u16, start_frame,
+    Error, FieldValue, FixedHeader, Property, PropertyBlock, PropertySet, Sequence, Tagged, Text,
+    block_fits, block_len, frame_size, put_block, read_block, read_text, read_u8, read_u16,
+    start_frame,
 };
 use std::alloc::{AllocError, Global};
 
@@ -167,6 +168,8 @@ impl PropertySet for ConnectProperties {
     }
 }
 
+impl PropertyBlock for ConnectProperties {}
+
 /// A Connect (MQTT 5.0 section 3.1).
 #[derive(Debug, Clone, PartialEq, Eq, Drop)]
 pub struct Connect {
@@ -263,7 +266,8 @@ impl Connect {
         bytes: Bytes,
     ) -> Result<(Connect, Option<LastWill>, Option<Login>), Error>
         requires { length bytes ≡ header.fixed_header_len + header.remaining_len }
-        ensures { ReadsRow (λ p. content_of_packet (connect_packet p.0 p.1 p.2)) connect_row header bytes result }
+        ensures row { ReadsRow (λ p. content_of_packet (connect_packet p.0 p.1 p.2)) connect_row header bytes result }
+        ensures values { Gives (λ p. content_of_packet (connect_packet p.0 p.1 p.2)) result (values_in connect_row header.byte1 header.remaining_len (drop header.fixed_header_len bytes)) }
     {
         Connect::read_values(alloc, header, bytes)
     }

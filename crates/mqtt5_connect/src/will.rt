@@ -12,8 +12,8 @@ ghost use Rattle.mqtt5_connect.specs.Short.{will_short};
 use crate::connect_part::{ConnectPart, write_part};
 use bytes::{Bytes, BytesMut};
 use mqtt5_base::{
-    Error, FieldValue, Property, PropertySet, QoS, Sequence, Tagged, Text, block_fits, block_len,
-    put_block, read_block, read_bytes, read_qos,
+    Error, FieldValue, Property, PropertyBlock, PropertySet, QoS, Sequence, Tagged, Text,
+    block_fits, block_len, put_block, read_block, read_bytes, read_qos,
 };
 use std::alloc::{AllocError, Global};
 
@@ -137,6 +137,8 @@ impl PropertySet for LastWillProperties {
         self.user_properties.values_known();
     }
 }
+
+impl PropertyBlock for LastWillProperties {}
 
 /// What the server publishes in the client's name once its connection is lost (MQTT 5.0 section
 /// 3.1.2.5).

@@ -46,7 +46,7 @@ pub struct Step {
 fn encode(codec: &Codec, output: &mut BytesMut, packet: &Packet) -> Result<(), StateError>
     ensures { Replies result (reply_bytes codec.now (Some packet.now)) output.old.items output.new.items }
 {
-    match codec.encode(packet, output) {
+    match codec.write(packet, output) {
         Ok(()) => Ok(()),
         Err(error) => Err(StateError::from(error)),
     }

@@ -1,8 +1,8 @@
 -- An ack that is written is read again, as its norm.
 use Rattle.std.proofs.Common.{◌&&◌, ◌≡◌, ℕ, ◌/◌, ◌<◌, Bool, true, false, eqb, List, [], ◌++◌, length, Option, Some, None, option_map, is_none, Ok, refl, sym, ap, ◌∙◌, arith, length-append}
 use Rattle.std.proofs.lemmas.Bool.{lt-ltb, eqb-true, false≢true}
-use Rattle.mqtt5_base.specs.Grammar.{number, Entry, Found, Test, Content}
-use Rattle.mqtt5_base.specs.Frames.{Rows, row_among}
+use Rattle.mqtt5_base.specs.Grammar.{number, Entry, Found, Test, Content, entry_of}
+use Rattle.mqtt5_base.specs.Frames.{Rows}
 use Rattle.mqtt5_base.specs.Reading.{frame_at}
 use Rattle.mqtt5_base.specs.Layout.{block_bytes, is_short, writing, content_of_packet}
 use Rattle.mqtt5_base.specs.Sets.{IsBlockOf, apart}
@@ -32,7 +32,7 @@ abbrev ack_content : ℕ → ℕ → Option Found → Content
 ack_content id code p = content_of_packet (ack_packet 0 id code p)
 
 -- the row of an ack reads it, short or not
-ack_readable : (rows : Rows) (codes : Test) (table : List Entry) (first : ℕ) (short : Bool) (id code : ℕ) (p : Option Found) → is_short (ack_row codes table) (ack_packet first id code p) ≡ short → row_among rows (first / 16) ≡ Some (ack_row codes table)
+ack_readable : (rows : Rows) (codes : Test) (table : List Entry) (first : ℕ) (short : Bool) (id code : ℕ) (p : Option Found) → is_short (ack_row codes table) (ack_packet first id code p) ≡ short → entry_of rows (first / 16) ≡ Some (ack_row codes table)
     → apart [] table ≡ true → id < 65536 → IsBlockOf table p → IsReadable rows (ack_row codes table) (ack_packet first id code p) short (ack_content id code (tidy_found p))
 ack_readable rows codes table first true id code p is among once small set =
     let s = both_hold (eqb code 0) (is_none p && true) is in
@@ -59,7 +59,7 @@ ack_readable rows codes table first false id code p is among once small set =
     }
 
 -- An ack that was written is read again as its values, of a tidy set.
-ack_again : (rows : Rows) (codes : Test) (first id code : ℕ) (p : Option AckProperties) (bs : List ℕ) → row_among rows (first / 16) ≡ Some (ack_row codes ack_table) → id < 65536 → IsBlockOf ack_table (option_map ack_found p)
+ack_again : (rows : Rows) (codes : Test) (first id code : ℕ) (p : Option AckProperties) (bs : List ℕ) → entry_of rows (first / 16) ≡ Some (ack_row codes ack_table) → id < 65536 → IsBlockOf ack_table (option_map ack_found p)
     → writing (ack_row codes ack_table) (ack_packet first id code (option_map ack_found p)) ≡ Ok bs → frame_at rows bs ≡ content_read (ack_content id code (option_map ack_found (tidy ack_found p)))
 ack_again rows codes first id code p bs among small set h =
     let row = ack_row codes ack_table in
@@ -71,7 +71,7 @@ ack_again rows codes first id code p bs among small set h =
 -- ---- the packets
 
 -- A PubAck that was written is read again as its norm's values.
-pub puback_again : (rows : Rows) (p : PubAck) (bs : List ℕ) → row_among rows 4 ≡ Some puback_row → p.pkid < 65536 → IsBlockOf ack_table (option_map ack_found p.properties)
+pub puback_again : (rows : Rows) (p : PubAck) (bs : List ℕ) → entry_of rows 4 ≡ Some puback_row → p.pkid < 65536 → IsBlockOf ack_table (option_map ack_found p.properties)
     → writing puback_row (puback_packet p) ≡ Ok bs → frame_at rows bs ≡ content_read (content_of_packet (puback_packet (puback_norm p)))
 puback_again rows p = ack_again rows puback_codes 64 p.pkid (puback_code p.reason) p.properties
 
@@ -80,7 +80,7 @@ pub puback_norm_twice : (p : PubAck) → puback_norm (puback_norm p) ≡ puback_
 puback_norm_twice p = λ i. record { pkid = p.pkid; reason = p.reason; properties = tidy_twice ack_found p.properties i }
 
 -- A PubRec that was written is read again as its norm's values.
-pub pubrec_again : (rows : Rows) (p : PubRec) (bs : List ℕ) → row_among rows 5 ≡ Some puback_row → p.pkid < 65536 → IsBlockOf ack_table (option_map ack_found p.properties)
+pub pubrec_again : (rows : Rows) (p : PubRec) (bs : List ℕ) → entry_of rows 5 ≡ Some puback_row → p.pkid < 65536 → IsBlockOf ack_table (option_map ack_found p.properties)
     → writing puback_row (pubrec_packet p) ≡ Ok bs → frame_at rows bs ≡ content_read (content_of_packet (pubrec_packet (pubrec_norm p)))
 pubrec_again rows p = ack_again rows puback_codes 80 p.pkid (puback_code p.reason) p.properties
 
@@ -89,7 +89,7 @@ pub pubrec_norm_twice : (p : PubRec) → pubrec_norm (pubrec_norm p) ≡ pubrec_
 pubrec_norm_twice p = λ i. record { pkid = p.pkid; reason = p.reason; properties = tidy_twice ack_found p.properties i }
 
 -- A PubRel that was written is read again as its norm's values.
-pub pubrel_again : (rows : Rows) (p : PubRel) (bs : List ℕ) → row_among rows 6 ≡ Some pubrel_row → p.pkid < 65536 → IsBlockOf ack_table (option_map ack_found p.properties)
+pub pubrel_again : (rows : Rows) (p : PubRel) (bs : List ℕ) → entry_of rows 6 ≡ Some pubrel_row → p.pkid < 65536 → IsBlockOf ack_table (option_map ack_found p.properties)
     → writing pubrel_row (pubrel_packet p) ≡ Ok bs → frame_at rows bs ≡ content_read (content_of_packet (pubrel_packet (pubrel_norm p)))
 pubrel_again rows p = ack_again rows pubrel_codes 98 p.pkid (pubrel_code p.reason) p.properties
 
@@ -98,7 +98,7 @@ pub pubrel_norm_twice : (p : PubRel) → pubrel_norm (pubrel_norm p) ≡ pubrel_
 pubrel_norm_twice p = λ i. record { pkid = p.pkid; reason = p.reason; properties = tidy_twice ack_found p.properties i }
 
 -- A PubComp that was written is read again as its norm's values.
-pub pubcomp_again : (rows : Rows) (p : PubComp) (bs : List ℕ) → row_among rows 7 ≡ Some pubrel_row → p.pkid < 65536 → IsBlockOf ack_table (option_map ack_found p.properties)
+pub pubcomp_again : (rows : Rows) (p : PubComp) (bs : List ℕ) → entry_of rows 7 ≡ Some pubrel_row → p.pkid < 65536 → IsBlockOf ack_table (option_map ack_found p.properties)
     → writing pubrel_row (pubcomp_packet p) ≡ Ok bs → frame_at rows bs ≡ content_read (content_of_packet (pubcomp_packet (pubcomp_norm p)))
 pubcomp_again rows p = ack_again rows pubrel_codes 112 p.pkid (pubrel_code p.reason) p.properties
 

@@ -2,9 +2,9 @@
 use Rattle.std.proofs.Common.{◌≡◌, ℕ, ◌/◌, ◌%◌, ◌<◌, false, cond, eqb, ltb, List, [], ◌∷◌, Option, Some, option_map, Ok, refl, ap, ◌∙◌, arith}
 use Rattle.mqtt5_base.specs.declared.quality.QoS.{QoS}
 use Rattle.mqtt5_base.specs.declared.quality.QoS.TheVariants.{AtMostOnce, AtLeastOnce, ExactlyOnce}
-use Rattle.mqtt5_base.specs.Grammar.{number, content, Found, Value, plain, properties}
+use Rattle.mqtt5_base.specs.Grammar.{number, content, Found, Value, plain, properties, entry_of}
 use Rattle.mqtt5_base.specs.Views.{bit, qos_number}
-use Rattle.mqtt5_base.specs.Frames.{Rows, row_among}
+use Rattle.mqtt5_base.specs.Frames.{Rows}
 use Rattle.mqtt5_base.specs.Reading.{frame_at}
 use Rattle.mqtt5_base.specs.Layout.{writing, content_of_packet}
 use Rattle.mqtt5_base.specs.Sets.{IsBlockOf}
@@ -36,7 +36,7 @@ with_both p id set =
     plain (number (bit p.dup)) ∷ plain (number (qos_number p.qos)) ∷ plain (number (bit p.retain)) ∷ plain (content p.topic) ∷ id ∷ properties set ∷ plain (content p.payload) ∷ []
 
 -- the row of a Publish reads it
-publish_readable : (rows : Rows) (p : Publish) → row_among rows 3 ≡ Some publish_row → p.pkid < 65536 → IsBlockOf publish_table (option_map publish_found p.properties)
+publish_readable : (rows : Rows) (p : Publish) → entry_of rows 3 ≡ Some publish_row → p.pkid < 65536 → IsBlockOf publish_table (option_map publish_found p.properties)
     → IsReadable rows publish_row (publish_packet p) false (content_of_packet (publish_packet (publish_norm p)))
 publish_readable rows p among small set =
     let dup : bit p.dup ≡ publish_first p / 8 % 2 = omega (arith, bit_small p.dup, qos_small p.qos, bit_small p.retain) in
@@ -44,7 +44,7 @@ publish_readable rows p among small set =
     let retain : bit p.retain ≡ publish_first p / 1 % 2 = omega (arith, bit_small p.dup, qos_small p.qos, bit_small p.retain) in
     record {
       brief = refl;
-      among = ap (row_among rows) (publish_type p) ∙ among;
+      among = ap (entry_of rows) (publish_type p) ∙ among;
       whole = has_body publish_row (body_of false publish_row (publish_packet p)) (omega arith);
       suits = (
         ap (λ n. plain (number n)) dup,
@@ -65,7 +65,7 @@ publish_readable rows p among small set =
     }
 
 -- A Publish that was written is read again as its norm's values.
-pub publish_again : (rows : Rows) (p : Publish) (bs : List ℕ) → row_among rows 3 ≡ Some publish_row → p.pkid < 65536 → IsBlockOf publish_table (option_map publish_found p.properties)
+pub publish_again : (rows : Rows) (p : Publish) (bs : List ℕ) → entry_of rows 3 ≡ Some publish_row → p.pkid < 65536 → IsBlockOf publish_table (option_map publish_found p.properties)
     → writing publish_row (publish_packet p) ≡ Ok bs → frame_at rows bs ≡ content_read (content_of_packet (publish_packet (publish_norm p)))
 publish_again rows p bs among small set h = written_again rows publish_row (publish_packet p) false (content_of_packet (publish_packet (publish_norm p))) bs h (publish_readable rows p among small set)
 

@@ -1,7 +1,8 @@
 -- What the rows of Publish and of the acks give comes back from the packets that are made of it.
 use Rattle.std.specs.Prelude.{nat_lt}
 use Rattle.std.proofs.Common.{◌≡◌, ℕ, ◌/◌, ◌%◌, true, List, [], ◌∷◌, Option, option_map, refl, sym, ap, ◌∙◌}
-use Rattle.mqtt5_base.specs.Grammar.{u8, u16, bytes, Atom, number, number_of, Entry, Found, Test, not_zero, passes, zero_id, plain, properties, atom_of, Content, number_in}
+use Rattle.mqtt5_base.specs.declared.error.Error.TheVariants.{PacketIdZero}
+use Rattle.mqtt5_base.specs.Grammar.{u8, u16, bytes, Atom, number, number_of, Entry, Found, Test, not_zero, passes, plain, properties, atom_of, Content, number_in}
 use Rattle.mqtt5_base.specs.Fields.{props, IsRow}
 use Rattle.mqtt5_base.specs.FromValues.{found_in}
 use Rattle.mqtt5_base.specs.Layout.{content_of_packet}
@@ -41,7 +42,7 @@ publish_row_again first len body c rest h =
     let f = h.2.1 in
     let topic = one_back bytes body f.0 f.1 f.2 in
     let g = f.3 in
-    let id = maybe_checked (nat_lt 0 (first / 2 % 4)) u16 not_zero zero_id (number 0) f.1 g.0 g.1 refl g.2 in
+    let id = maybe_checked (nat_lt 0 (first / 2 % 4)) u16 not_zero (λ _. PacketIdZero) (number 0) f.1 g.0 g.1 refl g.2 in
     let b = g.3 in
     let p = properties_back publish_table g.1 b.0 b.1 b.2 in
     let r = b.3 in

@@ -1,7 +1,6 @@
 pub mod Rows
 pub mod Acks
 pub mod AckBody
-pub mod Pings
 pub mod Publishes
 pub mod Known
 pub mod Sound

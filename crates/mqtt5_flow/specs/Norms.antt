@@ -12,20 +12,20 @@ use Rattle.mqtt5_flow.specs.Publishes.{publish_found}
 
 -- an empty property set is none (2.2.2.1)
 abbrev pub puback_norm : PubAck → PubAck
-puback_norm p = record { pkid = p.pkid; reason = p.reason; properties = tidy ack_found p.properties }
+puback_norm p = record p { properties = tidy ack_found p.properties }
 
 -- the same of a PubRec
 abbrev pub pubrec_norm : PubRec → PubRec
-pubrec_norm p = record { pkid = p.pkid; reason = p.reason; properties = tidy ack_found p.properties }
+pubrec_norm p = record p { properties = tidy ack_found p.properties }
 
 -- the same of a PubRel
 abbrev pub pubrel_norm : PubRel → PubRel
-pubrel_norm p = record { pkid = p.pkid; reason = p.reason; properties = tidy ack_found p.properties }
+pubrel_norm p = record p { properties = tidy ack_found p.properties }
 
 -- the same of a PubComp
 abbrev pub pubcomp_norm : PubComp → PubComp
-pubcomp_norm p = record { pkid = p.pkid; reason = p.reason; properties = tidy ack_found p.properties }
+pubcomp_norm p = record p { properties = tidy ack_found p.properties }
 
 -- a Publish of QoS 0 has no packet identifier (2.2.1), and an empty property set is none
 abbrev pub publish_norm : Publish → Publish
-publish_norm p = record { dup = p.dup; qos = p.qos; retain = p.retain; topic = p.topic; pkid = if qos_number p.qos == 0 then 0 else p.pkid; payload = p.payload; properties = tidy publish_found p.properties }
+publish_norm p = record p { pkid = if qos_number p.qos == 0 then 0 else p.pkid; properties = tidy publish_found p.properties }

@@ -1,6 +1,7 @@
 -- The rows of Publish, of the acks and of the pings (MQTT 5.0 sections 3.3 to 3.7, 3.12 and 3.13).
 use Rattle.std.specs.Prelude.{true, false, List, [], ◌∷◌, None}
-use Rattle.mqtt5_base.specs.Grammar.{u8, u16, bytes, number, Entry, single, several_of, Test, any_of, not_zero, bad_reason, bad_qos, zero_id, plain, properties, one, checked, block, remainder, given, read, whole, bits, always, longer, set, field, note, judge, Row, there, bit_of, is_qos, steps_row}
+use Rattle.mqtt5_base.specs.declared.error.Error.TheVariants.{InvalidConnectReturnCode, InvalidQoS, PacketIdZero}
+use Rattle.mqtt5_base.specs.Grammar.{u8, u16, bytes, number, Entry, single, several_of, Test, any_of, not_zero, plain, properties, one, checked, block, remainder, given, read, whole, bits, always, longer, set, field, note, judge, Row, there, bit_of, is_qos, steps_row}
 use Rattle.mqtt5_base.specs.AckSets.{ack_table}
 
 -- ---- Publish (3.3)
@@ -16,9 +17,9 @@ publish_row =
     (note (bit_of given 8)
     ∷ note (bits given 2 4)
     ∷ note (bit_of given 1)
-    ∷ judge always (whole (read 1)) is_qos bad_qos
+    ∷ judge always (whole (read 1)) is_qos InvalidQoS
     ∷ there (one bytes)
-    ∷ field (set (whole (read 1))) (checked u16 not_zero zero_id) (plain (number 0))
+    ∷ field (set (whole (read 1))) (checked u16 not_zero (λ _. PacketIdZero)) (plain (number 0))
     ∷ there (block publish_table)
     ∷ there remainder
     ∷ [])
@@ -33,7 +34,7 @@ ack_row codes table = record {
       there (one u16)
       ∷ field (longer 2) (one u8) (plain (number 0))
       ∷ field (longer 3) (block table) (properties None)
-      ∷ judge always (whole (read 1)) codes bad_reason
+      ∷ judge always (whole (read 1)) codes InvalidConnectReturnCode
       ∷ [];
   parts = [];
   bare = false;

@@ -1,8 +1,8 @@
 //! What PubAck, PubRec, PubRel and PubComp share.
 
 ghost use Rattle.std.specs.Prelude.{◌≡◌, ℕ, ◌+◌, ◌≤◌, true, drop, length, min, option_map};
-ghost use Rattle.mqtt5_base.specs.Grammar.{Test, bad_reason, number, passes, content_of, Content};
-ghost use Rattle.mqtt5_base.specs.Answers.{Finds, Gives, ReadsRow};
+ghost use Rattle.mqtt5_base.specs.Grammar.{Test, number, passes, content_of, Content};
+ghost use Rattle.mqtt5_base.specs.Answers.{Finds, Gives};
 ghost use Rattle.mqtt5_base.specs.Reading.{judged, values_in};
 ghost use Rattle.mqtt5_base.specs.Puts.{Puts, Writes};
 ghost use Rattle.mqtt5_base.specs.Layout.{block_fits, layout, writing, content_of_packet};
@@ -30,7 +30,7 @@ pub trait Reason: Copy {
 
     /// The reason of a code; E1 with the code of one that the ack doesn't have.
     fn of(num: u8) -> Result<Self, Error>
-        ensures { Finds (λ r. number (code r)) result (judged codes bad_reason (number num)) };
+        ensures { Finds (λ r. number (code r)) result (judged codes Error.InvalidConnectReturnCode (number num)) };
 
     /// The code.
     fn code(self) -> u8
@@ -41,8 +41,9 @@ pub trait Reason: Copy {
         ensures { code result ≡ 0 };
 }
 
+/// The identifier, reason and properties of an ack.
 #[inline(always)]
-fn read_fields<R: Reason, P: PropertySet>(
+pub(crate) fn read_ack<R: Reason, P: PropertySet>(
     alloc: Global,
     header: FixedHeader,
     bytes: Bytes,
@@ -62,20 +63,6 @@ fn read_fields<R: Reason, P: PropertySet>(
     }
     let properties = read_block(alloc, &mut stream)?;
     Ok((pkid, R::of(code)?, properties))
-}
-
-/// The identifier, reason and properties of an ack.
-#[inline(always)]
-#[tactic(auto, using(mqtt5_base::proofs::AnswersLemmas::row_said))]
-pub(crate) fn read_ack<R: Reason, P: PropertySet>(
-    alloc: Global,
-    header: FixedHeader,
-    bytes: Bytes,
-) -> Result<(u16, R, Option<P>), Error>
-    requires { length bytes ≡ header.fixed_header_len + header.remaining_len }
-    ensures { ReadsRow (λ a. content_of_packet (ack_packet 0 a.0 (R.code a.1) (option_map P.found a.2))) (ack_row R.codes P.table) header bytes result }
-{
-    read_fields(alloc, header, bytes)
 }
 
 /// Whether an ack is written without reason and properties.

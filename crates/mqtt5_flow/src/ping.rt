@@ -1,10 +1,9 @@
 //! The packets that ask whether the peer is there, and answer it.
 
-ghost use Rattle.std.specs.Prelude.{◌≡◌, length};
+ghost use Rattle.std.specs.Prelude.{◌≡◌, [], length};
 ghost use Rattle.mqtt5_base.specs.Puts.{Writes};
-ghost use Rattle.mqtt5_base.specs.Layout.{layout, writing};
+ghost use Rattle.mqtt5_base.specs.Layout.{plainly, layout, writing};
 ghost use Rattle.mqtt5_flow.specs.Rows.{ping_row};
-ghost use Rattle.mqtt5_flow.specs.Pings.{pingreq_packet, pingresp_packet};
 
 use bytes::BytesMut;
 use mqtt5_base::{Error, start_frame};
@@ -16,7 +15,7 @@ pub struct PingReq;
 impl PingReq {
     /// Appends a PingReq and answers its length, 2. E21; then the buffer is unchanged.
     pub fn write(buffer: &mut BytesMut) -> Result<usize, Error>
-        ensures { Writes length (writing ping_row pingreq_packet) result buffer.old.items buffer.new.items }
+        ensures { Writes length (writing ping_row (plainly 192 [])) result buffer.old.items buffer.new.items }
     {
         start_frame(0xC0, 0, buffer)
     }
@@ -24,7 +23,7 @@ impl PingReq {
     /// How many bytes it takes, 2. Takes no memory.
     #[tactic(auto, unfolding(mqtt5_base::specs::VarInt::var_int))]
     pub fn size(&self) -> usize
-        ensures { result ≡ length (layout ping_row pingreq_packet) }
+        ensures { result ≡ length (layout ping_row (plainly 192 [])) }
     {
         2
     }
@@ -37,7 +36,7 @@ pub struct PingResp;
 impl PingResp {
     /// Appends a PingResp and answers its length, 2. E21; then the buffer is unchanged.
     pub fn write(buffer: &mut BytesMut) -> Result<usize, Error>
-        ensures { Writes length (writing ping_row pingresp_packet) result buffer.old.items buffer.new.items }
+        ensures { Writes length (writing ping_row (plainly 208 [])) result buffer.old.items buffer.new.items }
     {
         start_frame(0xD0, 0, buffer)
     }
@@ -45,7 +44,7 @@ impl PingResp {
     /// How many bytes it takes, 2. Takes no memory.
     #[tactic(auto, unfolding(mqtt5_base::specs::VarInt::var_int))]
     pub fn size(&self) -> usize
-        ensures { result ≡ length (layout ping_row pingresp_packet) }
+        ensures { result ≡ length (layout ping_row (plainly 208 [])) }
     {
         2
     }

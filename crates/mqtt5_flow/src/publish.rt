@@ -1,7 +1,7 @@
 //! A message.
 
 ghost use Rattle.std.specs.Prelude.{◌≡◌, ◌+◌, ◌≤◌, ◌/◌, ◌%◌, ◌<◌, [], None, nat_lt, true, false, IfOk, IfErr, drop, length, min, option_map};
-ghost use Rattle.mqtt5_base.specs.Grammar.{u16, not_zero, zero_id, checked, plain, number, content, bytes};
+ghost use Rattle.mqtt5_base.specs.Grammar.{u16, not_zero, checked, plain, number, content, bytes};
 ghost use Rattle.mqtt5_base.specs.Answers.{Finds, Gives, ReadsRow};
 ghost use Rattle.mqtt5_base.specs.Reading.{optional_at, values_in};
 ghost use Rattle.mqtt5_base.specs.Views.{bit, qos_number};
@@ -12,8 +12,9 @@ ghost use Rattle.mqtt5_flow.specs.Publishes.{publish_found, publish_first, publi
 
 use bytes::{Bytes, BytesMut};
 use mqtt5_base::{
-    Error, FieldValue, FixedHeader, Property, PropertySet, QoS, Sequence, Tagged, Text, block_fits,
-    block_len, frame_size, put_block, read_block, read_bytes, read_qos, read_u16, start_frame,
+    Error, FieldValue, FixedHeader, Property, PropertyBlock, PropertySet, QoS, Sequence, Tagged,
+    Text, block_fits, block_len, frame_size, put_block, read_block, read_bytes, read_qos, read_u16,
+    start_frame,
 };
 use std::alloc::{AllocError, Global};
 
@@ -148,6 +149,8 @@ impl PropertySet for PublishProperties {
     }
 }
 
+impl PropertyBlock for PublishProperties {}
+
 /// A Publish (MQTT 5.0 section 3.3).
 #[derive(Debug, Clone, PartialEq, Eq, Drop)]
 pub struct Publish {
@@ -170,7 +173,7 @@ pub struct Publish {
 
 /// The packet identifier, where the QoS is 1 or 2; else 0.
 fn read_pkid(qos: QoS, stream: &mut Bytes) -> Result<u16, Error>
-    ensures { Finds (λ n. (plain (number n), stream.new)) result (optional_at (nat_lt 0 (qos_number qos)) (checked u16 not_zero zero_id) (plain (number 0)) stream.old) }
+    ensures { Finds (λ n. (plain (number n), stream.new)) result (optional_at (nat_lt 0 (qos_number qos)) (checked u16 not_zero (λ _. Error.PacketIdZero)) (plain (number 0)) stream.old) }
 {
     if qos == QoS::AtMostOnce {
         return Ok(0);
@@ -235,7 +238,8 @@ impl Publish {
     #[tactic(auto, using(mqtt5_base::proofs::AnswersLemmas::row_said))]
     pub fn read(alloc: Global, header: FixedHeader, bytes: Bytes) -> Result<Publish, Error>
         requires { length bytes ≡ header.fixed_header_len + header.remaining_len }
-        ensures { ReadsRow (λ p. content_of_packet (publish_packet p)) publish_row header bytes result }
+        ensures row { ReadsRow (λ p. content_of_packet (publish_packet p)) publish_row header bytes result }
+        ensures values { Gives (λ p. content_of_packet (publish_packet p)) result (values_in publish_row header.byte1 header.remaining_len (drop header.fixed_header_len bytes)) }
     {
         Publish::read_values(alloc, header, bytes)
     }

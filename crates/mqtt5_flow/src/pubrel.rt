@@ -1,7 +1,8 @@
 //! The answer to a PubRec: the publish of QoS 2 is released.
 
-ghost use Rattle.std.specs.Prelude.{◌≡◌, ◌+◌, ◌≤◌, Some, None, length, min, option_map};
-ghost use Rattle.mqtt5_base.specs.Answers.{ReadsRow};
+ghost use Rattle.std.specs.Prelude.{◌≡◌, ◌+◌, ◌≤◌, Some, None, length, min, option_map, drop};
+ghost use Rattle.mqtt5_base.specs.Answers.{Gives, ReadsRow};
+ghost use Rattle.mqtt5_base.specs.Reading.{values_in};
 ghost use Rattle.mqtt5_base.specs.Puts.{Writes};
 ghost use Rattle.mqtt5_base.specs.Layout.{layout, writing, content_of_packet};
 ghost use Rattle.mqtt5_flow.specs.Rows.{pubrel_codes, pubrel_row};
@@ -85,9 +86,11 @@ impl PubRel {
 
     /// The PubRel of a frame's bytes, of which the header is. E14 to E18 of a field that can't be read,
     /// then E1 with a reason code that a PubRel doesn't have; E21.
+    #[tactic(auto, using(mqtt5_base::proofs::AnswersLemmas::row_said))]
     pub fn read(alloc: Global, header: FixedHeader, bytes: Bytes) -> Result<PubRel, Error>
         requires { length bytes ≡ header.fixed_header_len + header.remaining_len }
-        ensures { ReadsRow (λ p. content_of_packet (pubrel_packet p)) pubrel_row header bytes result }
+        ensures row { ReadsRow (λ p. content_of_packet (pubrel_packet p)) pubrel_row header bytes result }
+        ensures values { Gives (λ p. content_of_packet (pubrel_packet p)) result (values_in pubrel_row header.byte1 header.remaining_len (drop header.fixed_header_len bytes)) }
     {
         let (pkid, reason, properties) = read_ack(alloc, header, bytes)?;
         Ok(PubRel {

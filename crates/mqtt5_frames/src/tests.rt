@@ -46,7 +46,7 @@ impl Notes {
             max_outgoing_size: max,
         };
         let len = packet.write(&mut self.written, max)?;
-        codec.encode(packet, &mut self.encoded)?;
+        codec.encode(packet.clone()?, &mut self.encoded)?;
         if packet.size() != len || !equals_its_copy(packet)? {
             return Err(Error::MalformedPacket);
         }

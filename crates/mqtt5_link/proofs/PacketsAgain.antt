@@ -1,9 +1,9 @@
 -- A ConnAck, a Disconnect and an Auth that are written are read again, each as its norm.
 use Rattle.std.proofs.Common.{◌&&◌, ◌≡◌, ℕ, ◌/◌, ◌%◌, ◌<◌, Bool, true, false, cond, eqb, List, [], ◌∷◌, ◌++◌, length, Option, Some, None, option_map, is_none, Ok, refl, sym, ap, ◌∙◌, arith, rules, length-append}
 use Rattle.std.proofs.lemmas.Bool.{lt-ltb, eqb-true}
-use Rattle.mqtt5_base.specs.Grammar.{number, Entry, Found, Test, passes, plain, properties, Content}
+use Rattle.mqtt5_base.specs.Grammar.{number, Entry, Found, Test, passes, plain, properties, Content, entry_of}
 use Rattle.mqtt5_base.specs.Views.{bit}
-use Rattle.mqtt5_base.specs.Frames.{Rows, row_among}
+use Rattle.mqtt5_base.specs.Frames.{Rows}
 use Rattle.mqtt5_base.specs.Reading.{frame_at}
 use Rattle.mqtt5_base.specs.Layout.{WrittenPacket, plainly, block_bytes, is_short, writing, content_of_packet}
 use Rattle.mqtt5_base.specs.Sets.{IsBlockOf}
@@ -48,7 +48,7 @@ is_nothing None h = refl
 is_nothing (Some a) h = absurd cc
 
 -- the row of a Disconnect reads it, with a body or without
-disconnect_readable : (rows : Rows) (short : Bool) (code : ℕ) (p : Option Found) → is_short disconnect_row (disconnect_written code p) ≡ short → row_among rows 14 ≡ Some disconnect_row → passes disconnect_codes (number code) ≡ true → IsBlockOf disconnect_table p
+disconnect_readable : (rows : Rows) (short : Bool) (code : ℕ) (p : Option Found) → is_short disconnect_row (disconnect_written code p) ≡ short → entry_of rows 14 ≡ Some disconnect_row → passes disconnect_codes (number code) ≡ true → IsBlockOf disconnect_table p
     → IsReadable rows disconnect_row (disconnect_written code p) short (reason_content code (tidy_found p))
 disconnect_readable rows true code p is among known set =
     let s = both_hold (eqb code 0) (is_none p && true) is in
@@ -80,7 +80,7 @@ disconnect_readable rows false code p is among known set =
     }
 
 -- A Disconnect that was written is read again as its norm's values.
-pub disconnect_again : (rows : Rows) (d : Disconnect) (bs : List ℕ) → row_among rows 14 ≡ Some disconnect_row → IsBlockOf disconnect_table (option_map disconnect_found d.properties)
+pub disconnect_again : (rows : Rows) (d : Disconnect) (bs : List ℕ) → entry_of rows 14 ≡ Some disconnect_row → IsBlockOf disconnect_table (option_map disconnect_found d.properties)
     → writing disconnect_row (disconnect_packet d) ≡ Ok bs → frame_at rows bs ≡ content_read (content_of_packet (disconnect_packet (disconnect_norm d)))
 disconnect_again rows d bs among set h =
     let code = disconnect_code d.reason_code in
@@ -104,7 +104,7 @@ auth_known : (r : AuthReasonCode) → passes auth_codes (number (auth_code r)) �
 auth_known = search rules
 
 -- the row of an Auth reads it
-auth_readable : (rows : Rows) (code : ℕ) (p : Option Found) → row_among rows 15 ≡ Some auth_row → passes auth_codes (number code) ≡ true → IsBlockOf auth_table p → IsReadable rows auth_row (auth_written code p) false (reason_content code (tidy_found p))
+auth_readable : (rows : Rows) (code : ℕ) (p : Option Found) → entry_of rows 15 ≡ Some auth_row → passes auth_codes (number code) ≡ true → IsBlockOf auth_table p → IsReadable rows auth_row (auth_written code p) false (reason_content code (tidy_found p))
 auth_readable rows code p among known set =
     let long = reason_and_block auth_codes auth_table code p known in
     record {
@@ -117,7 +117,7 @@ auth_readable rows code p among known set =
     }
 
 -- An Auth that was written is read again as its norm's values.
-pub auth_again : (rows : Rows) (a : Auth) (bs : List ℕ) → row_among rows 15 ≡ Some auth_row → IsBlockOf auth_table (option_map auth_found a.properties)
+pub auth_again : (rows : Rows) (a : Auth) (bs : List ℕ) → entry_of rows 15 ≡ Some auth_row → IsBlockOf auth_table (option_map auth_found a.properties)
     → writing auth_row (auth_packet a) ≡ Ok bs → frame_at rows bs ≡ content_read (content_of_packet (auth_packet (auth_norm a)))
 auth_again rows a bs among set h =
     let code = auth_code a.code in
@@ -140,7 +140,7 @@ abbrev connack_content : ℕ → ℕ → Option Found → Content
 connack_content present code p = (plain (number present) ∷ plain (number code) ∷ properties p ∷ [], [])
 
 -- the row of a ConnAck reads it
-connack_readable : (rows : Rows) (present : Bool) (code : ℕ) (p : Option Found) → row_among rows 2 ≡ Some connack_row → IsBlockOf connack_table p
+connack_readable : (rows : Rows) (present : Bool) (code : ℕ) (p : Option Found) → entry_of rows 2 ≡ Some connack_row → IsBlockOf connack_table p
     → IsReadable rows connack_row (connack_written (bit present) code p) false (connack_content (bit present) code (tidy_found p))
 connack_readable rows present code p among set =
     let flag : bit present ≡ bit present / 1 % 2 = omega (arith, bit_small present) in
@@ -154,7 +154,7 @@ connack_readable rows present code p among set =
     }
 
 -- A ConnAck that was written is read again as its norm's values.
-pub connack_again : (rows : Rows) (a : ConnAck) (bs : List ℕ) → row_among rows 2 ≡ Some connack_row → IsBlockOf connack_table (option_map connack_found a.properties)
+pub connack_again : (rows : Rows) (a : ConnAck) (bs : List ℕ) → entry_of rows 2 ≡ Some connack_row → IsBlockOf connack_table (option_map connack_found a.properties)
     → writing connack_row (connack_packet a) ≡ Ok bs → frame_at rows bs ≡ content_read (content_of_packet (connack_packet (connack_norm a)))
 connack_again rows a bs among set h =
     let present = bit a.session_present in

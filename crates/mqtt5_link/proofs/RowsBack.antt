@@ -1,7 +1,9 @@
 -- What the rows of ConnAck, Disconnect and Auth give comes back from the packets that are made of it.
 use Rattle.std.specs.Prelude.{nat_lt}
 use Rattle.std.proofs.Common.{◌≡◌, ℕ, ◌/◌, ◌%◌, Bool, true, false, List, [], ◌∷◌, refl, sym, ap, ◌∙◌, rules}
-use Rattle.mqtt5_base.specs.Grammar.{Kind, u8, Atom, number, number_of, Test, any_of, not_zero, spells, passes, Wrong, bad_reason, malformed, Value, plain, properties, checked, atom_of, Content}
+use Rattle.mqtt5_base.specs.declared.error.Error.{Error}
+use Rattle.mqtt5_base.specs.declared.error.Error.TheVariants.{InvalidConnectReturnCode, MalformedPacket}
+use Rattle.mqtt5_base.specs.Grammar.{Kind, u8, Atom, number, number_of, Test, any_of, not_zero, spells, passes, Value, plain, properties, checked, atom_of, Content}
 use Rattle.mqtt5_base.specs.Fields.{props, TakesField, IsRow}
 use Rattle.mqtt5_base.specs.Layout.{content_of_packet}
 use Rattle.mqtt5_base.proofs.SetShapes.{kept_by, ComeBack, numbers_again, contents_again, texts_again, pairs_again, set_again}
@@ -14,7 +16,7 @@ use Rattle.mqtt5_link.specs.FromValues.{connack_reason, connack_set, connack_of,
 use Rattle.mqtt5_base.proofs.Bits.{bit_of_mod}
 
 -- a value that is judged, or the one that stands for it, which passes too
-maybe_tested : (b : Bool) (k : Kind) (t : Test) (w : Wrong) (d : Atom) (body : List ℕ) (v : Value) (after : List ℕ) → kept_by k d ≡ d → passes t d ≡ true → TakesField b (checked k t w) (plain d) body v after → IsTested k t v
+maybe_tested : (b : Bool) (k : Kind) (t : Test) (w : ℕ → Error) (d : Atom) (body : List ℕ) (v : Value) (after : List ℕ) → kept_by k d ≡ d → passes t d ≡ true → TakesField b (checked k t w) (plain d) body v after → IsTested k t v
 maybe_tested true k t w d body v after e p h = checked_back k t w body v after h
 maybe_tested false k t w d body v after e p h = (d, h.0, e, p)
 
@@ -95,7 +97,7 @@ disconnect_code_again a same passed = ap (λ n. number n) (among_each (λ m. dis
 pub disconnect_row_again : (first len : ℕ) (body : List ℕ) (c : Content) (rest : List ℕ) → IsRow disconnect_row first len body c rest → content_of_packet (disconnect_packet (disconnect_of c)) ≡ c
 disconnect_row_again first len body c rest h =
     let f = h.2.1.1 in
-    let code = maybe_tested (nat_lt 0 len) u8 disconnect_codes bad_reason (number 0) body f.0 f.1 refl refl f.2 in
+    let code = maybe_tested (nat_lt 0 len) u8 disconnect_codes InvalidConnectReturnCode (number 0) body f.0 f.1 refl refl f.2 in
     let g = f.3 in
     let p = maybe_properties (nat_lt 1 len) disconnect_table f.1 g.0 g.1 g.2 in
     let back = disconnect_code_again code.0 code.2 code.3 in
@@ -123,7 +125,7 @@ auth_code_again a same passed = ap (λ n. number n) (among_each (λ m. auth_code
 pub auth_row_again : (first len : ℕ) (body : List ℕ) (c : Content) (rest : List ℕ) → IsRow auth_row first len body c rest → content_of_packet (auth_packet (auth_of c)) ≡ c
 auth_row_again first len body c rest h =
     let f = h.2 in
-    let code = maybe_tested (nat_lt 0 len) u8 auth_codes malformed (number 0) body f.0 f.1 refl refl f.2 in
+    let code = maybe_tested (nat_lt 0 len) u8 auth_codes (λ _. MalformedPacket) (number 0) body f.0 f.1 refl refl f.2 in
     let g = f.3 in
     let p = maybe_properties (nat_lt 0 len) auth_table f.1 g.0 g.1 g.2 in
     let back = auth_code_again code.0 code.2 code.3 in

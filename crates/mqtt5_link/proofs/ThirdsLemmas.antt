@@ -1,7 +1,7 @@
 -- Properties of a table in parts can be written where each part's can.
 use Rattle.std.specs.Prelude.{◌&&◌}
 use Rattle.std.proofs.Common.{◌≡◌, Bool, true, false, List, [], ◌∷◌, ◌++◌, length, refl, ap, ◌∙◌, arith}
-use Rattle.mqtt5_base.specs.Grammar.{Entry, Found, kinds, kind_among}
+use Rattle.mqtt5_base.specs.Grammar.{Entry, Found, kinds, entry_of}
 use Rattle.mqtt5_base.specs.Layout.{all_fit_by, items_fit}
 use Rattle.mqtt5_link.specs.declared.connack.ConnAckProperties.{ConnAckProperties}
 use Rattle.mqtt5_link.specs.Rows.{connack_table}
@@ -19,7 +19,7 @@ fit_parts [] u [] g l = refl
 fit_parts [] u (here ∷ f) g l = absurd (omega (arith, l))
 fit_parts (e ∷ t) u [] g l = absurd (omega (arith, l))
 fit_parts (e ∷ t) u (here ∷ f) g l =
-    let one = all_fit_by (kind_among kinds e.id) here in
+    let one = all_fit_by (entry_of kinds e.id) here in
     ap (λ (b : Bool). one && b) (fit_parts t u f g (omega (arith, l))) ∙ regrouped one (items_fit t f) (items_fit u g)
 
 -- The properties of a ConnAck can be written where each third can.

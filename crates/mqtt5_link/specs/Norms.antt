@@ -9,12 +9,12 @@ use Rattle.mqtt5_link.specs.Auths.{auth_found}
 
 -- an empty property set is none
 abbrev pub connack_norm : ConnAck → ConnAck
-connack_norm a = record { session_present = a.session_present; code = a.code; properties = tidy connack_found a.properties }
+connack_norm a = record a { properties = tidy connack_found a.properties }
 
 -- the same of a Disconnect
 abbrev pub disconnect_norm : Disconnect → Disconnect
-disconnect_norm d = record { reason_code = d.reason_code; properties = tidy disconnect_found d.properties }
+disconnect_norm d = record d { properties = tidy disconnect_found d.properties }
 
 -- the same of an Auth
 abbrev pub auth_norm : Auth → Auth
-auth_norm a = record { code = a.code; properties = tidy auth_found a.properties }
+auth_norm a = record a { properties = tidy auth_found a.properties }

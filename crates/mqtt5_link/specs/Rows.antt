@@ -1,6 +1,7 @@
 -- The rows of ConnAck, Disconnect and Auth (MQTT 5.0 sections 3.2, 3.14 and 3.15).
 use Rattle.std.specs.Prelude.{true, false, List, [], ◌∷◌, None}
-use Rattle.mqtt5_base.specs.Grammar.{u8, number, Entry, single, several_of, Test, any_of, bad_reason, bad_type, malformed, plain, properties, one, checked, block, given, read, whole, bits, always, longer, field, raw, note, judge, Row, there, bit_of, is, steps_row}
+use Rattle.mqtt5_base.specs.declared.error.Error.TheVariants.{InvalidConnectReturnCode, InvalidPacketType, MalformedPacket}
+use Rattle.mqtt5_base.specs.Grammar.{u8, number, Entry, single, several_of, Test, any_of, plain, properties, one, checked, block, given, read, whole, bits, always, longer, field, raw, note, judge, Row, there, bit_of, is, steps_row}
 
 -- ---- ConnAck (3.2)
 
@@ -17,7 +18,7 @@ connack_codes = any_of (0 ∷ 128 ∷ 129 ∷ 130 ∷ 131 ∷ 132 ∷ 133 ∷ 13
 -- the flags, of which the session present flag is kept (3.2.2.1.1), the reason code and the properties; the reason code
 -- is judged last
 abbrev pub connack_row : Row
-connack_row = steps_row (raw u8 ∷ note (bit_of (read 0) 1) ∷ there (one u8) ∷ there (block connack_table) ∷ judge always (whole (read 2)) connack_codes bad_reason ∷ [])
+connack_row = steps_row (raw u8 ∷ note (bit_of (read 0) 1) ∷ there (one u8) ∷ there (block connack_table) ∷ judge always (whole (read 2)) connack_codes InvalidConnectReturnCode ∷ [])
 
 -- ---- Disconnect (3.14)
 
@@ -34,9 +35,9 @@ disconnect_codes = any_of (0 ∷ 4 ∷ 128 ∷ 129 ∷ 130 ∷ 131 ∷ 135 ∷ 1
 abbrev pub disconnect_row : Row
 disconnect_row = record {
   steps =
-      judge always (bits given 16 16) (is 14) bad_type
-      ∷ judge always (bits given 1 16) (is 0) malformed
-      ∷ field (longer 0) (checked u8 disconnect_codes bad_reason) (plain (number 0))
+      judge always (bits given 16 16) (is 14) InvalidPacketType
+      ∷ judge always (bits given 1 16) (is 0) (λ _. MalformedPacket)
+      ∷ field (longer 0) (checked u8 disconnect_codes InvalidConnectReturnCode) (plain (number 0))
       ∷ field (longer 1) (block disconnect_table) (properties None)
       ∷ [];
   parts = [];
@@ -57,7 +58,7 @@ auth_codes = any_of (0 ∷ 24 ∷ 25 ∷ [])
 -- an empty body is success; the reason code and the properties (3.15.2.1)
 abbrev pub auth_row : Row
 auth_row = record {
-  steps = field (longer 0) (checked u8 auth_codes malformed) (plain (number 0)) ∷ field (longer 0) (block auth_table) (properties None) ∷ [];
+  steps = field (longer 0) (checked u8 auth_codes (λ _. MalformedPacket)) (plain (number 0)) ∷ field (longer 0) (block auth_table) (properties None) ∷ [];
   parts = [];
   bare = true;
   brief = false;

@@ -1,7 +1,7 @@
 //! The exchange of authentication data.
 
 ghost use Rattle.std.specs.Prelude.{◌≡◌, ◌+◌, ◌≤◌, [], true, Some, None, drop, length, min, nat_lt, option_map};
-ghost use Rattle.mqtt5_base.specs.Grammar.{u8, number, plain, checked, malformed};
+ghost use Rattle.mqtt5_base.specs.Grammar.{u8, number, plain, checked};
 ghost use Rattle.mqtt5_base.specs.Answers.{Finds, Gives, ReadsRow};
 ghost use Rattle.mqtt5_base.specs.Reading.{judged, optional_at, values_in};
 ghost use Rattle.mqtt5_base.specs.Puts.{Puts, Writes};
@@ -12,8 +12,8 @@ ghost use Rattle.mqtt5_link.specs.Auths.{auth_code, auth_found, auth_packet};
 use crate::optional::read_block_if;
 use bytes::{Bytes, BytesMut};
 use mqtt5_base::{
-    Error, FieldValue, FixedHeader, Property, PropertySet, Sequence, Tagged, Text, block_fits,
-    block_len, frame_size, put_block, read_u8, start_frame,
+    Error, FieldValue, FixedHeader, Property, PropertyBlock, PropertySet, Sequence, Tagged, Text,
+    block_fits, block_len, frame_size, put_block, read_u8, start_frame,
 };
 use std::alloc::{AllocError, Global};
 
@@ -119,6 +119,8 @@ impl PropertySet for AuthProperties {
     }
 }
 
+impl PropertyBlock for AuthProperties {}
+
 /// An Auth (MQTT 5.0 section 3.15).
 #[derive(Debug, Clone, PartialEq, Eq, Drop)]
 pub struct Auth {
@@ -130,7 +132,7 @@ pub struct Auth {
 
 /// The reason code of a number; E16 of another.
 fn reason(num: u8) -> Result<AuthReasonCode, Error>
-    ensures { Finds (λ r. number (auth_code r)) result (judged auth_codes malformed (number num)) }
+    ensures { Finds (λ r. number (auth_code r)) result (judged auth_codes (λ _. Error.MalformedPacket) (number num)) }
 {
     Ok(match num {
         0 => AuthReasonCode::Success,
@@ -142,7 +144,7 @@ fn reason(num: u8) -> Result<AuthReasonCode, Error>
 
 /// The reason code of a body of so many bytes.
 fn read_reason(len: usize, body: &mut Bytes) -> Result<AuthReasonCode, Error>
-    ensures { Gives (λ r. (plain (number (auth_code r)), body.new)) result (optional_at (nat_lt 0 len) (checked u8 auth_codes malformed) (plain (number 0)) body.old) }
+    ensures { Gives (λ r. (plain (number (auth_code r)), body.new)) result (optional_at (nat_lt 0 len) (checked u8 auth_codes (λ _. Error.MalformedPacket)) (plain (number 0)) body.old) }
 {
     if len == 0 {
         return Ok(AuthReasonCode::Success);
@@ -175,7 +177,8 @@ impl Auth {
     #[tactic(auto, using(mqtt5_base::proofs::AnswersLemmas::row_said))]
     pub fn read(alloc: Global, header: FixedHeader, bytes: Bytes) -> Result<Auth, Error>
         requires { length bytes ≡ header.fixed_header_len + header.remaining_len }
-        ensures { ReadsRow (λ a. content_of_packet (auth_packet a)) auth_row header bytes result }
+        ensures row { ReadsRow (λ a. content_of_packet (auth_packet a)) auth_row header bytes result }
+        ensures values { Gives (λ a. content_of_packet (auth_packet a)) result (values_in auth_row header.byte1 header.remaining_len (drop header.fixed_header_len bytes)) }
     {
         Auth::read_values(alloc, header, bytes)
     }

@@ -1,7 +1,7 @@
 //! The answer to a connect.
 
 ghost use Rattle.std.specs.Prelude.{◌≡◌, ◌+◌, ◌≤◌, [], true, Some, None, drop, length, min, option_map};
-ghost use Rattle.mqtt5_base.specs.Grammar.{number, bad_reason};
+ghost use Rattle.mqtt5_base.specs.Grammar.{number};
 ghost use Rattle.mqtt5_base.specs.Answers.{Finds, Gives, ReadsRow};
 ghost use Rattle.mqtt5_base.specs.Reading.{judged, values_in};
 ghost use Rattle.mqtt5_base.specs.Sets.{IsSetOf};
@@ -13,8 +13,8 @@ ghost use Rattle.mqtt5_link.specs.Thirds.{connack_first_table, connack_second_ta
 
 use bytes::{Bytes, BytesMut};
 use mqtt5_base::{
-    Error, FieldValue, FixedHeader, Property, PropertySet, Sequence, Tagged, Text, block_fits,
-    block_len, copied, frame_size, put_block, read_block, read_u8, start_frame,
+    Error, FieldValue, FixedHeader, Property, PropertyBlock, PropertySet, Sequence, Tagged, Text,
+    block_fits, block_len, copied, frame_size, put_block, read_block, read_u8, start_frame,
 };
 use std::alloc::{AllocError, Global};
 
@@ -86,7 +86,7 @@ impl ConnectReturnCode {
 
     /// Refuses a code of an earlier version with E1 and its number.
     fn judge(self) -> Result<(), Error>
-        ensures { Finds (λ _. number (connack_code self)) result (judged connack_codes bad_reason (number (connack_code self))) }
+        ensures { Finds (λ _. number (connack_code self)) result (judged connack_codes Error.InvalidConnectReturnCode (number (connack_code self))) }
     {
         let code = self.code();
         match self {
@@ -231,6 +231,8 @@ impl PropertySet for ConnAckProperties {
         self.third_known();
     }
 }
+
+impl PropertyBlock for ConnAckProperties {}
 
 /// The same by thirds of the properties.
 impl ConnAckProperties {
@@ -410,7 +412,7 @@ pub struct ConnAck {
 
 /// The code of a number; E1 of another.
 fn reason(num: u8) -> Result<ConnectReturnCode, Error>
-    ensures { Finds (λ r. number (connack_code r)) result (judged connack_codes bad_reason (number num)) }
+    ensures { Finds (λ r. number (connack_code r)) result (judged connack_codes Error.InvalidConnectReturnCode (number num)) }
 {
     Ok(match num {
         0 => ConnectReturnCode::Success,
@@ -464,7 +466,8 @@ impl ConnAck {
     #[tactic(auto, using(mqtt5_base::proofs::AnswersLemmas::row_said))]
     pub fn read(alloc: Global, header: FixedHeader, bytes: Bytes) -> Result<ConnAck, Error>
         requires { length bytes ≡ header.fixed_header_len + header.remaining_len }
-        ensures { ReadsRow (λ a. content_of_packet (connack_packet a)) connack_row header bytes result }
+        ensures row { ReadsRow (λ a. content_of_packet (connack_packet a)) connack_row header bytes result }
+        ensures values { Gives (λ a. content_of_packet (connack_packet a)) result (values_in connack_row header.byte1 header.remaining_len (drop header.fixed_header_len bytes)) }
     {
         ConnAck::read_values(alloc, header, bytes)
     }

@@ -1,9 +1,9 @@
 //! The end of a connection.
 
 ghost use Rattle.std.specs.Prelude.{◌≡◌, ◌+◌, ◌/◌, ◌%◌, ◌≤◌, [], true, Some, None, OnErr, drop, length, min, nat_lt, option_map};
-ghost use Rattle.mqtt5_base.specs.Grammar.{u8, number, plain, properties, checked, block, is, bad_reason, bad_type, malformed};
-ghost use Rattle.mqtt5_base.specs.Answers.{Finds, Gives, ReadsRow};
-ghost use Rattle.mqtt5_base.specs.Reading.{judged, optional_at, block_at, values_in};
+ghost use Rattle.mqtt5_base.specs.Grammar.{u8, number, plain, properties, checked, block, is};
+ghost use Rattle.mqtt5_base.specs.Answers.{Finds, Gives, ReadsBlock, ReadsRow};
+ghost use Rattle.mqtt5_base.specs.Reading.{judged, optional_at, values_in};
 ghost use Rattle.mqtt5_base.specs.Puts.{Puts, Writes};
 ghost use Rattle.mqtt5_base.specs.Layout.{block_fits, body_bytes, layout, writing, content_of_packet};
 ghost use Rattle.mqtt5_link.specs.Rows.{disconnect_table, disconnect_codes, disconnect_row};
@@ -54,9 +54,11 @@ pub enum DisconnectReasonCode {
 
 /// The reason of a code; E1 with a number that is no reason's. Takes no memory.
 impl TryFrom<u8> for DisconnectReasonCode {
+    ghost use Rattle.mqtt5_base.specs.declared.error.Error.TheVariants.{InvalidConnectReturnCode};
+
     type Error = Error;
 
-    ghost try_from_gives = { λ num result. Finds (λ r. number (disconnect_code r)) result (judged disconnect_codes bad_reason (number num)) };
+    ghost try_from_gives = { λ num result. Finds (λ r. number (disconnect_code r)) result (judged disconnect_codes InvalidConnectReturnCode (number num)) };
 
     fn try_from(num: u8) -> Result<DisconnectReasonCode, Error> {
         Ok(match num {
@@ -185,8 +187,9 @@ impl DisconnectProperties {
 
     /// The block at the front of the bytes; none where it is empty. E14 to E18 of a block that can't
     /// be read; E21. After a refusal the bytes are unchanged.
+    #[tactic(auto, using(mqtt5_base::proofs::AnswersLemmas::block_said))]
     pub fn extract(alloc: Global, bytes: &mut Bytes) -> Result<Option<DisconnectProperties>, Error>
-        ensures read { Gives (λ p. (option_map disconnect_found p, bytes.new)) result (block_at disconnect_table bytes.old) }
+        ensures read { ReadsBlock (λ p. (option_map disconnect_found p, bytes.new)) disconnect_table bytes.old result }
         ensures kept { OnErr result (bytes.new ≡ bytes.old) }
     {
         read_block(alloc, bytes)
@@ -204,7 +207,7 @@ pub struct Disconnect {
 
 /// Refuses a first byte of another packet type.
 fn judge_type(byte1: u8) -> Result<(), Error>
-    ensures { Finds (λ _. number 14) result (judged (is 14) bad_type (number (byte1 / 16 % 16))) }
+    ensures { Finds (λ _. number 14) result (judged (is 14) Error.InvalidPacketType (number (byte1 / 16 % 16))) }
 {
     let kind = byte1 / 16;
     if kind != 14 {
@@ -215,7 +218,7 @@ fn judge_type(byte1: u8) -> Result<(), Error>
 
 /// Refuses a first byte with flags.
 fn judge_flags(byte1: u8) -> Result<(), Error>
-    ensures { Finds (λ _. number 0) result (judged (is 0) malformed (number (byte1 / 1 % 16))) }
+    ensures { Finds (λ _. number 0) result (judged (is 0) (λ _. Error.MalformedPacket) (number (byte1 / 1 % 16))) }
 {
     if byte1 % 16 != 0 {
         return Err(Error::MalformedPacket);
@@ -225,7 +228,7 @@ fn judge_flags(byte1: u8) -> Result<(), Error>
 
 /// The reason of a body of so many bytes.
 fn read_reason(len: usize, body: &mut Bytes) -> Result<DisconnectReasonCode, Error>
-    ensures { Gives (λ r. (plain (number (disconnect_code r)), body.new)) result (optional_at (nat_lt 0 len) (checked u8 disconnect_codes bad_reason) (plain (number 0)) body.old) }
+    ensures { Gives (λ r. (plain (number (disconnect_code r)), body.new)) result (optional_at (nat_lt 0 len) (checked u8 disconnect_codes Error.InvalidConnectReturnCode) (plain (number 0)) body.old) }
 {
     if len == 0 {
         return Ok(DisconnectReasonCode::NormalDisconnection);
@@ -267,7 +270,8 @@ impl Disconnect {
     #[tactic(auto, using(mqtt5_base::proofs::AnswersLemmas::row_said))]
     pub fn read(alloc: Global, header: FixedHeader, bytes: Bytes) -> Result<Disconnect, Error>
         requires { length bytes ≡ header.fixed_header_len + header.remaining_len }
-        ensures { ReadsRow (λ d. content_of_packet (disconnect_packet d)) disconnect_row header bytes result }
+        ensures row { ReadsRow (λ d. content_of_packet (disconnect_packet d)) disconnect_row header bytes result }
+        ensures values { Gives (λ d. content_of_packet (disconnect_packet d)) result (values_in disconnect_row header.byte1 header.remaining_len (drop header.fixed_header_len bytes)) }
     {
         Disconnect::read_values(alloc, header, bytes)
     }

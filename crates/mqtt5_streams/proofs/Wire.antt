@@ -3,11 +3,11 @@ use Rattle.std.proofs.Common.{◌≡◌, ℕ, ◌+◌, ◌≤◌, ◌/◌, ◌%�
 use Rattle.std.proofs.lemmas.Bool.{ltb-false}
 use Rattle.std.proofs.lemmas.List.{length-append}
 use Rattle.mqtt5_base.specs.declared.error.Error.{Error}
-use Rattle.mqtt5_base.specs.declared.error.Error.TheVariants.{OutgoingPacketTooLarge, PayloadTooLong}
+use Rattle.mqtt5_base.specs.declared.error.Error.TheVariants.{OutgoingPacketTooLarge, PayloadTooLong, InvalidQoS, PacketIdZero}
 use Rattle.mqtt5_base.specs.VarInt.{var_int, var_int_in}
 use Rattle.mqtt5_base.specs.Front.{Whole, Admits}
 use Rattle.mqtt5_base.specs.FrontAt.{front}
-use Rattle.mqtt5_base.specs.Grammar.{number, passes, fault_of, is_qos, bad_qos, not_zero, zero_id}
+use Rattle.mqtt5_base.specs.Grammar.{number, passes, is_qos, not_zero}
 use Rattle.mqtt5_base.specs.Views.{qos_number}
 use Rattle.mqtt5_base.specs.Layout.{layout, fits}
 use Rattle.mqtt5_base.proofs.FrontFound.{front_found}
@@ -129,7 +129,7 @@ dup_written : (p : Publish) (bytes : List ℕ) → packet_writing (packets.Publi
 dup_written p bytes h =
     tests (fits publish_row (publish_packet p)) (passes is_qos (number (qos_number p.qos))) (nat_lt 0 (qos_number p.qos)) (passes not_zero (number p.pkid))
     (Ok (layout publish_row (publish_packet p))) (Ok (layout publish_row (publish_packet (record p { dup = true }))))
-    (fault_of zero_id p.pkid) (fault_of bad_qos (qos_number p.qos)) PayloadTooLong bytes h
+    PacketIdZero (InvalidQoS (qos_number p.qos)) PayloadTooLong bytes h
 
 dup_len : (p : Publish) → packet_len (packets.Publish (record p { dup = true })) ≡ packet_len (packets.Publish p)
 dup_len p = refl

@@ -84,7 +84,7 @@ impl Way {
             max_incoming_size: None,
             max_outgoing_size: limit,
         };
-        match codec.encode(packet, &mut self.stream) {
+        match codec.write(packet, &mut self.stream) {
             Ok(()) => Ok(()),
             Err(error) => Err(StateError::from(error)),
         }

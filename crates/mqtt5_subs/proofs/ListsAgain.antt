@@ -1,8 +1,9 @@
 -- A packet with a list that is written is read again.
 use Rattle.std.proofs.Common.{◌≡◌, ℕ, ◌/◌, ◌<◌, true, false, List, [], ◌∷◌, ◌++◌, length, map, Option, Some, None, option_map, Ok, refl, sym, ap, ◌∙◌, arith, length-append}
-use Rattle.mqtt5_base.specs.Grammar.{number, Entry, Found, Wrong, Value, plain, properties, Field, Step, more, several, Known, Content}
+use Rattle.mqtt5_base.specs.declared.error.Error.{Error}
+use Rattle.mqtt5_base.specs.Grammar.{number, Entry, Found, Value, plain, properties, Field, Step, more, several, Known, Content, entry_of}
 use Rattle.mqtt5_base.specs.Fields.{repeated}
-use Rattle.mqtt5_base.specs.Frames.{Rows, row_among}
+use Rattle.mqtt5_base.specs.Frames.{Rows}
 use Rattle.mqtt5_base.specs.Reading.{frame_at}
 use Rattle.mqtt5_base.specs.Layout.{Written, listed, written_bytes, listed_bytes, all_kept, writing}
 use Rattle.mqtt5_base.specs.Sets.{IsBlockOf, apart}
@@ -35,17 +36,17 @@ are_kept steps written is (x ∷ xs) = λ i. (is x).kept i ∷ are_kept steps wr
 -- ---- the row
 
 -- an item at least, where a list without items is wrong
-abbrev pub wanted : Option Wrong → List Step
+abbrev pub wanted : Option Error → List Step
 wanted None = []
 wanted (Some w) = more w ∷ []
 
 -- whether a list may have no items changes nothing of what is known
-known_ended : (lack : Option Wrong) (w r : Known) → known_again false (wanted lack) w r [] [] ≡ r
+known_ended : (lack : Option Error) (w r : Known) → known_again false (wanted lack) w r [] [] ≡ r
 known_ended None w r = refl
 known_ended (Some e) w r = refl
 
 -- where an item is wanted, a list with one has a byte
-wanted_suits : (lack : Option Wrong) (steps : List Step) (ws : List Written) (w r : Known) → AreOwn steps ws → Suits false (listed ws ∷ []) (wanted lack) w r [] [] (listed_bytes steps ws ++ [])
+wanted_suits : (lack : Option Error) (steps : List Step) (ws : List Written) (w r : Known) → AreOwn steps ws → Suits false (listed ws ∷ []) (wanted lack) w r [] [] (listed_bytes steps ws ++ [])
 wanted_suits None steps ws w r own = tt
 wanted_suits (Some e) steps [] w r own = (λ h. absurd cc, tt)
 wanted_suits (Some e) steps (x ∷ ws) w r own =
@@ -58,7 +59,7 @@ abbrev pub listed_content : ℕ → Option Found → List (List Value) → Conte
 listed_content id p items = (plain (number id) ∷ properties p ∷ [], several items ∷ [])
 
 -- the row of a packet with a list reads it
-listed_readable : (rows : Rows) (table : List Entry) (lack : Option Wrong) (first : Field) (others : List Step) (byte id : ℕ) (p : Option Found) (ws : List Written) → row_among rows (byte / 16) ≡ Some (listed_row table (wanted lack) first others)
+listed_readable : (rows : Rows) (table : List Entry) (lack : Option Error) (first : Field) (others : List Step) (byte id : ℕ) (p : Option Found) (ws : List Written) → entry_of rows (byte / 16) ≡ Some (listed_row table (wanted lack) first others)
     → apart [] table ≡ true → id < 65536 → IsBlockOf table p → AreOwn (repeated first others) ws → all_again (repeated first others) ws ≡ all_kept ws
     → IsReadable rows (listed_row table (wanted lack) first others) (listed_packet byte id p ws) false (listed_content id (tidy_found p) (all_kept ws))
 listed_readable rows table lack first others byte id p ws among once small set own kept = record {
@@ -71,8 +72,8 @@ listed_readable rows table lack first others byte id p ws among once small set o
 }
 
 -- A packet with a list that was written is read again as its values, of a tidy set.
-pub listed_again : {P A : Type 0} (found : P → Found) (written : A → Written) (rows : Rows) (table : List Entry) (lack : Option Wrong) (first : Field) (others : List Step) (byte id : ℕ) (p : Option P) (xs : List A) (bs : List ℕ)
-    → row_among rows (byte / 16) ≡ Some (listed_row table (wanted lack) first others) → apart [] table ≡ true → id < 65536 → IsBlockOf table (option_map found p) → ((x : A) → IsItem (repeated first others) (written x))
+pub listed_again : {P A : Type 0} (found : P → Found) (written : A → Written) (rows : Rows) (table : List Entry) (lack : Option Error) (first : Field) (others : List Step) (byte id : ℕ) (p : Option P) (xs : List A) (bs : List ℕ)
+    → entry_of rows (byte / 16) ≡ Some (listed_row table (wanted lack) first others) → apart [] table ≡ true → id < 65536 → IsBlockOf table (option_map found p) → ((x : A) → IsItem (repeated first others) (written x))
     → writing (listed_row table (wanted lack) first others) (listed_packet byte id (option_map found p) (map written xs)) ≡ Ok bs → frame_at rows bs ≡ content_read (listed_content id (option_map found (tidy found p)) (all_kept (map written xs)))
 listed_again found written rows table lack first others byte id p xs bs among once small set is h =
     let steps = repeated first others in

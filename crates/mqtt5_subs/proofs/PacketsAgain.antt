@@ -1,10 +1,11 @@
 -- Subscribe, SubAck, Unsubscribe and UnsubAck that are written are read again, as their norms.
 use Rattle.std.proofs.Common.{◌≡◌, ℕ, ◌/◌, ◌%◌, ◌<◌, ◌≤◌, Bool, true, cond, List, [], ◌∷◌, map, Some, None, option_map, Result, Ok, Err, refl, ap, ◌∙◌, arith, rules}
+use Rattle.mqtt5_base.specs.declared.error.Error.TheVariants.{EmptySubscription, InvalidSubscribeReasonCode, MalformedPacket}
 use Rattle.mqtt5_base.specs.declared.error.Error.{Error}
 use Rattle.mqtt5_base.specs.Texts.{Utf8}
-use Rattle.mqtt5_base.specs.Grammar.{u8, text, number, is_among, Test, passes, bad_subscribe_reason, no_filters, malformed, plain, one, checked}
+use Rattle.mqtt5_base.specs.Grammar.{u8, text, number, is_among, Test, passes, plain, one, checked, entry_of}
 use Rattle.mqtt5_base.specs.Fields.{repeated}
-use Rattle.mqtt5_base.specs.Frames.{Rows, row_among}
+use Rattle.mqtt5_base.specs.Frames.{Rows}
 use Rattle.mqtt5_base.specs.Reading.{frame_at}
 use Rattle.mqtt5_base.specs.Views.{qos_number, bit}
 use Rattle.mqtt5_base.specs.Layout.{just, content_of_packet, all_kept, writing}
@@ -84,9 +85,9 @@ filter_item f =
     }
 
 -- A Subscribe that was written is read again as its norm's values.
-pub subscribe_again : (rows : Rows) (p : Subscribe) (bs : List ℕ) → row_among rows 8 ≡ Some subscribe_row → p.pkid < 65536 → IsBlockOf subscribe_table (option_map subscribe_found p.properties)
+pub subscribe_again : (rows : Rows) (p : Subscribe) (bs : List ℕ) → entry_of rows 8 ≡ Some subscribe_row → p.pkid < 65536 → IsBlockOf subscribe_table (option_map subscribe_found p.properties)
     → writing subscribe_row (subscribe_packet p) ≡ Ok bs → frame_at rows bs ≡ content_read (content_of_packet (subscribe_packet (subscribe_norm p)))
-subscribe_again rows p bs among small set h = listed_again subscribe_found filter_written rows subscribe_table (Some no_filters) (one text) option_steps 130 p.pkid p.properties p.filters bs among refl small set filter_item h
+subscribe_again rows p bs among small set h = listed_again subscribe_found filter_written rows subscribe_table (Some EmptySubscription) (one text) option_steps 130 p.pkid p.properties p.filters bs among refl small set filter_item h
 
 -- The norm's norm is itself.
 pub subscribe_norm_twice : (p : Subscribe) → subscribe_norm (subscribe_norm p) ≡ subscribe_norm p
@@ -95,7 +96,7 @@ subscribe_norm_twice p = λ i. record { pkid = p.pkid; filters = p.filters; prop
 -- ---- SubAck and UnsubAck
 
 -- a reason code is read again
-code_item : (codes : Test) (n : ℕ) → passes codes (number n) ≡ true → IsItem (repeated (checked u8 codes bad_subscribe_reason) []) (just (plain (number n) ∷ []))
+code_item : (codes : Test) (n : ℕ) → passes codes (number n) ≡ true → IsItem (repeated (checked u8 codes InvalidSubscribeReasonCode) []) (just (plain (number n) ∷ []))
 code_item codes n known = record {
   some = rw known (omega arith);
   own = λ rest. record { passes = rw known refl; suits = (refl, λ _. tt, tt) };
@@ -112,10 +113,10 @@ settled_codes [] = refl
 settled_codes (r ∷ rs) = λ i. (plain (number (settled_code r i)) ∷ []) ∷ settled_codes rs i
 
 -- A SubAck that was written is read again as its norm's values.
-pub suback_again : (rows : Rows) (p : SubAck) (bs : List ℕ) → row_among rows 9 ≡ Some suback_row → p.pkid < 65536 → IsBlockOf ack_table (option_map ack_found p.properties)
+pub suback_again : (rows : Rows) (p : SubAck) (bs : List ℕ) → entry_of rows 9 ≡ Some suback_row → p.pkid < 65536 → IsBlockOf ack_table (option_map ack_found p.properties)
     → writing suback_row (suback_packet p) ≡ Ok bs → frame_at rows bs ≡ content_read (content_of_packet (suback_packet (suback_norm p)))
 suback_again rows p bs among small set h =
-    listed_again ack_found suback_item rows ack_table (Some malformed) (checked u8 suback_codes bad_subscribe_reason) [] 144 p.pkid p.properties p.return_codes bs among refl small set (λ r. code_item suback_codes (suback_code r) (suback_known r)) h
+    listed_again ack_found suback_item rows ack_table (Some MalformedPacket) (checked u8 suback_codes InvalidSubscribeReasonCode) [] 144 p.pkid p.properties p.return_codes bs among refl small set (λ r. code_item suback_codes (suback_code r) (suback_known r)) h
     ∙ ap (λ items. content_read (listed_content p.pkid (option_map ack_found (tidy ack_found p.properties)) items)) (settled_codes p.return_codes)
 
 -- The norm's norm is itself.
@@ -123,10 +124,10 @@ pub suback_norm_twice : (p : SubAck) → suback_norm (suback_norm p) ≡ suback_
 suback_norm_twice p = λ i. record { pkid = p.pkid; return_codes = all_settled_twice p.return_codes i; properties = tidy_twice ack_found p.properties i }
 
 -- An UnsubAck that was written is read again as its norm's values.
-pub unsuback_again : (rows : Rows) (p : UnsubAck) (bs : List ℕ) → row_among rows 11 ≡ Some unsuback_row → p.pkid < 65536 → IsBlockOf ack_table (option_map ack_found p.properties)
+pub unsuback_again : (rows : Rows) (p : UnsubAck) (bs : List ℕ) → entry_of rows 11 ≡ Some unsuback_row → p.pkid < 65536 → IsBlockOf ack_table (option_map ack_found p.properties)
     → writing unsuback_row (unsuback_packet p) ≡ Ok bs → frame_at rows bs ≡ content_read (content_of_packet (unsuback_packet (unsuback_norm p)))
 unsuback_again rows p bs among small set h =
-    listed_again ack_found unsuback_item rows ack_table (Some malformed) (checked u8 unsuback_codes bad_subscribe_reason) [] 176 p.pkid p.properties p.reasons bs among refl small set (λ r. code_item unsuback_codes (unsuback_code r) (unsuback_known r)) h
+    listed_again ack_found unsuback_item rows ack_table (Some MalformedPacket) (checked u8 unsuback_codes InvalidSubscribeReasonCode) [] 176 p.pkid p.properties p.reasons bs among refl small set (λ r. code_item unsuback_codes (unsuback_code r) (unsuback_known r)) h
 
 -- The norm's norm is itself.
 pub unsuback_norm_twice : (p : UnsubAck) → unsuback_norm (unsuback_norm p) ≡ unsuback_norm p
@@ -139,7 +140,7 @@ path_item : (t : Utf8) → IsItem (repeated (one text) []) (path_written t)
 path_item t = record { some = omega arith; own = λ rest. record { passes = refl; suits = (refl, λ _. t.is_text, tt) }; kept = refl }
 
 -- An Unsubscribe that was written is read again as its norm's values.
-pub unsubscribe_again : (rows : Rows) (p : Unsubscribe) (bs : List ℕ) → row_among rows 10 ≡ Some unsubscribe_row → p.pkid < 65536 → IsBlockOf unsubscribe_table (option_map unsubscribe_found p.properties)
+pub unsubscribe_again : (rows : Rows) (p : Unsubscribe) (bs : List ℕ) → entry_of rows 10 ≡ Some unsubscribe_row → p.pkid < 65536 → IsBlockOf unsubscribe_table (option_map unsubscribe_found p.properties)
     → writing unsubscribe_row (unsubscribe_packet p) ≡ Ok bs → frame_at rows bs ≡ content_read (content_of_packet (unsubscribe_packet (unsubscribe_norm p)))
 unsubscribe_again rows p bs among small set h = listed_again unsubscribe_found path_written rows unsubscribe_table None (one text) [] 162 p.pkid p.properties p.filters bs among refl small set path_item h
 

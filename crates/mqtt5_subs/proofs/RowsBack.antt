@@ -1,6 +1,8 @@
 -- What the rows of Subscribe, SubAck, Unsubscribe and UnsubAck give comes back from the packets that are made of it.
 use Rattle.std.proofs.Common.{◌≡◌, ℕ, ◌/◌, ◌%◌, Bool, true, false, cond, eqb, List, [], ◌∷◌, map, Option, Some, None, option_map, refl, sym, ap, ◌∙◌}
-use Rattle.mqtt5_base.specs.Grammar.{u8, u16, text, Atom, number, number_of, Entry, Found, Test, passes, is_among, Wrong, bad_subscribe_reason, no_filters, malformed, Value, plain, properties, Field, one, checked, Step, several, Known, Content, number_in}
+use Rattle.mqtt5_base.specs.declared.error.Error.{Error}
+use Rattle.mqtt5_base.specs.declared.error.Error.TheVariants.{EmptySubscription, InvalidSubscribeReasonCode, MalformedPacket}
+use Rattle.mqtt5_base.specs.Grammar.{u8, u16, text, Atom, number, number_of, Entry, Found, Test, passes, is_among, Value, plain, properties, Field, one, checked, Step, several, Known, Content, number_in}
 use Rattle.mqtt5_base.specs.Fields.{props, Fields, Kept, Repeats, repeated, IsRow}
 use Rattle.mqtt5_base.specs.FromValues.{found_in}
 use Rattle.mqtt5_base.specs.Layout.{Written, content_of_packet, all_kept}
@@ -23,7 +25,7 @@ use Rattle.mqtt5_subs.specs.UnsubAcks.{unsuback_code, unsuback_item, unsuback_pa
 -- ---- packets with a list
 
 -- whether a list may have no items changes nothing of what is known
-ended : (lack : Option Wrong) (known : Known) (body : List ℕ) (out : Known) (rest : List ℕ) → Fields (wanted lack) known body out rest → out ≡ known
+ended : (lack : Option Error) (known : Known) (body : List ℕ) (out : Known) (rest : List ℕ) → Fields (wanted lack) known body out rest → out ≡ known
 ended None known body out rest h = h.0
 ended (Some w) known body out rest h = h.1.0
 
@@ -42,7 +44,7 @@ abbrev packet_content : Atom → Option Found → List (List Value) → Content
 packet_content id p all = (plain id ∷ properties p ∷ [], several all ∷ [])
 
 -- What the row of such a packet gives comes back, where properties and items do.
-listed_comes_back : {P A : Type 0} (table : List Entry) (lack : Option Wrong) (first : Field) (others : List Step) (found : P → Found) (set : Found → P) (written : A → Written) (made : List Value → A)
+listed_comes_back : {P A : Type 0} (table : List Entry) (lack : Option Error) (first : Field) (others : List Step) (found : P → Found) (set : Found → P) (written : A → Written) (made : List Value → A)
     → ((items : List (ℕ × Atom)) → ComeBack items → found (set (props table items)) ≡ props table items) → Again first others written made
     → (byte len : ℕ) (body : List ℕ) (c : Content) (rest : List ℕ) → IsRow (listed_row table (wanted lack) first others) byte len body c rest
     → packet_content (number (number_in c.0 0)) (option_map found (option_map set (found_in c.0 1))) (all_kept (map written (map made (items_in c.1)))) ≡ c
@@ -95,16 +97,16 @@ filter_again bs after vs h =
 
 -- What the row of a Subscribe gives comes back.
 pub subscribe_row_again : (first len : ℕ) (body : List ℕ) (c : Content) (rest : List ℕ) → IsRow subscribe_row first len body c rest → content_of_packet (subscribe_packet (subscribe_of c)) ≡ c
-subscribe_row_again first len body c rest h = listed_comes_back subscribe_table (Some no_filters) (one text) option_steps subscribe_found subscribe_set filter_written filter_of subscribe_set_again filter_again first len body c rest h
+subscribe_row_again first len body c rest h = listed_comes_back subscribe_table (Some EmptySubscription) (one text) option_steps subscribe_found subscribe_set filter_written filter_of subscribe_set_again filter_again first len body c rest h
 
 -- ---- SubAck and UnsubAck
 
 -- a reason code comes back, where each does
 code_again : (codes : Test) (back : ℕ → ℕ) → ((n : ℕ) → passes codes (number n) ≡ true → back n ≡ n)
-    → (bs after : List ℕ) (vs : List Value) → Kept (repeated (checked u8 codes bad_subscribe_reason) []) 0 bs vs after → (plain (number (back (number_in vs 0))) ∷ []) ≡ vs
+    → (bs after : List ℕ) (vs : List Value) → Kept (repeated (checked u8 codes InvalidSubscribeReasonCode) []) 0 bs vs after → (plain (number (back (number_in vs 0))) ∷ []) ≡ vs
 code_again codes back each bs after vs h =
     let s = h.1 in
-    let code = checked_back u8 codes bad_subscribe_reason bs s.0 s.1 s.2 in
+    let code = checked_back u8 codes InvalidSubscribeReasonCode bs s.0 s.1 s.2 in
     let is : vs ≡ plain code.0 ∷ [] = h.2 ∙ ap (λ k. k.kept) s.3.0 ∙ (λ i. code.1 i ∷ []) in
     let same = ap number (each (number_of code.0) (ap (passes codes) code.2 ∙ code.3)) ∙ code.2 in
     ap (λ z. plain (number (back (number_in z 0))) ∷ []) is ∙ (λ i. plain (same i) ∷ []) ∙ sym is
@@ -121,12 +123,12 @@ unsuback_code_again n h = among_each (λ m. unsuback_code (unsuback_reason m) �
 -- What the row of a SubAck gives comes back.
 pub suback_row_again : (first len : ℕ) (body : List ℕ) (c : Content) (rest : List ℕ) → IsRow suback_row first len body c rest → content_of_packet (suback_packet (suback_of c)) ≡ c
 suback_row_again first len body c rest h =
-    listed_comes_back ack_table (Some malformed) (checked u8 suback_codes bad_subscribe_reason) [] ack_found ack_set suback_item suback_reason_in ack_set_again (code_again suback_codes (λ n. suback_code (suback_reason n)) suback_code_again) first len body c rest h
+    listed_comes_back ack_table (Some MalformedPacket) (checked u8 suback_codes InvalidSubscribeReasonCode) [] ack_found ack_set suback_item suback_reason_in ack_set_again (code_again suback_codes (λ n. suback_code (suback_reason n)) suback_code_again) first len body c rest h
 
 -- What the row of an UnsubAck gives comes back.
 pub unsuback_row_again : (first len : ℕ) (body : List ℕ) (c : Content) (rest : List ℕ) → IsRow unsuback_row first len body c rest → content_of_packet (unsuback_packet (unsuback_of c)) ≡ c
 unsuback_row_again first len body c rest h =
-    listed_comes_back ack_table (Some malformed) (checked u8 unsuback_codes bad_subscribe_reason) [] ack_found ack_set unsuback_item unsuback_reason_in ack_set_again (code_again unsuback_codes (λ n. unsuback_code (unsuback_reason n)) unsuback_code_again) first len body c rest h
+    listed_comes_back ack_table (Some MalformedPacket) (checked u8 unsuback_codes InvalidSubscribeReasonCode) [] ack_found ack_set unsuback_item unsuback_reason_in ack_set_again (code_again unsuback_codes (λ n. unsuback_code (unsuback_reason n)) unsuback_code_again) first len body c rest h
 
 -- ---- Unsubscribe
 

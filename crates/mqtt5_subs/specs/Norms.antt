@@ -13,16 +13,16 @@ use Rattle.mqtt5_subs.specs.Unsubscribes.{unsubscribe_found}
 
 -- an empty property set is none (2.2.2.1)
 abbrev pub subscribe_norm : Subscribe → Subscribe
-subscribe_norm p = record { pkid = p.pkid; filters = p.filters; properties = tidy subscribe_found p.properties }
+subscribe_norm p = record p { properties = tidy subscribe_found p.properties }
 
 -- the same, and a failure is read as unspecified (3.9.3)
 abbrev pub suback_norm : SubAck → SubAck
-suback_norm p = record { pkid = p.pkid; return_codes = map suback_settled p.return_codes; properties = tidy ack_found p.properties }
+suback_norm p = record p { return_codes = map suback_settled p.return_codes; properties = tidy ack_found p.properties }
 
 -- the same as of a Subscribe
 abbrev pub unsubscribe_norm : Unsubscribe → Unsubscribe
-unsubscribe_norm p = record { pkid = p.pkid; filters = p.filters; properties = tidy unsubscribe_found p.properties }
+unsubscribe_norm p = record p { properties = tidy unsubscribe_found p.properties }
 
 -- the same as of a Subscribe
 abbrev pub unsuback_norm : UnsubAck → UnsubAck
-unsuback_norm p = record { pkid = p.pkid; reasons = p.reasons; properties = tidy ack_found p.properties }
+unsuback_norm p = record p { properties = tidy ack_found p.properties }

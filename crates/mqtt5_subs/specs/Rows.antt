@@ -1,6 +1,7 @@
 -- The rows of Subscribe, SubAck, Unsubscribe and UnsubAck (MQTT 5.0 sections 3.8 to 3.11).
 use Rattle.std.specs.Prelude.{false, List, [], ◌∷◌}
-use Rattle.mqtt5_base.specs.Grammar.{u8, u16, text, Entry, single, several_of, Test, any_of, bad_rule, bad_qos, bad_subscribe_reason, no_filters, malformed, Field, one, checked, block, read, bits, always, Step, raw, note, judge, more, each, Row, there, bit_of, is_qos}
+use Rattle.mqtt5_base.specs.declared.error.Error.TheVariants.{EmptySubscription, InvalidQoS, InvalidRetainForwardRule, InvalidSubscribeReasonCode, MalformedPacket}
+use Rattle.mqtt5_base.specs.Grammar.{u8, u16, text, Entry, single, several_of, Test, any_of, Field, one, checked, block, read, bits, always, Step, raw, note, judge, more, each, Row, there, bit_of, is_qos}
 use Rattle.mqtt5_base.specs.AckSets.{ack_table}
 
 -- ---- what they share
@@ -29,8 +30,8 @@ is_rule = any_of (0 ∷ 1 ∷ 2 ∷ [])
 abbrev pub option_steps : List Step
 option_steps =
     raw u8
-    ∷ judge always (bits (read 1) 16 4) is_rule bad_rule
-    ∷ judge always (bits (read 1) 1 4) is_qos bad_qos
+    ∷ judge always (bits (read 1) 16 4) is_rule InvalidRetainForwardRule
+    ∷ judge always (bits (read 1) 1 4) is_qos InvalidQoS
     ∷ note (bits (read 1) 1 4)
     ∷ note (bit_of (read 1) 4)
     ∷ note (bit_of (read 1) 8)
@@ -39,13 +40,13 @@ option_steps =
 
 -- a Subscribe, with one filter at least (3.8.3)
 abbrev pub subscribe_row : Row
-subscribe_row = listed_row subscribe_table (more no_filters ∷ []) (one text) option_steps
+subscribe_row = listed_row subscribe_table (more EmptySubscription ∷ []) (one text) option_steps
 
 -- ---- SubAck (3.9) and UnsubAck (3.11)
 
 -- one reason code at least, each of which is judged (3.9.3, 3.11.3)
 abbrev pub codes_row : Test → Row
-codes_row codes = listed_row ack_table (more malformed ∷ []) (checked u8 codes bad_subscribe_reason) []
+codes_row codes = listed_row ack_table (more MalformedPacket ∷ []) (checked u8 codes InvalidSubscribeReasonCode) []
 
 -- the reason codes of a SubAck (3.9.3)
 abbrev pub suback_codes : Test

@@ -1,7 +1,7 @@
 //! What a Subscribe asks for: a topic filter and its options.
 
 ghost use Rattle.std.specs.Prelude.{◌≡◌, ◌*◌, [], OnErr, IfOk, IfErr, false};
-ghost use Rattle.mqtt5_base.specs.Grammar.{one, text, number, bad_rule};
+ghost use Rattle.mqtt5_base.specs.Grammar.{one, text, number};
 ghost use Rattle.mqtt5_base.specs.Answers.{Finds, Gives, ReadsPart};
 ghost use Rattle.mqtt5_base.specs.Reading.{judged, part_at};
 ghost use Rattle.mqtt5_base.specs.Puts.{Writes};
@@ -53,7 +53,7 @@ pub struct Filter {
 
 /// The rule of a retain handling option.
 fn read_rule(num: u8) -> Result<RetainForwardRule, Error>
-    ensures { Finds (λ r. number (rule_number r)) result (judged is_rule bad_rule (number num)) }
+    ensures { Finds (λ r. number (rule_number r)) result (judged is_rule Error.InvalidRetainForwardRule (number num)) }
 {
     match num {
         0 => Ok(RetainForwardRule::OnEverySubscribe),

@@ -1,7 +1,7 @@
 //! The answer to a Subscribe.
 
 ghost use Rattle.std.specs.Prelude.{◌≡◌, ◌+◌, [], map, drop, length, min, IfOk};
-ghost use Rattle.mqtt5_base.specs.Grammar.{checked, u8, number, bad_subscribe_reason};
+ghost use Rattle.mqtt5_base.specs.Grammar.{checked, u8, number};
 ghost use Rattle.mqtt5_base.specs.Answers.{Finds, Gives, ReadsRow};
 ghost use Rattle.mqtt5_base.specs.Reading.{judged, values_in};
 ghost use Rattle.mqtt5_base.specs.Puts.{Writes};
@@ -9,12 +9,10 @@ ghost use Rattle.mqtt5_base.specs.Layout.{layout, writing, content_of_packet};
 ghost use Rattle.mqtt5_subs.specs.Rows.{suback_codes, suback_row};
 ghost use Rattle.mqtt5_subs.specs.SubAcks.{suback_code, suback_item, suback_packet, suback_settled};
 
-use crate::list_body::{listed_size, writable_len, write_listed};
-use crate::listed::{Listed, read_list};
+use crate::list_body::{listed_size, read_some, write_some};
+use crate::listed::Listed;
 use bytes::{Bytes, BytesMut};
-use mqtt5_base::{
-    AckProperties, Error, FieldValue, FixedHeader, QoS, Sequence, read_block, read_u8, read_u16,
-};
+use mqtt5_base::{AckProperties, Error, FieldValue, FixedHeader, QoS, Sequence, read_u8};
 use std::alloc::Global;
 
 /// What became of one filter of a Subscribe: codes 0 to 2 of a success, and 128, 128, 131, 135, 143, 145,
@@ -38,7 +36,7 @@ pub enum SubscribeReasonCode {
 
 /// The reason of a code, or E8.
 fn reason(num: u8) -> Result<SubscribeReasonCode, Error>
-    ensures read { Finds (λ r. number (suback_code r)) result (judged suback_codes bad_subscribe_reason (number num)) }
+    ensures read { Finds (λ r. number (suback_code r)) result (judged suback_codes Error.InvalidSubscribeReasonCode (number num)) }
     ensures known { IfOk result (λ r. suback_settled r ≡ r) }
 {
     Ok(match num {
@@ -80,7 +78,9 @@ impl SubscribeReasonCode {
 }
 
 impl Listed for SubscribeReasonCode {
-    ghost first = { checked u8 suback_codes bad_subscribe_reason };
+    ghost use Rattle.mqtt5_base.specs.declared.error.Error.TheVariants.{InvalidSubscribeReasonCode};
+
+    ghost first = { checked u8 suback_codes InvalidSubscribeReasonCode };
 
     ghost others = { [] };
 
@@ -123,36 +123,27 @@ pub struct SubAck {
 }
 
 impl SubAck {
-    fn read_values(alloc: Global, header: FixedHeader, bytes: Bytes) -> Result<SubAck, Error>
-        requires { length bytes ≡ header.fixed_header_len + header.remaining_len }
-        ensures read { Gives (λ p. content_of_packet (suback_packet p)) result (values_in suback_row header.byte1 header.remaining_len (drop header.fixed_header_len bytes)) }
-        ensures known { IfOk result (λ p. map suback_settled p.return_codes ≡ p.return_codes) }
-    {
-        let mut stream = bytes;
-        stream.advance(header.fixed_header_len);
-        let pkid = read_u16(&mut stream)?;
-        let properties = read_block(alloc, &mut stream)?;
-        if stream.is_empty() {
-            return Err(Error::MalformedPacket);
-        }
-        let return_codes = read_list(alloc, stream)?;
-        Ok(SubAck {
-            pkid,
-            return_codes,
-            properties,
-        })
-    }
-
     /// The SubAck of a frame's bytes, of which the header is; no code is `Failure`. E16 without reason
     /// codes, E8 with a reason code that a SubAck doesn't have, E14 to E18 of a field that can't be
     /// read; E21.
     #[tactic(auto, using(mqtt5_base::proofs::AnswersLemmas::row_said))]
     pub fn read(alloc: Global, header: FixedHeader, bytes: Bytes) -> Result<SubAck, Error>
         requires { length bytes ≡ header.fixed_header_len + header.remaining_len }
-        ensures read { ReadsRow (λ p. content_of_packet (suback_packet p)) suback_row header bytes result }
+        ensures row { ReadsRow (λ p. content_of_packet (suback_packet p)) suback_row header bytes result }
+        ensures values { Gives (λ p. content_of_packet (suback_packet p)) result (values_in suback_row header.byte1 header.remaining_len (drop header.fixed_header_len bytes)) }
         ensures known { IfOk result (λ p. map suback_settled p.return_codes ≡ p.return_codes) }
     {
-        SubAck::read_values(alloc, header, bytes)
+        let (pkid, properties, return_codes) = read_some(
+            alloc,
+            header,
+            bytes,
+            Error::MalformedPacket,
+        )?;
+        Ok(SubAck {
+            pkid,
+            return_codes,
+            properties,
+        })
     }
 
     /// Appends the SubAck and answers its length. E11 where a text is over 65,535 bytes, or the
@@ -161,18 +152,12 @@ impl SubAck {
     pub fn write(&self, buffer: &mut BytesMut) -> Result<usize, Error>
         ensures { Writes length (writing suback_row (suback_packet self.now)) result buffer.old.items buffer.new.items }
     {
-        let Some(len) = writable_len(&self.properties, &self.return_codes) else {
-            return Err(Error::PayloadTooLong);
-        };
-        if self.return_codes.is_empty() {
-            return Err(Error::MalformedPacket);
-        }
-        write_listed(
+        write_some(
             0x90,
             self.pkid,
             &self.properties,
             &self.return_codes,
-            len,
+            Error::MalformedPacket,
             buffer,
         )
     }

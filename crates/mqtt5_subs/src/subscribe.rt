@@ -10,11 +10,10 @@ ghost use Rattle.mqtt5_subs.specs.Rows.{subscribe_table, subscribe_row};
 ghost use Rattle.mqtt5_subs.specs.Subscribes.{subscribe_found, subscribe_packet};
 
 use crate::filter::Filter;
-use crate::list_body::{listed_size, writable_len, write_listed};
-use crate::listed::read_list;
+use crate::list_body::{listed_size, read_some, write_some};
 use bytes::{Bytes, BytesMut};
 use mqtt5_base::{
-    Error, FixedHeader, Property, PropertySet, Sequence, Tagged, Text, read_block, read_u16,
+    Error, FixedHeader, Property, PropertyBlock, PropertySet, Sequence, Tagged, Text,
 };
 use std::alloc::{AllocError, Global};
 
@@ -82,6 +81,8 @@ impl PropertySet for SubscribeProperties {
     }
 }
 
+impl PropertyBlock for SubscribeProperties {}
+
 /// A Subscribe (MQTT 5.0 section 3.8).
 #[derive(Debug, Clone, PartialEq, Eq, Drop)]
 pub struct Subscribe {
@@ -135,33 +136,25 @@ impl Subscribe {
         })
     }
 
-    fn read_values(alloc: Global, header: FixedHeader, bytes: Bytes) -> Result<Subscribe, Error>
-        requires { length bytes ≡ header.fixed_header_len + header.remaining_len }
-        ensures { Gives (λ p. content_of_packet (subscribe_packet p)) result (values_in subscribe_row header.byte1 header.remaining_len (drop header.fixed_header_len bytes)) }
-    {
-        let mut stream = bytes;
-        stream.advance(header.fixed_header_len);
-        let pkid = read_u16(&mut stream)?;
-        let properties = read_block(alloc, &mut stream)?;
-        if stream.is_empty() {
-            return Err(Error::EmptySubscription);
-        }
-        let filters = read_list(alloc, stream)?;
-        Ok(Subscribe {
-            pkid,
-            filters,
-            properties,
-        })
-    }
-
     /// The Subscribe of a frame's bytes, of which the header is. E10 without filters, E6 of a retain
     /// handling option of 3, E7 of a QoS of 3, E14 to E18 of a field that can't be read; E21.
     #[tactic(auto, using(mqtt5_base::proofs::AnswersLemmas::row_said))]
     pub fn read(alloc: Global, header: FixedHeader, bytes: Bytes) -> Result<Subscribe, Error>
         requires { length bytes ≡ header.fixed_header_len + header.remaining_len }
-        ensures { ReadsRow (λ p. content_of_packet (subscribe_packet p)) subscribe_row header bytes result }
+        ensures row { ReadsRow (λ p. content_of_packet (subscribe_packet p)) subscribe_row header bytes result }
+        ensures values { Gives (λ p. content_of_packet (subscribe_packet p)) result (values_in subscribe_row header.byte1 header.remaining_len (drop header.fixed_header_len bytes)) }
     {
-        Subscribe::read_values(alloc, header, bytes)
+        let (pkid, properties, filters) = read_some(
+            alloc,
+            header,
+            bytes,
+            Error::EmptySubscription,
+        )?;
+        Ok(Subscribe {
+            pkid,
+            filters,
+            properties,
+        })
     }
 
     /// Appends the Subscribe and answers its length. E11 where a text is over 65,535 bytes, or the
@@ -170,18 +163,12 @@ impl Subscribe {
     pub fn write(&self, buffer: &mut BytesMut) -> Result<usize, Error>
         ensures { Writes length (writing subscribe_row (subscribe_packet self.now)) result buffer.old.items buffer.new.items }
     {
-        let Some(len) = writable_len(&self.properties, &self.filters) else {
-            return Err(Error::PayloadTooLong);
-        };
-        if self.filters.is_empty() {
-            return Err(Error::EmptySubscription);
-        }
-        write_listed(
+        write_some(
             0x82,
             self.pkid,
             &self.properties,
             &self.filters,
-            len,
+            Error::EmptySubscription,
             buffer,
         )
     }

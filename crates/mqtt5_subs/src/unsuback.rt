@@ -1,7 +1,7 @@
 //! The answer to an Unsubscribe.
 
 ghost use Rattle.std.specs.Prelude.{◌≡◌, ◌+◌, [], drop, length, min};
-ghost use Rattle.mqtt5_base.specs.Grammar.{checked, u8, number, bad_subscribe_reason};
+ghost use Rattle.mqtt5_base.specs.Grammar.{checked, u8, number};
 ghost use Rattle.mqtt5_base.specs.Answers.{Finds, Gives, ReadsRow};
 ghost use Rattle.mqtt5_base.specs.Reading.{judged, values_in};
 ghost use Rattle.mqtt5_base.specs.Puts.{Writes};
@@ -9,12 +9,10 @@ ghost use Rattle.mqtt5_base.specs.Layout.{layout, writing, content_of_packet};
 ghost use Rattle.mqtt5_subs.specs.Rows.{unsuback_codes, unsuback_row};
 ghost use Rattle.mqtt5_subs.specs.UnsubAcks.{unsuback_code, unsuback_item, unsuback_packet};
 
-use crate::list_body::{listed_size, writable_len, write_listed};
-use crate::listed::{Listed, read_list};
+use crate::list_body::{listed_size, read_some, write_some};
+use crate::listed::Listed;
 use bytes::{Bytes, BytesMut};
-use mqtt5_base::{
-    AckProperties, Error, FieldValue, FixedHeader, Sequence, read_block, read_u8, read_u16,
-};
+use mqtt5_base::{AckProperties, Error, FieldValue, FixedHeader, Sequence, read_u8};
 use std::alloc::Global;
 
 /// What became of one filter of an Unsubscribe: codes 0, 17, 128, 131, 135, 143 and 145, in this order
@@ -32,7 +30,7 @@ pub enum UnsubAckReason {
 
 /// The reason of a code, or E8.
 fn reason(num: u8) -> Result<UnsubAckReason, Error>
-    ensures { Finds (λ r. number (unsuback_code r)) result (judged unsuback_codes bad_subscribe_reason (number num)) }
+    ensures { Finds (λ r. number (unsuback_code r)) result (judged unsuback_codes Error.InvalidSubscribeReasonCode (number num)) }
 {
     Ok(match num {
         0 => UnsubAckReason::Success,
@@ -64,7 +62,9 @@ impl UnsubAckReason {
 }
 
 impl Listed for UnsubAckReason {
-    ghost first = { checked u8 unsuback_codes bad_subscribe_reason };
+    ghost use Rattle.mqtt5_base.specs.declared.error.Error.TheVariants.{InvalidSubscribeReasonCode};
+
+    ghost first = { checked u8 unsuback_codes InvalidSubscribeReasonCode };
 
     ghost others = { [] };
 
@@ -107,33 +107,20 @@ pub struct UnsubAck {
 }
 
 impl UnsubAck {
-    fn read_values(alloc: Global, header: FixedHeader, bytes: Bytes) -> Result<UnsubAck, Error>
-        requires { length bytes ≡ header.fixed_header_len + header.remaining_len }
-        ensures { Gives (λ p. content_of_packet (unsuback_packet p)) result (values_in unsuback_row header.byte1 header.remaining_len (drop header.fixed_header_len bytes)) }
-    {
-        let mut stream = bytes;
-        stream.advance(header.fixed_header_len);
-        let pkid = read_u16(&mut stream)?;
-        let properties = read_block(alloc, &mut stream)?;
-        if stream.is_empty() {
-            return Err(Error::MalformedPacket);
-        }
-        let reasons = read_list(alloc, stream)?;
-        Ok(UnsubAck {
-            pkid,
-            reasons,
-            properties,
-        })
-    }
-
     /// The UnsubAck of a frame's bytes, of which the header is. E16 without reason codes, E8 with a
     /// reason code that an UnsubAck doesn't have, E14 to E18 of a field that can't be read; E21.
     #[tactic(auto, using(mqtt5_base::proofs::AnswersLemmas::row_said))]
     pub fn read(alloc: Global, header: FixedHeader, bytes: Bytes) -> Result<UnsubAck, Error>
         requires { length bytes ≡ header.fixed_header_len + header.remaining_len }
-        ensures { ReadsRow (λ p. content_of_packet (unsuback_packet p)) unsuback_row header bytes result }
+        ensures row { ReadsRow (λ p. content_of_packet (unsuback_packet p)) unsuback_row header bytes result }
+        ensures values { Gives (λ p. content_of_packet (unsuback_packet p)) result (values_in unsuback_row header.byte1 header.remaining_len (drop header.fixed_header_len bytes)) }
     {
-        UnsubAck::read_values(alloc, header, bytes)
+        let (pkid, properties, reasons) = read_some(alloc, header, bytes, Error::MalformedPacket)?;
+        Ok(UnsubAck {
+            pkid,
+            reasons,
+            properties,
+        })
     }
 
     /// Appends the UnsubAck and answers its length. E11 where a text is over 65,535 bytes, or the
@@ -142,18 +129,12 @@ impl UnsubAck {
     pub fn write(&self, buffer: &mut BytesMut) -> Result<usize, Error>
         ensures { Writes length (writing unsuback_row (unsuback_packet self.now)) result buffer.old.items buffer.new.items }
     {
-        let Some(len) = writable_len(&self.properties, &self.reasons) else {
-            return Err(Error::PayloadTooLong);
-        };
-        if self.reasons.is_empty() {
-            return Err(Error::MalformedPacket);
-        }
-        write_listed(
+        write_some(
             0xB0,
             self.pkid,
             &self.properties,
             &self.reasons,
-            len,
+            Error::MalformedPacket,
             buffer,
         )
     }

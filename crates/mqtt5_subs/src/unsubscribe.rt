@@ -14,8 +14,8 @@ use crate::list_body::{listed_size, writable_len, write_listed};
 use crate::listed::{Listed, read_list};
 use bytes::{Bytes, BytesMut};
 use mqtt5_base::{
-    Error, FieldValue, FixedHeader, Property, PropertySet, Sequence, Tagged, Text, read_block,
-    read_text, read_u16,
+    Error, FieldValue, FixedHeader, Property, PropertyBlock, PropertySet, Sequence, Tagged, Text,
+    read_block, read_text, read_u16,
 };
 use std::alloc::{AllocError, Global};
 
@@ -74,6 +74,8 @@ impl PropertySet for UnsubscribeProperties {
         self.user_properties.values_known();
     }
 }
+
+impl PropertyBlock for UnsubscribeProperties {}
 
 /// A topic filter of an Unsubscribe (MQTT 5.0 section 3.10.3).
 impl Listed for Text {
@@ -154,7 +156,8 @@ impl Unsubscribe {
     #[tactic(auto, using(mqtt5_base::proofs::AnswersLemmas::row_said))]
     pub fn read(alloc: Global, header: FixedHeader, bytes: Bytes) -> Result<Unsubscribe, Error>
         requires { length bytes ≡ header.fixed_header_len + header.remaining_len }
-        ensures { ReadsRow (λ p. content_of_packet (unsubscribe_packet p)) unsubscribe_row header bytes result }
+        ensures row { ReadsRow (λ p. content_of_packet (unsubscribe_packet p)) unsubscribe_row header bytes result }
+        ensures values { Gives (λ p. content_of_packet (unsubscribe_packet p)) result (values_in unsubscribe_row header.byte1 header.remaining_len (drop header.fixed_header_len bytes)) }
     {
         Unsubscribe::read_values(alloc, header, bytes)
     }

@@ -32,7 +32,7 @@ pub fn open<R: Read, W: Write>(
     // So another call may follow.
     ensures ready { OnOk result (IsReady pipe.new) }
 {
-    pipe.codec.encode(connect, &mut pipe.output)?;
+    pipe.codec.write(connect, &mut pipe.output)?;
     start(pipe, reader, writer)?;
     limit_output(pipe);
     Ok(())

@@ -1,6 +1,6 @@
 //! Packets, their properties and reason codes, frames and the codec.
 
-pub use mqtt5_base::{FixedHeader, PacketType, PropertySet, Sequence, Text, check};
+pub use mqtt5_base::{FixedHeader, PacketType, PropertyBlock, Sequence, Text, check};
 pub use mqtt5_codec::{Codec, Packet};
 pub use mqtt5_connect::{Connect, ConnectProperties, LastWill, LastWillProperties, Login};
 pub use mqtt5_flow::{

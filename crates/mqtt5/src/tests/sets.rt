@@ -1,7 +1,7 @@
 //! Property sets by the public paths.
 
 use crate::mqttbytes::Error;
-use crate::mqttbytes::v5::{PropertySet, PublishProperties};
+use crate::mqttbytes::v5::{PropertyBlock, PublishProperties};
 use bytes::{Bytes, BytesMut};
 use std::alloc::Global;
 use std::test::Fail;

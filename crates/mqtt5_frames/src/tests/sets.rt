@@ -1,7 +1,7 @@
 //! Property sets as blocks.
 
 use bytes::{Bytes, BytesMut};
-use mqtt5_base::{Error, PropertySet, block_len, read_block};
+use mqtt5_base::{Error, PropertyBlock, block_len, read_block};
 use mqtt5_flow::AckProperties;
 use std::alloc::Global;
 use std::test::Fail;

@@ -2,9 +2,9 @@
 
 use super::{bytes_of, cut, digits_of};
 use bytes::{Bytes, BytesMut};
-use mqtt5_base::{Error, Exact, PropertySet, QoS, copied};
+use mqtt5_base::{Error, Exact, PropertyBlock, QoS, copied};
 use mqtt5_connect::{LastWill, LastWillProperties, Login};
-use mqtt5_link::DisconnectProperties;
+use mqtt5_link::{Disconnect, DisconnectProperties, DisconnectReasonCode};
 use mqtt5_subs::{SubAckProperties, SubscribeProperties, UnsubscribeProperties};
 use std::alloc::Global;
 use std::fmt::Debug;
@@ -149,7 +149,7 @@ fn a_will_that_is_too_long(rt: HostRuntime) -> Result<(), Fail> {
 }
 
 /// Writes the digits of a set.
-fn write_set<P: PropertySet>(alloc: Global, set: &P, text: &mut String) -> Result<(), Error> {
+fn write_set<P: PropertyBlock>(alloc: Global, set: &P, text: &mut String) -> Result<(), Error> {
     let mut buffer = BytesMut::new(alloc);
     set.write(&mut buffer)?;
     let digits = digits_of(alloc, buffer.as_slice())?;
@@ -158,7 +158,7 @@ fn write_set<P: PropertySet>(alloc: Global, set: &P, text: &mut String) -> Resul
 }
 
 /// Writes what was read of a block, and that as a block.
-fn write_block<P: PropertySet + Debug + Drop>(
+fn write_block<P: PropertyBlock + Debug + Drop>(
     alloc: Global,
     read: Result<Option<P>, Error>,
     text: &mut String,
@@ -168,6 +168,34 @@ fn write_block<P: PropertySet + Debug + Drop>(
         Ok(Some(set)) => write_set(alloc, set, text),
         _ => Ok(()),
     }
+}
+
+/// Writes the digits of a Disconnect with that set, without its type, its length and its reason.
+fn write_disconnect(
+    alloc: Global,
+    properties: Option<DisconnectProperties>,
+    text: &mut String,
+) -> Result<(), Error> {
+    let mut buffer = BytesMut::new(alloc);
+    let disconnect = Disconnect {
+        reason_code: DisconnectReasonCode::NormalDisconnection,
+        properties,
+    };
+    let written = disconnect.write(&mut buffer);
+    drop(disconnect);
+    if written? < 3 {
+        return Err(Error::MalformedPacket);
+    }
+    let digits = digits_of(alloc, &buffer.as_slice()[3..])?;
+    write!(text, " {digits}")?;
+    Ok(())
+}
+
+/// Extracts a Disconnect's set, and writes what was read and that as its block.
+fn write_extracted(alloc: Global, stream: &mut Bytes, text: &mut String) -> Result<(), Error> {
+    let read = DisconnectProperties::extract(alloc, stream);
+    write!(text, " {read:?}")?;
+    write_disconnect(alloc, read?, text)
 }
 
 /// Reads a set by its letter, and writes it.
@@ -182,7 +210,7 @@ fn write_letter(
         "u" => write_block(alloc, UnsubscribeProperties::read(alloc, stream), text),
         "a" => write_block(alloc, SubAckProperties::read(alloc, stream), text),
         "w" => write_block(alloc, LastWillProperties::read(alloc, stream), text),
-        _ => write_block(alloc, DisconnectProperties::extract(alloc, stream), text),
+        _ => write_extracted(alloc, stream, text),
     }
 }
 

@@ -36,7 +36,7 @@ fn words_of(alloc: Global, row: &'static str) -> Result<Vec<&'static str>, Alloc
 
 fn add_frame(alloc: Global, packet: &Packet, text: &mut String) -> Result<(), Error> {
     let mut frame = BytesMut::new(alloc);
-    NO_LIMITS.encode(packet, &mut frame)?;
+    NO_LIMITS.write(packet, &mut frame)?;
     Ok(add_bytes(alloc, frame.as_slice(), text)?)
 }
 

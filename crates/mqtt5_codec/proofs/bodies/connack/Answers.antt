@@ -1,8 +1,0 @@
-use Rattle.mqtt5_base.specs.Layout.{content_of_packet}
-use Rattle.mqtt5_base.proofs.AnswersLemmas.{row_given}
-use Rattle.mqtt5_link.specs.Rows.{connack_row}
-use Rattle.mqtt5_link.specs.ConnAcks.{connack_packet}
-use Rattle.mqtt5_codec.proofs.bodies.connack.Goals as goal
-
-pub returns : goal.returns
-returns c = row_given (λ p. content_of_packet (connack_packet p)) connack_row c.args.header c.args.bytes c.read.result c.read.ensures
