@@ -3,7 +3,7 @@ use Rattle.std.proofs.Common.{◌≡◌, Bool, true, false, not, List, ℕ, ap, 
 use Rattle.std.specs.Str.{IsUtf8, is_utf8}
 use Rattle.std.proofs.lemmas.Bool.{false_from_ne_true}
 use Rattle.std.proofs.lemmas.Str.{is_utf8-from_IsUtf8, IsUtf8-from_is_utf8}
-use Rattle.mqtt5_flow.specs.declared.publish.Publish.{Publish}
+use Rattle.mqtt5_publish.specs.declared.publish.Publish.{Publish}
 use Rattle.broker_core.specs.declared.error.BrokerError.{BrokerError}
 use Rattle.broker_core.specs.declared.error.BrokerError.TheVariants.{NotOffered, InvalidTopic}
 use Rattle.broker_core.specs.Clients.{is_offered, is_topic, is_topic_text, publish_refusal}

@@ -8,17 +8,17 @@ use Rattle.mqtt5_base.specs.declared.quality.QoS.{QoS}
 use Rattle.mqtt5_base.specs.declared.quality.QoS.TheVariants.{AtMostOnce, AtLeastOnce, ExactlyOnce}
 use Rattle.mqtt5_base.specs.Texts.{Utf8}
 use Rattle.mqtt5_base.specs.Topics.{topic_matches, is_valid_filter, is_valid_topic}
-use Rattle.mqtt5_flow.specs.declared.publish.Publish.{Publish}
-use Rattle.mqtt5_flow.specs.declared.publish.PublishProperties.{PublishProperties}
-use Rattle.mqtt5_subs.specs.declared.filter.Filter.{Filter}
-use Rattle.mqtt5_subs.specs.declared.suback.SubscribeReasonCode.{SubscribeReasonCode}
-use Rattle.mqtt5_subs.specs.declared.suback.SubscribeReasonCode.TheVariants as reason_codes
-use Rattle.mqtt5_subs.specs.declared.subscribe.Subscribe.{Subscribe}
-use Rattle.mqtt5_subs.specs.declared.unsuback.UnsubAckReason.{UnsubAckReason}
-use Rattle.mqtt5_subs.specs.declared.unsuback.UnsubAckReason.TheVariants as unsuback_reasons
-use Rattle.mqtt5_subs.specs.declared.unsubscribe.Unsubscribe.{Unsubscribe}
-use Rattle.mqtt5_link.specs.declared.connack.ConnectReturnCode.TheVariants as return_codes
-use Rattle.mqtt5_link.specs.declared.connack.ConnAckProperties.{ConnAckProperties}
+use Rattle.mqtt5_publish.specs.declared.publish.Publish.{Publish}
+use Rattle.mqtt5_publish.specs.declared.publish.PublishProperties.{PublishProperties}
+use Rattle.mqtt5_subscribe.specs.declared.filter.Filter.{Filter}
+use Rattle.mqtt5_subscribe.specs.declared.suback.SubscribeReasonCode.{SubscribeReasonCode}
+use Rattle.mqtt5_subscribe.specs.declared.suback.SubscribeReasonCode.TheVariants as reason_codes
+use Rattle.mqtt5_subscribe.specs.declared.subscribe.Subscribe.{Subscribe}
+use Rattle.mqtt5_subscribe.specs.declared.unsuback.UnsubAckReason.{UnsubAckReason}
+use Rattle.mqtt5_subscribe.specs.declared.unsuback.UnsubAckReason.TheVariants as unsuback_reasons
+use Rattle.mqtt5_subscribe.specs.declared.unsubscribe.Unsubscribe.{Unsubscribe}
+use Rattle.mqtt5_control.specs.declared.connack.ConnectReturnCode.TheVariants as return_codes
+use Rattle.mqtt5_control.specs.declared.connack.ConnAckProperties.{ConnAckProperties}
 use Rattle.mqtt5_codec.specs.declared.packet.Packet.{Packet}
 use Rattle.mqtt5_codec.specs.declared.packet.Packet.TheVariants as packets
 use Rattle.mqtt5_codec.specs.Packets.{packet_writing, IsFrameOf}

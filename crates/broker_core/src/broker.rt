@@ -67,7 +67,9 @@ impl Broker {
         stream: &mut BytesMut,
     ) -> Result<(), BrokerError>
         ensures more { OnOk result ((n : ℕ) × (front (Some LONGEST) stream.new.items ≡ More n)) }
-        ensures served { OnOk result ((packets : List Packet) × AreTaken (Some LONGEST) packets stream.old.items stream.new.items × AreServed id packets self.old self.new) }
+        ensures served { OnOk result ((packets : List Packet)
+            × AreTaken (Some LONGEST) packets stream.old.items stream.new.items
+            × AreServed id packets self.old self.new) }
     {
         while let Some(packet) = CODEC.decode(alloc, stream)? {
             let served = self.serve(alloc, id, &packet);
@@ -80,8 +82,11 @@ impl Broker {
     /// Serves a packet of a client: a publish goes to each client that its topic reaches, any other packet is answered.
     /// After `Codec` a part of that may be done.
     pub fn serve(&mut self, alloc: Global, id: usize, packet: &Packet) -> Result<(), BrokerError>
-        ensures ok { OnOk result ((refusal_of id packet.now self.old ≡ None) × (self.new ≡ served id packet.now self.old)) }
-        ensures err { IfErr result (λ e. ((refusal_of id packet.now self.old ≡ Some e) × (self.new ≡ self.old)) ⊎ IsFault e) }
+        ensures ok { OnOk result ((refusal_of id packet.now self.old ≡ None)
+            × (self.new ≡ served id packet.now self.old)) }
+        ensures err { IfErr result
+            (λ e. ((refusal_of id packet.now self.old ≡ Some e) × (self.new ≡ self.old))
+            ⊎ IsFault e) }
     {
         if id >= self.clients.len() {
             return Err(BrokerError::UnknownClient(id));
@@ -98,7 +103,8 @@ impl Broker {
 
     /// Takes the bytes out that are to go to a client; None where no client has this number. Takes no memory.
     pub fn take_output(&mut self, alloc: Global, id: usize) -> Option<BytesMut>
-        ensures bytes { option_map (λ bytes. bytes.items) result ≡ option_map (λ c. c.output) (slice_get self.old id) }
+        ensures bytes { option_map (λ bytes. bytes.items) result
+            ≡ option_map (λ c. c.output) (slice_get self.old id) }
         ensures rest { self.new ≡ with_client id (λ c. record c { output = [] }) self.old }
     {
         if id >= self.clients.len() {

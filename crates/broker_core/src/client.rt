@@ -9,9 +9,9 @@ use crate::filters::{forget_all, keep, reasons};
 use bytes::BytesMut;
 use mqtt5_base::{Text, matches};
 use mqtt5_codec::Packet;
-use mqtt5_flow::PingResp;
-use mqtt5_link::{ConnAck, ConnAckProperties, ConnectReturnCode};
-use mqtt5_subs::{SubAck, Subscribe, UnsubAck, Unsubscribe};
+use mqtt5_control::{ConnAck, ConnAckProperties, ConnectReturnCode};
+use mqtt5_publish::PingResp;
+use mqtt5_subscribe::{SubAck, Subscribe, UnsubAck, Unsubscribe};
 use std::alloc::Global;
 use std::marker::Model;
 use std::mem;
@@ -47,7 +47,8 @@ impl Client {
     /// `NotConnected` where no Connect was answered, or a Disconnect came since.
     pub fn check_connected(&self) -> Result<(), BrokerError>
         ensures ok { OnOk result (self.now.is_connected ≡ true) }
-        ensures err { IfErr result (λ e. (self.now.is_connected ≡ false) × (e ≡ BrokerError.NotConnected)) }
+        ensures err { IfErr result (λ e. (self.now.is_connected ≡ false)
+            × (e ≡ BrokerError.NotConnected)) }
     {
         if self.is_connected {
             Ok(())
@@ -106,8 +107,11 @@ impl Client {
     /// Answers a packet that isn't a publish. `NotConnected`, `ConnectedTwice`, `UnexpectedPacket`, with the client unchanged;
     /// after `Codec` the client is to be ended.
     pub fn answer(&mut self, alloc: Global, packet: &Packet) -> Result<(), BrokerError>
-        ensures ok { OnOk result ((answer_refusal packet.now self.old ≡ None) × (self.new ≡ answered packet.now self.old)) }
-        ensures err { IfErr result (λ e. ((answer_refusal packet.now self.old ≡ Some e) × (self.new ≡ self.old)) ⊎ IsFault e) }
+        ensures ok { OnOk result ((answer_refusal packet.now self.old ≡ None)
+            × (self.new ≡ answered packet.now self.old)) }
+        ensures err { IfErr result
+            (λ e. ((answer_refusal packet.now self.old ≡ Some e) × (self.new ≡ self.old))
+            ⊎ IsFault e) }
     {
         if self.is_connected {
             self.answer_connected(alloc, packet)
@@ -120,8 +124,10 @@ impl Client {
     }
 
     fn answer_connected(&mut self, alloc: Global, packet: &Packet) -> Result<(), BrokerError>
-        ensures ok { OnOk result ((connected_refusal packet.now ≡ None) × (self.new ≡ answered packet.now self.old)) }
-        ensures err { IfErr result (λ e. ((connected_refusal packet.now ≡ Some e) × (self.new ≡ self.old)) ⊎ IsFault e) }
+        ensures ok { OnOk result ((connected_refusal packet.now ≡ None)
+            × (self.new ≡ answered packet.now self.old)) }
+        ensures err { IfErr result
+            (λ e. ((connected_refusal packet.now ≡ Some e) × (self.new ≡ self.old)) ⊎ IsFault e) }
     {
         match packet {
             Packet::Connect(_, _, _) => Err(BrokerError::ConnectedTwice),
@@ -134,7 +140,8 @@ impl Client {
     }
 
     fn connect(&mut self, alloc: Global) -> Result<(), BrokerError>
-        ensures ok { OnOk result (self.new ≡ sent connack (record self.old { is_connected = true })) }
+        ensures ok { OnOk result
+            (self.new ≡ sent connack (record self.old { is_connected = true })) }
         ensures err { IfErr result IsFault }
     {
         connack(alloc).write(&mut self.output)?;
@@ -143,7 +150,11 @@ impl Client {
     }
 
     fn subscribe(&mut self, alloc: Global, subscribe: &Subscribe) -> Result<(), BrokerError>
-        ensures ok { OnOk result (self.new ≡ sent (suback subscribe.now) (record self.old { filters = self.old.filters ++ kept_filters subscribe.now.filters })) }
+        ensures ok { OnOk result (self.new ≡ sent (suback subscribe.now)
+            (record self.old {
+              filters = self.old.filters
+                  ++ kept_filters subscribe.now.filters;
+            })) }
         ensures err { IfErr result IsFault }
     {
         let ack = SubAck {
@@ -157,7 +168,8 @@ impl Client {
     }
 
     fn unsubscribe(&mut self, alloc: Global, unsubscribe: &Unsubscribe) -> Result<(), BrokerError>
-        ensures ok { OnOk result (self.new ≡ sent (unsuback unsubscribe.now self.old.filters) (record self.old { filters = without_all unsubscribe.now.filters self.old.filters })) }
+        ensures ok { OnOk result (self.new ≡ sent (unsuback unsubscribe.now self.old.filters)
+            (record self.old { filters = without_all unsubscribe.now.filters self.old.filters })) }
         ensures err { IfErr result IsFault }
     {
         let ack = UnsubAck {

@@ -6,7 +6,7 @@ ghost use Rattle.broker_core.specs.Clients.{IsFault, had, had_all, is_kept, is_s
 
 use crate::error::BrokerError;
 use mqtt5_base::{QoS, Sequence, Text, copied, valid_filter};
-use mqtt5_subs::{Filter, SubscribeReasonCode, UnsubAckReason};
+use mqtt5_subscribe::{Filter, SubscribeReasonCode, UnsubAckReason};
 use std::alloc::{AllocFailed, Global};
 
 /// Whether a filter is kept: a valid one without no local, which this broker hasn't (3.8.3.1).

@@ -5,7 +5,7 @@ ghost use Rattle.broker_core.specs.Clients.{are_offered, is_offered, is_topic_te
 
 use crate::error::BrokerError;
 use mqtt5_base::{QoS, valid_topic};
-use mqtt5_flow::{Publish, PublishProperties};
+use mqtt5_publish::{Publish, PublishProperties};
 
 /// Whether the ConnAck offers what a publish asks for.
 fn is_offered(publish: &Publish) -> bool
@@ -35,7 +35,8 @@ fn is_topic(text: &str) -> bool
 
 /// The topic of a publish that may be routed; `NotOffered`, `InvalidTopic`.
 pub fn topic_of(publish: &Publish) -> Result<&str, BrokerError>
-    ensures ok { IfOk result (λ topic. (publish_refusal publish.now ≡ None) × (topic.now ≡ publish.now.topic)) }
+    ensures ok { IfOk result (λ topic. (publish_refusal publish.now ≡ None)
+        × (topic.now ≡ publish.now.topic)) }
     ensures err { IfErr result (λ e. publish_refusal publish.now ≡ Some e) }
 {
     if !is_offered(publish) {

@@ -7,7 +7,9 @@ pub mod mqttbytes;
 #[cfg(test)]
 mod tests;
 
-pub use mqtt5_drive::{Input, Step, calls_law, cutting, drive, may_start, take_limit, twice};
+pub use mqtt5_drive::{
+    Input, Step, calls_law, cutting, drive, empty_needs_more, take_limit, twice,
+};
 pub use mqtt5_options::MqttOptions;
 pub use mqtt5_progress::{any_order_law, play_out, progress_law};
 pub use mqtt5_session::{

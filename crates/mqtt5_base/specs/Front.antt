@@ -13,8 +13,8 @@ pub data Front : Type 0 where
   Whole : (frame rest : List ℕ) → Front
 
 -- more bytes are needed
-abbrev pub IsMore : Front → Type 0
-IsMore f = (n : ℕ) × (f ≡ More n)
+abbrev pub NeedsMore : Front → Type 0
+NeedsMore f = (n : ℕ) × (f ≡ More n)
 
 -- a limit, if there is one, admits a remaining length (2.1.4)
 abbrev pub Admits : Option ℕ → ℕ → Type 0

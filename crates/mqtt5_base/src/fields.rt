@@ -50,7 +50,8 @@ pub fn read_u32(stream: &mut Bytes) -> Result<u32, Error>
 /// The bytes behind the two byte length at the front.
 #[tactic(auto, unfolding(crate::specs::Reading::bytes_at))]
 fn front_slice(stream: &[u8]) -> Result<&[u8], Error>
-    ensures read { Gives (λ b. (b.now, drop (2 + length b.now) stream.now)) result (bytes_at stream.now) }
+    ensures read { Gives (λ b. (b.now, drop (2 + length b.now) stream.now)) result
+        (bytes_at stream.now) }
     ensures place { IfOk result (λ b. b.now ≡ take (length b.now) (drop 2 stream.now)) }
     ensures within { IfOk result (λ b. 2 + length b.now ≤ length stream.now) }
     ensures fault { IfErr result (λ e. e ≢ OutOfMemory) }

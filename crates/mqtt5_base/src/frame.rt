@@ -11,7 +11,8 @@ use bytes::BytesMut;
 /// How many bytes a frame has whose body has so many, or the greatest `usize` where they are more.
 #[tactic(auto, using(crate::proofs::Saturated::lengths))]
 pub fn frame_size(body_len: usize) -> usize
-    ensures { (first : ℕ) (body : List ℕ) → body_len ≡ min (length body) usize.MAX → result ≡ min (length (frame_of first body)) usize.MAX }
+    ensures { (first : ℕ) (body : List ℕ) → body_len ≡ min (length body) usize.MAX
+        → result ≡ min (length (frame_of first body)) usize.MAX }
 {
     body_len
         .saturating_add(varint_len(body_len))

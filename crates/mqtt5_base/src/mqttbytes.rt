@@ -25,7 +25,8 @@ pub fn qos(num: u8) -> Option<QoS>
 
 /// The QoS of a number that was read; E7 where it isn't 0, 1 or 2. Takes no memory.
 pub fn read_qos(num: u8) -> Result<QoS, Error>
-    ensures { Finds (λ q. number (qos_number q)) result (judged is_qos Error.InvalidQoS (number num)) }
+    ensures { Finds (λ q. number (qos_number q)) result
+        (judged is_qos Error.InvalidQoS (number num)) }
 {
     qos(num).ok_or(Error::InvalidQoS(num))
 }

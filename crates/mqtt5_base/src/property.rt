@@ -137,7 +137,8 @@ pub trait PropertySet: Drop {
     /// Adds an item that was read: to a list at its end, else in place of the last value. One that isn't
     /// of the set changes nothing. Err where memory is refused; the set is then unchanged.
     fn add(&mut self, property: Property) -> Result<(), AllocError>
-        ensures added { OnOk result (found self.new ≡ with_item table (item_of property).0 (item_of property).1 (found self.old)) }
+        ensures added { OnOk result (found self.new ≡ with_item table (item_of property).0
+            (item_of property).1 (found self.old)) }
         ensures kept { OnErr result (self.new ≡ self.old) };
 
     /// Whether each of its values can be written: no text or bytes are over 65,535 bytes, and no
@@ -162,7 +163,8 @@ pub trait PropertySet: Drop {
 
 #[tactic(auto, unfolding(crate::specs::Reading::item_at))]
 fn read_item<P: PropertySet>(alloc: Global, set: &mut P, block: &mut Bytes) -> Result<(), Error>
-    ensures { Gives (λ _. (P.found set.new, block.new)) result (item_at P.table (P.found set.old) block.old) }
+    ensures { Gives (λ _. (P.found set.new, block.new)) result
+        (item_at P.table (P.found set.old) block.old) }
 {
     let id = read_u8(block)?;
     if !P::may_have(id) {
@@ -174,7 +176,8 @@ fn read_item<P: PropertySet>(alloc: Global, set: &mut P, block: &mut Bytes) -> R
 }
 
 fn read_items<P: PropertySet>(alloc: Global, set: &mut P, mut block: Bytes) -> Result<(), Error>
-    ensures { Gives (λ _. P.found set.new) result (items_within (length block) P.table (P.found set.old) block) }
+    ensures { Gives (λ _. P.found set.new) result
+        (items_within (length block) P.table (P.found set.old) block) }
 {
     while !block.is_empty() {
         read_item(alloc, set, &mut block)?;
@@ -188,7 +191,8 @@ fn read_items<P: PropertySet>(alloc: Global, set: &mut P, mut block: Bytes) -> R
 /// unchanged.
 #[tactic(auto, unfolding(crate::specs::Reading::block_at))]
 pub fn read_block<P: PropertySet>(alloc: Global, stream: &mut Bytes) -> Result<Option<P>, Error>
-    ensures read { Gives (λ p. (option_map P.found p, stream.new)) result (block_at P.table stream.old) }
+    ensures read { Gives (λ p. (option_map P.found p, stream.new)) result
+        (block_at P.table stream.old) }
     ensures kept { OnErr result (stream.new ≡ stream.old) }
 {
     let (count, len) = front_varint(stream.as_slice())?;
@@ -222,7 +226,8 @@ pub fn block_fits<P: PropertySet>(properties: &Option<P>) -> bool
 /// How many bytes a block takes with its length, or the greatest `usize` where they are more.
 #[tactic(auto, using(crate::proofs::Saturated::lengths))]
 pub fn block_len<P: PropertySet>(properties: &Option<P>) -> usize
-    ensures { result ≡ min (length (block_bytes P.table (option_map P.found properties.now))) usize.MAX }
+    ensures { result ≡ min (length (block_bytes P.table (option_map P.found properties.now)))
+        usize.MAX }
 {
     match properties {
         Some(set) => {
@@ -236,7 +241,8 @@ pub fn block_len<P: PropertySet>(properties: &Option<P>) -> usize
 /// Appends a block that can be written, in room that is there; one that is absent is a length of 0.
 pub fn put_block<P: PropertySet>(properties: &Option<P>, out: &mut BytesMut)
     requires fits { block_fits P.table (option_map P.found properties.now) ≡ true }
-    requires room { length (block_bytes P.table (option_map P.found properties.now)) ≤ out.old.spare }
+    requires room { length (block_bytes P.table (option_map P.found properties.now))
+        ≤ out.old.spare }
     ensures { Puts out.old out.new (block_bytes P.table (option_map P.found properties.now)) }
 {
     match properties {
@@ -258,7 +264,8 @@ pub trait PropertyBlock: PropertySet {
     final fn read(alloc: Global, stream: &mut Bytes) -> Result<Option<Self>, Error>
     where
         Self: Sized,
-        ensures read { ReadsBlock (λ p. (option_map Self.found p, stream.new)) Self.table stream.old result }
+        ensures read { ReadsBlock (λ p. (option_map Self.found p, stream.new)) Self.table stream.old
+            result }
         ensures kept { OnErr result (stream.new ≡ stream.old) }
     {
         read_block(alloc, stream)
@@ -267,7 +274,8 @@ pub trait PropertyBlock: PropertySet {
     /// Appends the set as a block. E11 where a text or bytes are over 65,535 bytes, or a subscription
     /// identifier or the block's length over 268,435,455; E21. The buffer is then unchanged.
     final fn write(&self, buffer: &mut BytesMut) -> Result<(), Error>
-        ensures { Writes (λ _. tt) (block_writing Self.table (Some (Self.found self.now))) result buffer.old.items buffer.new.items }
+        ensures { Writes (λ _. tt) (block_writing Self.table (Some (Self.found self.now))) result
+            buffer.old.items buffer.new.items }
     {
         let len = self.set_len();
         if !self.set_fits() || !len.fits() {

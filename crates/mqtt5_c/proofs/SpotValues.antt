@@ -1,4 +1,4 @@
--- This file serves the logic alone: how a `Spot` lies in the machine, and how a walk takes one apart and makes one.
+-- This file serves the logic alone: how a `ClientPtr` lies in the machine, and how a walk takes one apart and makes one.
 use Rattle.std.proofs.Common.{◌≡◌, List, [], ◌∷◌, ◌++◌, refl, subst}
 use lib.Dec.{T}
 use mathlib.Core.Bool.{Bool, not}
@@ -14,14 +14,14 @@ use denote.Struct.Owning.{shape}
 use denote.Struct.Struct.{within}
 use Rattle.std.specs.Prelude.{Option, Some, None, is_some, true, false}
 use Rattle.mqtt5_c.specs.Owned.{owned_if_some}
-use Rattle.mqtt5_c.specs.contracts.spot.Spot as spot
+use Rattle.mqtt5_c.specs.contracts.client_ptr.ClientPtr as client_ptr
 use Rattle.mqtt5_client.specs.contracts.client.Client as client
 
 abbrev pub Value : Type 0
 Value = client.the_row.Denot
 
 abbrev pub Row : RattleType
-Row = spot.the_row
+Row = client_ptr.the_row
 
 -- a struct of one pointer
 abbrev pub word : Ptr → Val
@@ -39,7 +39,7 @@ module _ {M : Type 1} {𝓤 : Ura M} {𝓛 : Logic 𝓤} {K : Type 0} {Γ : List
       → Step K 𝓛 (‵ (Row.own_val (record { pointer = pointer; value = value }) (word pointer ∷ [])) ∷ Γ) G (‵ (owned_if_some pointer value) ∷ Γ) G
   puts_together t pointer value = step (λ rest.
       nothing t $ feq_i t (List Val) (ptr_val pointer ∷ []) _ refl $ fjoin t $ feq_i t (List Val) (word pointer ∷ []) _ refl $ fjoin t $
-      fpack t (Valss (RawPtr ∷ [])) (within (shape spot.the_type) (pointer, tt) (word pointer ∷ [])) (ptr_val pointer ∷ [], tt) $ fjoin t $ rest)
+      fpack t (Valss (RawPtr ∷ [])) (within (shape client_ptr.the_type) (pointer, tt) (word pointer ∷ [])) (ptr_val pointer ∷ [], tt) $ fjoin t $ rest)
 
 -- the value of an option that has one
 pub value_of : {X : Type 0} → (m : Option X) → is_some m ≡ true → (x : X) × (m ≡ Some x)

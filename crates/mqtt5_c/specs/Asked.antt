@@ -4,11 +4,11 @@ use Rattle.std.specs.Str.{IsUtf8}
 use Rattle.mqtt5_base.specs.Texts.{Utf8}
 use Rattle.mqtt5_base.specs.Views.{qos_number}
 use Rattle.mqtt5_base.specs.declared.quality.QoS.{QoS}
-use Rattle.mqtt5_flow.specs.declared.puback.PubAckReason.TheVariants as puback_reasons
-use Rattle.mqtt5_subs.specs.declared.filter.Filter.{Filter}
-use Rattle.mqtt5_subs.specs.declared.filter.RetainForwardRule.TheVariants as rules
-use Rattle.mqtt5_held.specs.declared.event.Request.{Request}
-use Rattle.mqtt5_held.specs.declared.event.Request.TheVariants as requests
+use Rattle.mqtt5_publish.specs.declared.puback.PubAckReason.TheVariants as puback_reasons
+use Rattle.mqtt5_subscribe.specs.declared.filter.Filter.{Filter}
+use Rattle.mqtt5_subscribe.specs.declared.filter.RetainForwardRule.TheVariants as rules
+use Rattle.mqtt5_inflight.specs.declared.event.Request.{Request}
+use Rattle.mqtt5_inflight.specs.declared.event.Request.TheVariants as requests
 use Rattle.mqtt5_client.specs.declared.client.Client.{Client}
 use Rattle.mqtt5_c.specs.Calls.{Called, Asks}
 use Rattle.mqtt5_c.specs.Numbers.{bad_argument, out_of_memory}

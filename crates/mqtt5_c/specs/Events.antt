@@ -1,21 +1,21 @@
 -- Events as numbers; what an event hasn't is 0.
 use Rattle.std.specs.Prelude.{◌≡◌, ℕ, Bool, true, false, ◌&&◌, nat_le, List, [], ◌∷◌, ◌++◌, length, Option, None, Some, drop}
 use Rattle.mqtt5_base.specs.Views.{qos_number}
-use Rattle.mqtt5_flow.specs.declared.publish.Publish.{Publish}
-use Rattle.mqtt5_flow.specs.Acks.{puback_code}
-use Rattle.mqtt5_subs.specs.declared.suback.SubscribeReasonCode.{SubscribeReasonCode}
-use Rattle.mqtt5_subs.specs.declared.unsuback.UnsubAckReason.{UnsubAckReason}
-use Rattle.mqtt5_subs.specs.SubAcks.{suback_code}
-use Rattle.mqtt5_subs.specs.UnsubAcks.{unsuback_code}
-use Rattle.mqtt5_link.specs.declared.connack.ConnAck.{ConnAck}
-use Rattle.mqtt5_link.specs.ConnAcks.{connack_code}
-use Rattle.mqtt5_link.specs.Disconnects.{disconnect_code}
+use Rattle.mqtt5_publish.specs.declared.publish.Publish.{Publish}
+use Rattle.mqtt5_publish.specs.Acks.{puback_code}
+use Rattle.mqtt5_subscribe.specs.declared.suback.SubscribeReasonCode.{SubscribeReasonCode}
+use Rattle.mqtt5_subscribe.specs.declared.unsuback.UnsubAckReason.{UnsubAckReason}
+use Rattle.mqtt5_subscribe.specs.SubAcks.{suback_code}
+use Rattle.mqtt5_subscribe.specs.UnsubAcks.{unsuback_code}
+use Rattle.mqtt5_control.specs.declared.connack.ConnAck.{ConnAck}
+use Rattle.mqtt5_control.specs.ConnAcks.{connack_code}
+use Rattle.mqtt5_control.specs.Disconnects.{disconnect_code}
 use Rattle.mqtt5_codec.specs.declared.packet.Packet.{Packet}
 use Rattle.mqtt5_codec.specs.declared.packet.Packet.TheVariants as packets
-use Rattle.mqtt5_held.specs.declared.event.Event.{Event}
-use Rattle.mqtt5_held.specs.declared.event.Event.TheVariants as events
-use Rattle.mqtt5_held.specs.declared.event.Outgoing.{Outgoing}
-use Rattle.mqtt5_held.specs.declared.event.Outgoing.TheVariants as outgoing
+use Rattle.mqtt5_inflight.specs.declared.event.Event.{Event}
+use Rattle.mqtt5_inflight.specs.declared.event.Event.TheVariants as events
+use Rattle.mqtt5_inflight.specs.declared.event.Outgoing.{Outgoing}
+use Rattle.mqtt5_inflight.specs.declared.event.Outgoing.TheVariants as outgoing
 use Rattle.mqtt5_client.specs.declared.client.Client.{Client}
 use Rattle.mqtt5_c.specs.declared.event.EventInfo.{EventInfo}
 use Rattle.mqtt5_c.specs.Numbers.{small_buffer}

@@ -1,7 +1,7 @@
 -- Outcomes as numbers.
 use Rattle.std.specs.Prelude.{ℕ, ◌+◌, Result, Ok, Err}
-use Rattle.mqtt5_held.specs.declared.error.StateError.{StateError}
-use Rattle.mqtt5_held.specs.declared.error.StateError.TheVariants as faults
+use Rattle.mqtt5_inflight.specs.declared.error.StateError.{StateError}
+use Rattle.mqtt5_inflight.specs.declared.error.StateError.TheVariants as faults
 use Rattle.mqtt5_client.specs.Numbers.{error_number, state_error_number}
 
 -- n of Sn; where a frame can't be read or a packet can't be written (S7), 100 + n of En, which says why

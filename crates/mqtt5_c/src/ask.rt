@@ -2,7 +2,7 @@
 
 ghost use Rattle.std.specs.Prelude.{◌≡◌, IfOk, IfErr};
 ghost use Rattle.std.specs.Str.{IsUtf8};
-ghost use Rattle.mqtt5_held.specs.declared.event.Request.TheVariants as requests;
+ghost use Rattle.mqtt5_inflight.specs.declared.event.Request.TheVariants as requests;
 ghost use Rattle.mqtt5_c.specs.Asked.{IsBad, IsPublish, IsSubscribe, IsUnsubscribe, puback_of, pubrec_of, Asked, IsDeclined};
 ghost use Rattle.mqtt5_c.specs.Calls.{Called, Asks};
 ghost use Rattle.mqtt5_c.specs.Handles.{IsKept};
@@ -11,9 +11,9 @@ use crate::handle::{Handle, put, take};
 use crate::number::{BAD_ARGUMENT, NO_CLIENT, OUT_OF_MEMORY, code_of};
 use bytes::Bytes;
 use mqtt5_base::qos;
-use mqtt5_flow::{PubAck, PubRec, Publish};
+use mqtt5_publish::{PubAck, PubRec, Publish};
 use mqtt5_session::Request;
-use mqtt5_subs::{Filter, Subscribe, Unsubscribe};
+use mqtt5_subscribe::{Filter, Subscribe, Unsubscribe};
 use std::alloc::Global;
 
 /// Asks the client.
@@ -21,7 +21,7 @@ use std::alloc::Global;
 fn ask(alloc: Global, h: &mut Handle, request: Request, at: u64) -> u32
     requires { IsKept h.old }
     ensures kept { IsKept h.new }
-    ensures answer { Called (Asks request at) h.old.spot.value result h.new.spot.value }
+    ensures answer { Called (Asks request at) h.old.client_ptr.value result h.new.client_ptr.value }
 {
     let Some(mut client) = take(alloc, h) else {
         drop(request);
@@ -108,7 +108,8 @@ pub extern "C" fn mqtt5_client_publish(
 ) -> u32
     requires { IsKept h.old }
     ensures kept { IsKept h.new }
-    ensures answer { Asked (IsBad topic.now qos) (IsPublish topic.now payload.now qos retain) at h.old.spot.value result h.new.spot.value }
+    ensures answer { Asked (IsBad topic.now qos) (IsPublish topic.now payload.now qos retain) at
+        h.old.client_ptr.value result h.new.client_ptr.value }
 {
     match publish_of(alloc, topic, payload, qos, retain) {
         Ok(request) => ask(alloc, h, request, at),
@@ -127,7 +128,8 @@ pub extern "C" fn mqtt5_client_subscribe(
 ) -> u32
     requires { IsKept h.old }
     ensures kept { IsKept h.new }
-    ensures answer { Asked (IsBad filter.now qos) (IsSubscribe filter.now qos) at h.old.spot.value result h.new.spot.value }
+    ensures answer { Asked (IsBad filter.now qos) (IsSubscribe filter.now qos) at
+        h.old.client_ptr.value result h.new.client_ptr.value }
 {
     match subscribe_of(alloc, filter, qos) {
         Ok(request) => ask(alloc, h, request, at),
@@ -145,7 +147,8 @@ pub extern "C" fn mqtt5_client_unsubscribe(
 ) -> u32
     requires { IsKept h.old }
     ensures kept { IsKept h.new }
-    ensures answer { Asked (¬ (IsUtf8 filter.now)) (IsUnsubscribe filter.now) at h.old.spot.value result h.new.spot.value }
+    ensures answer { Asked (¬ (IsUtf8 filter.now)) (IsUnsubscribe filter.now) at
+        h.old.client_ptr.value result h.new.client_ptr.value }
 {
     match unsubscribe_of(alloc, filter) {
         Ok(request) => ask(alloc, h, request, at),
@@ -158,7 +161,8 @@ pub extern "C" fn mqtt5_client_unsubscribe(
 pub extern "C" fn mqtt5_client_puback(alloc: Global, h: &mut Handle, pkid: u16, at: u64) -> u32
     requires { IsKept h.old }
     ensures kept { IsKept h.new }
-    ensures answer { Called (Asks (puback_of pkid) at) h.old.spot.value result h.new.spot.value }
+    ensures answer { Called (Asks (puback_of pkid) at) h.old.client_ptr.value result
+        h.new.client_ptr.value }
 {
     ask(alloc, h, Request::PubAck(PubAck::new(pkid, None)), at)
 }
@@ -168,7 +172,8 @@ pub extern "C" fn mqtt5_client_puback(alloc: Global, h: &mut Handle, pkid: u16, 
 pub extern "C" fn mqtt5_client_pubrec(alloc: Global, h: &mut Handle, pkid: u16, at: u64) -> u32
     requires { IsKept h.old }
     ensures kept { IsKept h.new }
-    ensures answer { Called (Asks (pubrec_of pkid) at) h.old.spot.value result h.new.spot.value }
+    ensures answer { Called (Asks (pubrec_of pkid) at) h.old.client_ptr.value result
+        h.new.client_ptr.value }
 {
     ask(alloc, h, Request::PubRec(PubRec::new(pkid, None)), at)
 }
@@ -178,7 +183,8 @@ pub extern "C" fn mqtt5_client_pubrec(alloc: Global, h: &mut Handle, pkid: u16, 
 pub extern "C" fn mqtt5_client_ping(alloc: Global, h: &mut Handle, at: u64) -> u32
     requires { IsKept h.old }
     ensures kept { IsKept h.new }
-    ensures answer { Called (Asks requests.PingReq at) h.old.spot.value result h.new.spot.value }
+    ensures answer { Called (Asks requests.PingReq at) h.old.client_ptr.value result
+        h.new.client_ptr.value }
 {
     ask(alloc, h, Request::PingReq, at)
 }
@@ -188,7 +194,8 @@ pub extern "C" fn mqtt5_client_ping(alloc: Global, h: &mut Handle, at: u64) -> u
 pub extern "C" fn mqtt5_client_disconnect(alloc: Global, h: &mut Handle, at: u64) -> u32
     requires { IsKept h.old }
     ensures kept { IsKept h.new }
-    ensures answer { Called (Asks requests.Disconnect at) h.old.spot.value result h.new.spot.value }
+    ensures answer { Called (Asks requests.Disconnect at) h.old.client_ptr.value result
+        h.new.client_ptr.value }
 {
     ask(alloc, h, Request::Disconnect, at)
 }

@@ -36,7 +36,8 @@ fn settings_of(
 fn begin(alloc: Global, h: &mut Handle, options: &MqttOptions) -> u32
     requires { IsKept h.old }
     ensures kept { IsKept h.new }
-    ensures answer { Called (Connects options.now) h.old.spot.value result h.new.spot.value }
+    ensures answer { Called (Connects options.now) h.old.client_ptr.value result
+        h.new.client_ptr.value }
 {
     let Some(mut client) = take(alloc, h) else {
         return NO_CLIENT;
@@ -62,7 +63,9 @@ pub extern "C" fn mqtt5_client_connect(
 ) -> u32
     requires { IsKept h.old }
     ensures kept { IsKept h.new }
-    ensures answer { Given (IsBadConnect client_id.now keep_alive) (Connects (settings_of client_id.now keep_alive clean_start session_expiry)) h.old.spot.value result h.new.spot.value }
+    ensures answer { Given (IsBadConnect client_id.now keep_alive)
+        (Connects (settings_of client_id.now keep_alive clean_start session_expiry))
+        h.old.client_ptr.value result h.new.client_ptr.value }
 {
     let Ok(client_id) = std::str::from_utf8(client_id) else {
         return BAD_ARGUMENT;

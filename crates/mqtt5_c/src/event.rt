@@ -10,10 +10,10 @@ use crate::number::{NO_CLIENT, SMALL_BUFFER};
 use mqtt5_base::QoS;
 use mqtt5_client::{Client, Event};
 use mqtt5_codec::Packet;
-use mqtt5_flow::Publish;
-use mqtt5_held::Outgoing;
-use mqtt5_link::ConnAck;
-use mqtt5_subs::{SubscribeReasonCode, UnsubAckReason};
+use mqtt5_control::ConnAck;
+use mqtt5_inflight::Outgoing;
+use mqtt5_publish::Publish;
+use mqtt5_subscribe::{SubscribeReasonCode, UnsubAckReason};
 use std::alloc::Global;
 use std::collections::VecDeque;
 
@@ -227,9 +227,12 @@ fn show(
     payload: &mut [u8],
 ) -> bool
     ensures told { info.new ≡ first_told (slice_get events.now.items 0) }
-    ensures room { result ≡ has_room (slice_get events.now.items 0) (length topic.old) (length payload.old) }
-    ensures topic { result ≡ true → topic.new ≡ over (first_topic (slice_get events.now.items 0)) topic.old }
-    ensures payload { result ≡ true → payload.new ≡ over (first_payload (slice_get events.now.items 0)) payload.old }
+    ensures room { result ≡ has_room (slice_get events.now.items 0) (length topic.old)
+        (length payload.old) }
+    ensures topic { result ≡ true
+        → topic.new ≡ over (first_topic (slice_get events.now.items 0)) topic.old }
+    ensures payload { result ≡ true
+        → payload.new ≡ over (first_payload (slice_get events.now.items 0)) payload.old }
 {
     let Some(event) = events.front() else {
         *info = NOTHING;
@@ -247,9 +250,12 @@ fn show(
 /// Shows the oldest event, and takes it out where its topic and payload fit.
 fn pop(client: &mut Client, info: &mut EventInfo, topic: &mut [u8], payload: &mut [u8]) -> u32
     ensures told { info.new ≡ first_told (slice_get client.old.state.events 0) }
-    ensures pops { Pops (has_room (slice_get client.old.state.events 0) (length topic.old) (length payload.old)) client.old result client.new }
-    ensures topic { result ≡ 0 → topic.new ≡ over (first_topic (slice_get client.old.state.events 0)) topic.old }
-    ensures payload { result ≡ 0 → payload.new ≡ over (first_payload (slice_get client.old.state.events 0)) payload.old }
+    ensures pops { Pops (has_room (slice_get client.old.state.events 0) (length topic.old)
+        (length payload.old)) client.old result client.new }
+    ensures topic { result ≡ 0
+        → topic.new ≡ over (first_topic (slice_get client.old.state.events 0)) topic.old }
+    ensures payload { result ≡ 0
+        → payload.new ≡ over (first_payload (slice_get client.old.state.events 0)) payload.old }
 {
     if !show(client.state.events(), info, topic, payload) {
         return SMALL_BUFFER;
@@ -270,11 +276,18 @@ pub extern "C" fn mqtt5_client_next_event(
 ) -> u32
     requires { IsKept h.old }
     ensures kept { IsKept h.new }
-    ensures none { IsNone h.old.spot.value → (result ≡ no_client) × (h.new.spot.value ≡ None) }
-    ensures told { IfSome h.old.spot.value (λ c. info.new ≡ first_told (slice_get c.state.events 0)) }
-    ensures pops { IfSome h.old.spot.value (λ c. IsSome h.new.spot.value × IfSome h.new.spot.value (Pops (has_room (slice_get c.state.events 0) (length topic.old) (length payload.old)) c result)) }
-    ensures topic { IfSome h.old.spot.value (λ c. result ≡ 0 → topic.new ≡ over (first_topic (slice_get c.state.events 0)) topic.old) }
-    ensures payload { IfSome h.old.spot.value (λ c. result ≡ 0 → payload.new ≡ over (first_payload (slice_get c.state.events 0)) payload.old) }
+    ensures none { IsNone h.old.client_ptr.value → (result ≡ no_client)
+        × (h.new.client_ptr.value ≡ None) }
+    ensures told { IfSome h.old.client_ptr.value
+        (λ c. info.new ≡ first_told (slice_get c.state.events 0)) }
+    ensures pops { IfSome h.old.client_ptr.value (λ c. IsSome h.new.client_ptr.value
+        × IfSome h.new.client_ptr.value
+        (Pops (has_room (slice_get c.state.events 0) (length topic.old) (length payload.old)) c
+        result)) }
+    ensures topic { IfSome h.old.client_ptr.value (λ c. result ≡ 0
+        → topic.new ≡ over (first_topic (slice_get c.state.events 0)) topic.old) }
+    ensures payload { IfSome h.old.client_ptr.value (λ c. result ≡ 0
+        → payload.new ≡ over (first_payload (slice_get c.state.events 0)) payload.old) }
 {
     let Some(mut client) = take(alloc, h) else {
         return NO_CLIENT;

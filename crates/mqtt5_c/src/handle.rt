@@ -4,9 +4,9 @@ ghost use Rattle.std.specs.Prelude.{◌≡◌, None, Some, IfSome, option_map};
 ghost use Rattle.mqtt5_c.specs.Handles.{IsKept};
 ghost use Rattle.mqtt5_client.specs.Client.{IsReady};
 
-use crate::spot::Spot;
+use crate::client_ptr::ClientPtr;
 use mqtt5_client::Client;
-use mqtt5_hold::Unboxed;
+use mqtt5_raw_box::RawBox;
 use std::alloc::Global;
 
 /// A place for a client. All zero is a place without one.
@@ -16,24 +16,24 @@ pub struct Handle {
     /// Whether it has a client.
     pub live: bool,
     /// Where the client is.
-    pub spot: Spot,
+    pub client_ptr: ClientPtr,
 }
 
 /// Takes the client out, where there is one. Takes no memory.
 pub(crate) fn take(alloc: Global, h: &mut Handle) -> Option<Box<Client>>
     requires { IsKept h.old }
-    ensures given { option_map (λ b. b.value) result ≡ h.old.spot.value }
-    ensures left { h.new.spot.value ≡ None }
+    ensures given { option_map (λ b. b.value) result ≡ h.old.client_ptr.value }
+    ensures left { h.new.client_ptr.value ≡ None }
     ensures ready { IfSome result (λ b. IsReady b.value) }
     ensures kept { IsKept h.new }
 {
     let empty = Handle {
         live: false,
-        spot: Spot::none(),
+        client_ptr: ClientPtr::none(),
     };
-    let Handle { live, spot } = std::mem::replace(h, empty);
+    let Handle { live, client_ptr } = std::mem::replace(h, empty);
     if live {
-        Some(spot.into_unboxed(alloc).into_box())
+        Some(client_ptr.into_unboxed(alloc).into_box())
     } else {
         None
     }
@@ -42,11 +42,11 @@ pub(crate) fn take(alloc: Global, h: &mut Handle) -> Option<Box<Client>>
 /// Puts a client in; one that was there is leaked. Takes no memory.
 pub(crate) fn put(h: &mut Handle, client: Box<Client>)
     requires { IsReady client.value }
-    ensures put { h.new.spot.value ≡ Some client.value }
+    ensures put { h.new.client_ptr.value ≡ Some client.value }
     ensures kept { IsKept h.new }
 {
     *h = Handle {
         live: true,
-        spot: Spot::of(Unboxed::of(client)),
+        client_ptr: ClientPtr::of(RawBox::of(client)),
     };
 }

@@ -2,10 +2,10 @@
 #![tactic(auto)]
 
 mod ask;
+mod client_ptr;
 mod connect;
 mod event;
 mod handle;
 mod life;
 mod number;
-mod spot;
 mod stream;

@@ -37,9 +37,14 @@ pub extern "C" fn mqtt5_client_new(
     requires { IsKept h.old }
     ensures kept { IsKept h.new }
     // A second client isn't made.
-    ensures full { IsSome h.old.spot.value → (result ≡ has_client) × (h.new.spot.value ≡ h.old.spot.value) }
-    ensures made { IsNone h.old.spot.value → 0 < limit → ((result ≡ 0) × IsSome h.new.spot.value × IfSome h.new.spot.value (IsNew limit manual_acks)) ⊎ ((result ≡ out_of_memory) × (h.new.spot.value ≡ None)) }
-    ensures none { IsNone h.old.spot.value → limit ≡ 0 → (result ≡ bad_argument) × (h.new.spot.value ≡ None) }
+    ensures full { IsSome h.old.client_ptr.value → (result ≡ has_client)
+        × (h.new.client_ptr.value ≡ h.old.client_ptr.value) }
+    ensures made { IsNone h.old.client_ptr.value → 0 < limit
+        → ((result ≡ 0) × IsSome h.new.client_ptr.value
+        × IfSome h.new.client_ptr.value (IsNew limit manual_acks)) ⊎ ((result ≡ out_of_memory)
+        × (h.new.client_ptr.value ≡ None)) }
+    ensures none { IsNone h.old.client_ptr.value → limit ≡ 0
+        → (result ≡ bad_argument) × (h.new.client_ptr.value ≡ None) }
 {
     if let Some(client) = take(alloc, h) {
         put(h, client);
@@ -62,9 +67,9 @@ pub extern "C" fn mqtt5_client_new(
 pub extern "C" fn mqtt5_client_free(alloc: Global, h: &mut Handle) -> u32
     requires { IsKept h.old }
     ensures kept { IsKept h.new }
-    ensures gone { h.new.spot.value ≡ None }
-    ensures none { IsNone h.old.spot.value → result ≡ no_client }
-    ensures freed { IsSome h.old.spot.value → result ≡ 0 }
+    ensures gone { h.new.client_ptr.value ≡ None }
+    ensures none { IsNone h.old.client_ptr.value → result ≡ no_client }
+    ensures freed { IsSome h.old.client_ptr.value → result ≡ 0 }
 {
     match take(alloc, h) {
         Some(_client) => 0,
@@ -80,7 +85,7 @@ pub extern "C" fn mqtt5_client_free(alloc: Global, h: &mut Handle) -> u32
 pub extern "C" fn mqtt5_client_resume(alloc: Global, h: &mut Handle, at: u64) -> u32
     requires { IsKept h.old }
     ensures kept { IsKept h.new }
-    ensures answer { Called (Resumes at) h.old.spot.value result h.new.spot.value }
+    ensures answer { Called (Resumes at) h.old.client_ptr.value result h.new.client_ptr.value }
 {
     let Some(mut client) = take(alloc, h) else {
         return NO_CLIENT;
@@ -96,8 +101,9 @@ pub extern "C" fn mqtt5_client_resume(alloc: Global, h: &mut Handle, at: u64) ->
 pub extern "C" fn mqtt5_client_clean(alloc: Global, h: &mut Handle, count: &mut usize) -> u32
     requires { IsKept h.old }
     ensures kept { IsKept h.new }
-    ensures answer { Called Cleans h.old.spot.value result h.new.spot.value }
-    ensures count { result ≡ 0 → IfSome h.old.spot.value (λ c. count.new ≡ length (given_back c.state.core)) }
+    ensures answer { Called Cleans h.old.client_ptr.value result h.new.client_ptr.value }
+    ensures count { result ≡ 0 → IfSome h.old.client_ptr.value
+        (λ c. count.new ≡ length (given_back c.state.core)) }
 {
     let Some(mut client) = take(alloc, h) else {
         return NO_CLIENT;

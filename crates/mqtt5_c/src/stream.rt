@@ -15,7 +15,8 @@ use std::alloc::Global;
 pub extern "C" fn mqtt5_client_receive(alloc: Global, h: &mut Handle, bytes: &[u8], at: u64) -> u32
     requires { IsKept h.old }
     ensures kept { IsKept h.new }
-    ensures answer { Called (Receives bytes.now at) h.old.spot.value result h.new.spot.value }
+    ensures answer { Called (Receives bytes.now at) h.old.client_ptr.value result
+        h.new.client_ptr.value }
 {
     let Some(mut client) = take(alloc, h) else {
         return NO_CLIENT;
@@ -47,9 +48,12 @@ pub extern "C" fn mqtt5_client_output(
 ) -> u32
     requires { IsKept h.old }
     ensures kept { IsKept h.new }
-    ensures answer { Called Looks h.old.spot.value result h.new.spot.value }
-    ensures none { IsNone h.old.spot.value → (count.new ≡ count.old) × (buffer.new ≡ buffer.old) }
-    ensures copied { IfSome h.old.spot.value (λ c. (count.new ≡ min (length c.output.items) (length buffer.old)) × (buffer.new ≡ take count.new c.output.items ++ drop count.new buffer.old)) }
+    ensures answer { Called Looks h.old.client_ptr.value result h.new.client_ptr.value }
+    ensures none { IsNone h.old.client_ptr.value → (count.new ≡ count.old)
+        × (buffer.new ≡ buffer.old) }
+    ensures copied { IfSome h.old.client_ptr.value
+        (λ c. (count.new ≡ min (length c.output.items) (length buffer.old))
+        × (buffer.new ≡ take count.new c.output.items ++ drop count.new buffer.old)) }
 {
     let Some(client) = take(alloc, h) else {
         return NO_CLIENT;
@@ -65,7 +69,7 @@ pub extern "C" fn mqtt5_client_output(
 pub extern "C" fn mqtt5_client_sent(alloc: Global, h: &mut Handle, count: usize) -> u32
     requires { IsKept h.old }
     ensures kept { IsKept h.new }
-    ensures answer { Called (Sends count) h.old.spot.value result h.new.spot.value }
+    ensures answer { Called (Sends count) h.old.client_ptr.value result h.new.client_ptr.value }
 {
     let Some(mut client) = take(alloc, h) else {
         return NO_CLIENT;

@@ -5,10 +5,10 @@ use Rattle.mqtt5_base.specs.declared.error.Error.{Error}
 use Rattle.mqtt5_codec.specs.declared.packet.Packet.{Packet}
 use Rattle.mqtt5_codec.specs.declared.codec.Codec.{Codec}
 use Rattle.mqtt5_codec.specs.Packets.{writing_under}
-use Rattle.mqtt5_held.specs.Errors.{state_error}
-use Rattle.mqtt5_held.specs.declared.error.StateError.{StateError}
-use Rattle.mqtt5_held.specs.declared.error.StateError.TheVariants.{OutOfMemory}
-use Rattle.mqtt5_session.specs.Cleaning.{resume_of}
+use Rattle.mqtt5_inflight.specs.Errors.{state_error}
+use Rattle.mqtt5_inflight.specs.declared.error.StateError.{StateError}
+use Rattle.mqtt5_inflight.specs.declared.error.StateError.TheVariants.{OutOfMemory}
+use Rattle.mqtt5_session.specs.Resuming.{resume_of}
 use Rattle.mqtt5_client.specs.declared.client.Client.{Client}
 
 -- bytes go behind others, or their refusal ends it

@@ -2,39 +2,40 @@
 -- to be sent and what still waits (MQTT 5.0 section 4.2).
 use Rattle.std.specs.Prelude.{◌≡◌, ℕ, List, ◌++◌, None, option_map}
 use Rattle.std.specs.Option.{option_to_list}
+use Rattle.mqtt5_base.specs.Front.{NeedsMore}
 use Rattle.mqtt5_base.specs.FrontAt.{front}
 use Rattle.mqtt5_codec.specs.declared.codec.Codec.{Codec}
-use Rattle.mqtt5_held.specs.declared.event.Request.{Request}
-use Rattle.mqtt5_held.specs.declared.event.Request.TheVariants as requests
-use Rattle.mqtt5_held.specs.declared.error.StateError.{StateError}
-use Rattle.mqtt5_held.specs.Unacked.{requests_of}
+use Rattle.mqtt5_inflight.specs.declared.event.Request.{Request}
+use Rattle.mqtt5_inflight.specs.declared.event.Request.TheVariants as requests
+use Rattle.mqtt5_inflight.specs.declared.error.StateError.{StateError}
+use Rattle.mqtt5_inflight.specs.Unacked.{requests_of}
 use Rattle.mqtt5_session.specs.Session.{Core}
 use Rattle.mqtt5_drive.specs.declared.run.Step.{Step}
 use Rattle.mqtt5_drive.specs.declared.run.Input.TheVariants as inputs
-use Rattle.mqtt5_drive.specs.Course.{Course, Holds, finish, Stops}
-use Rattle.mqtt5_drive.specs.Run.{turns, run, IsMore}
+use Rattle.mqtt5_drive.specs.Trace.{Trace, Holds, finish, Stops}
+use Rattle.mqtt5_drive.specs.Run.{turns, run}
 use Rattle.mqtt5_client.specs.declared.client.Client.{Client}
 
 -- the input is in want of more bytes, as an empty one is
 abbrev pub IsReady : Client → Type 0
-IsReady c = IsMore (front c.codec.max_incoming_size c.input.items)
+IsReady c = NeedsMore (front c.codec.max_incoming_size c.input.items)
 
 -- a step that is a request
 abbrev pub asking : ℕ → Request → Step
 asking at request = record { at = at; input = inputs.Request request }
 
 -- the run of a client's session over these steps
-abbrev pub course : Client → List Step → Course
-course c steps = run c.codec (turns steps) c.state c.input.items
+abbrev pub trace : Client → List Step → Trace
+trace c steps = run c.codec (turns steps) c.state c.input.items
 
 -- All is the run's: the session, the bytes held, and the output, of which sent is gone and new has the rest.
 pub record Runs (old : Client) (steps : List Step) (sent : List ℕ) (new : Client) : Type 0 where
-  pub all : finish old.state old.output.items (course old steps) ≡ record { session = new.state; output = sent ++ new.output.items; ending = Holds new.input.items }
+  pub all : finish old.state old.output.items (trace old steps) ≡ record { session = new.state; output = sent ++ new.output.items; ending = Holds new.input.items }
   pub ready : IsReady new
 
 -- The run stops with this fault, or memory ran out on its way; the session and the output are those of then.
 abbrev pub Fails : StateError → Client → List Step → List ℕ → Client → Type 0
-Fails e old steps sent new = Stops e old.state old.output.items (course old steps) new.state (sent ++ new.output.items)
+Fails e old steps sent new = Stops e old.state old.output.items (trace old steps) new.state (sent ++ new.output.items)
 
 -- a codec without limits
 abbrev pub no_limits : Codec
@@ -42,4 +43,4 @@ no_limits = record { max_incoming_size = None; max_outgoing_size = None }
 
 -- what a session gives back: what it would send again (4.4), and the publish that waits for its id
 abbrev pub given_back : Core → List Request
-given_back c = requests_of c.limit c.held ++ option_to_list (option_map requests.Publish c.waiting)
+given_back c = requests_of c.limit c.in_use ++ option_to_list (option_map requests.Publish c.waiting)

@@ -9,9 +9,9 @@ use Rattle.mqtt5_codec.specs.declared.packet.Packet.{Packet}
 use Rattle.mqtt5_codec.specs.declared.packet.Packet.TheVariants as packets
 use Rattle.mqtt5_codec.specs.declared.codec.Codec.{Codec}
 use Rattle.mqtt5_codec.specs.Packets.{packet_writing}
-use Rattle.mqtt5_held.specs.Errors.{state_error}
-use Rattle.mqtt5_held.specs.declared.error.StateError.{StateError}
-use Rattle.mqtt5_held.specs.declared.error.StateError.TheVariants as faults
+use Rattle.mqtt5_inflight.specs.Errors.{state_error}
+use Rattle.mqtt5_inflight.specs.declared.error.StateError.{StateError}
+use Rattle.mqtt5_inflight.specs.declared.error.StateError.TheVariants as faults
 use Rattle.mqtt5_options.specs.Options.{Settings, properties_of}
 
 -- its fields: the keep alive in whole seconds, at most 65,535 (3.1.2.10)
@@ -37,9 +37,9 @@ abbrev pub opened : Settings → Codec → Codec
 opened s codec = record { max_incoming_size = incoming_limit (properties_of s).max_packet_size codec.max_incoming_size; max_outgoing_size = None }
 
 -- these are the bytes of a packet, or memory ran out, or this is why it can't be written
-abbrev pub IsFrameOf : Packet → Result Filled Error → Type 0
-IsFrameOf p (Ok frame) = packet_writing p ≡ Ok frame.items
-IsFrameOf p (Err e) = (e ≡ OutOfMemory) ⊎ (packet_writing p ≡ Err e)
+abbrev pub FramesConnect : Packet → Result Filled Error → Type 0
+FramesConnect p (Ok frame) = packet_writing p ≡ Ok frame.items
+FramesConnect p (Err e) = (e ≡ OutOfMemory) ⊎ (packet_writing p ≡ Err e)
 
 -- a session's fault is want of memory, or why a packet can't be written
 abbrev pub IsRefused : Packet → StateError → Type 0

@@ -1,7 +1,7 @@
 //! What is sent again on a new connection, and what is given back without one.
 
 ghost use Rattle.std.specs.Prelude.{◌≡◌, Some, IfOk, IfErr};
-ghost use Rattle.mqtt5_held.specs.declared.error.StateError.TheVariants.{OutOfMemory};
+ghost use Rattle.mqtt5_inflight.specs.declared.error.StateError.TheVariants.{OutOfMemory};
 ghost use Rattle.mqtt5_drive.specs.Run.{reply_bytes};
 ghost use Rattle.mqtt5_drive.specs.Ways.{Replies};
 ghost use Rattle.mqtt5_client.specs.Again.{frames_of, Framed};
@@ -10,7 +10,7 @@ ghost use Rattle.mqtt5_client.specs.Client.{given_back};
 use bytes::BytesMut;
 use mqtt5_base::copied;
 use mqtt5_codec::{Codec, Packet};
-use mqtt5_flow::Publish;
+use mqtt5_publish::Publish;
 use mqtt5_session::{MqttState, Request, StateError};
 use std::alloc::Global;
 
@@ -20,7 +20,8 @@ pub(crate) fn encode(
     output: &mut BytesMut,
     packet: &Packet,
 ) -> Result<(), StateError>
-    ensures { Replies result (reply_bytes codec.now (Some packet.now)) output.old.items output.new.items }
+    ensures { Replies result (reply_bytes codec.now (Some packet.now)) output.old.items
+        output.new.items }
 {
     match codec.write(packet, output) {
         Ok(()) => Ok(()),

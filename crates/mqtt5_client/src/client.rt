@@ -3,11 +3,11 @@
 ghost use Rattle.std.specs.Prelude.{◌≡◌, ◌<◌, ◌⊎◌, ℕ, List, [], ◌∷◌, ◌++◌, length, take, drop, slice_get, Some, Ok, IsOk, IfOk, IfErr, OnOk, OnErr};
 ghost use Rattle.mqtt5_base.specs.declared.error.Error.{Error};
 ghost use Rattle.mqtt5_codec.specs.Packets.{packet_writing};
-ghost use Rattle.mqtt5_held.specs.Errors.{state_error};
-ghost use Rattle.mqtt5_held.specs.declared.error.StateError.{StateError as Fault};
-ghost use Rattle.mqtt5_held.specs.declared.error.StateError.TheVariants as faults;
+ghost use Rattle.mqtt5_inflight.specs.Errors.{state_error};
+ghost use Rattle.mqtt5_inflight.specs.declared.error.StateError.{StateError as Fault};
+ghost use Rattle.mqtt5_inflight.specs.declared.error.StateError.TheVariants as faults;
 ghost use Rattle.mqtt5_session.specs.Session.{fresh};
-ghost use Rattle.mqtt5_session.specs.Requests.{out};
+ghost use Rattle.mqtt5_session.specs.Requests.{on_request};
 ghost use Rattle.mqtt5_drive.specs.declared.run.Step.{Step};
 ghost use Rattle.mqtt5_drive.specs.Run.{piece, reply_bytes};
 ghost use Rattle.mqtt5_drive.specs.Ways.{Goes, Replies};
@@ -21,7 +21,7 @@ use crate::again::{encode, frames, given_back};
 use crate::connecting::{connect_frame, incoming_limit};
 use bytes::{Bytes, BytesMut};
 use mqtt5_codec::{Codec, Packet};
-use mqtt5_drive::{Input, Step, drive, may_start, take_limit};
+use mqtt5_drive::{Input, Step, drive, empty_needs_more, take_limit};
 use mqtt5_options::MqttOptions;
 use mqtt5_session::{Event, MqttState, Request, StateError};
 use std::alloc::Global;
@@ -54,7 +54,7 @@ impl Client {
         ensures ready { IfOk result IsReady }
     {
         let state = MqttState::new(alloc, limit, manual_acks)?;
-        may_start();
+        empty_needs_more();
         Ok(Client {
             state,
             codec: Codec::new(),
@@ -68,7 +68,8 @@ impl Client {
     /// comes in is limited by the settings' `max_packet_size`, where it is set. S7 where the Connect can't be
     /// written (E11); S12. After an Err the client is unchanged.
     pub fn connect(&mut self, options: &MqttOptions) -> Result<(), StateError>
-        ensures frame { OnOk result (packet_writing (connect_packet options.now) ≡ Ok self.new.output.items) }
+        ensures frame { OnOk result (packet_writing (connect_packet options.now)
+            ≡ Ok self.new.output.items) }
         ensures input { OnOk result (self.new.input.items ≡ []) }
         ensures codec { OnOk result (self.new.codec ≡ opened options.now self.old.codec) }
         ensures state { self.new.state ≡ self.old.state }
@@ -85,7 +86,7 @@ impl Client {
         };
         self.output = frame;
         self.input.clear();
-        may_start();
+        empty_needs_more();
         Ok(())
     }
 
@@ -99,14 +100,15 @@ impl Client {
         // What was answered before the fault stands.
         ensures err { IfErr result (λ e. Fails e self.old (piece at bytes.now ∷ []) [] self.new) }
         // The limit is that of the ConnAcks among the events of this call.
-        ensures codec { self.new.codec ≡ allowed (drop (length self.old.state.events) self.new.state.events) self.old.codec }
+        ensures codec { self.new.codec
+            ≡ allowed (drop (length self.old.state.events) self.new.state.events) self.old.codec }
         ensures lost { OnErr result (self.new.input.items ≡ []) }
         // So another call may follow.
         ensures ready { IsReady self.new }
     {
         let told = self.state.events().len();
-        let ended = self.hear(bytes, at);
-        self.allow(told);
+        let ended = self.receive_bytes(bytes, at);
+        self.set_broker_limits(told);
         ended
     }
 
@@ -119,11 +121,12 @@ impl Client {
         // Session and output are the run's.
         ensures ok { OnOk result (Runs self.old (asking at request ∷ []) [] self.new) }
         ensures err { IfErr result (λ e. Fails e self.old (asking at request ∷ []) [] self.new) }
-        ensures kept { (self.new.input.items ≡ self.old.input.items) × (self.new.codec ≡ self.old.codec) }
+        ensures kept { (self.new.input.items ≡ self.old.input.items)
+            × (self.new.codec ≡ self.old.codec) }
         // So another call may follow.
         ensures ready { IsReady self.new }
     {
-        ask(&mut self.state, &self.codec, &mut self.output, request, at)
+        send_request(&mut self.state, &self.codec, &mut self.output, request, at)
     }
 
     /// What is to be sent, the oldest byte first. Takes no memory.
@@ -137,9 +140,11 @@ impl Client {
     /// memory.
     pub fn sent(&mut self, count: usize)
         ensures left { self.new.output.items ≡ drop count self.old.output.items }
-        ensures kept { (self.new.state ≡ self.old.state) × (self.new.codec ≡ self.old.codec) × (self.new.input.items ≡ self.old.input.items) }
+        ensures kept { (self.new.state ≡ self.old.state) × (self.new.codec ≡ self.old.codec)
+            × (self.new.input.items ≡ self.old.input.items) }
         // What was sent and what is left are the run's output.
-        ensures run { IsReady self.old → Runs self.old [] (take count self.old.output.items) self.new }
+        ensures run { IsReady self.old
+            → Runs self.old [] (take count self.old.output.items) self.new }
         ensures ready { IsReady self.old → IsReady self.new }
     {
         self.output.advance(count.min(self.output.len()));
@@ -148,7 +153,9 @@ impl Client {
     /// Takes the oldest event out; None where there is none. Takes no memory.
     pub fn next_event(&mut self) -> Option<Event>
         ensures event { result ≡ slice_get self.old.state.events 0 }
-        ensures rest { self.new ≡ record self.old { state = record self.old.state { events = drop 1 self.old.state.events } } }
+        ensures rest { self.new
+            ≡ record self.old
+            { state = record self.old.state { events = drop 1 self.old.state.events } } }
         ensures ready { IsReady self.old → IsReady self.new }
     {
         self.state.pop_event()
@@ -163,7 +170,8 @@ impl Client {
         ensures ok { OnOk result (SendsAgain self.old at self.new) }
         ensures err { IfErr result (λ e. Refuses e self.old at self.new) }
         ensures unsent { OnErr result (self.new.output.items ≡ self.old.output.items) }
-        ensures kept { (self.new.input.items ≡ self.old.input.items) × (self.new.codec ≡ self.old.codec) }
+        ensures kept { (self.new.input.items ≡ self.old.input.items)
+            × (self.new.codec ≡ self.old.codec) }
         ensures ready { IsReady self.old → IsReady self.new }
     {
         let alloc = *self.input.allocator();
@@ -179,7 +187,8 @@ impl Client {
     /// is unchanged.
     pub fn clean(&mut self) -> Result<Vec<Request>, StateError>
         ensures ok { IfOk result (λ v. v.items ≡ given_back self.old.state.core) }
-        ensures state { OnOk result (self.new.state ≡ fresh self.old.state.core.limit self.old.state.core.manual_acks) }
+        ensures state { OnOk result (self.new.state
+            ≡ fresh self.old.state.core.limit self.old.state.core.manual_acks) }
         ensures empty { OnOk result ((self.new.input.items ≡ []) × (self.new.output.items ≡ [])) }
         ensures codec { self.new.codec ≡ self.old.codec }
         // So bytes may be received.
@@ -196,12 +205,12 @@ impl Client {
         self.state = renewed(alloc, &self.state);
         self.input.clear();
         self.output.clear();
-        may_start();
+        empty_needs_more();
         Ok(requests)
     }
 
     /// Runs one piece. After a fault the input is empty.
-    fn hear(&mut self, bytes: &[u8], at: u64) -> Result<(), StateError>
+    fn receive_bytes(&mut self, bytes: &[u8], at: u64) -> Result<(), StateError>
         requires { IsReady self.old }
         ensures ok { OnOk result (Runs self.old (piece at bytes.now ∷ []) [] self.new) }
         ensures err { IfErr result (λ e. Fails e self.old (piece at bytes.now ∷ []) [] self.new) }
@@ -213,7 +222,7 @@ impl Client {
             Ok(()) => Ok(()),
             Err(fault) => {
                 self.input.clear();
-                may_start();
+                empty_needs_more();
                 Err(fault)
             }
         }
@@ -244,8 +253,9 @@ impl Client {
     }
 
     /// Keeps the limit of the ConnAcks among the events from this place on.
-    fn allow(&mut self, from: usize)
-        ensures { self.new ≡ record self.old { codec = allowed (drop from self.old.state.events) self.old.codec } }
+    fn set_broker_limits(&mut self, from: usize)
+        ensures { self.new
+            ≡ record self.old { codec = allowed (drop from self.old.state.events) self.old.codec } }
     {
         take_limit(&mut self.codec, self.state.events(), from);
     }
@@ -263,14 +273,15 @@ fn renewed(alloc: Global, state: &MqttState) -> MqttState
     }
 }
 
-fn ask(
+fn send_request(
     state: &mut MqttState,
     codec: &Codec,
     output: &mut BytesMut,
     request: Request,
     at: u64,
 ) -> Result<(), StateError>
-    ensures { Goes result codec.now (out state.old request at) state.old output.old.items state.new output.new.items }
+    ensures { Goes result codec.now (on_request state.old request at) state.old output.old.items
+        state.new output.new.items }
 {
     match state.handle_outgoing_packet(request, at) {
         Ok(reply) => {

@@ -4,7 +4,7 @@ ghost use Rattle.std.specs.Prelude.{◌≡◌, ◌/◌, min};
 ghost use Rattle.std.specs.Duration.{as_nanos};
 ghost use Rattle.mqtt5_base.specs.Answers.{Answers};
 ghost use Rattle.mqtt5_options.specs.Options.{properties_of};
-ghost use Rattle.mqtt5_client.specs.Connecting.{connect_of, connect_packet, incoming_limit, IsFrameOf};
+ghost use Rattle.mqtt5_client.specs.Connecting.{connect_of, connect_packet, incoming_limit, FramesConnect};
 
 use bytes::BytesMut;
 use mqtt5_base::Error;
@@ -61,7 +61,7 @@ fn connect_packet(options: &MqttOptions) -> Result<Packet, Error>
 
 /// The frame of a packet, by itself.
 fn frame_of(alloc: Global, packet: &Packet) -> Result<BytesMut, Error>
-    ensures { IsFrameOf packet.now result }
+    ensures { FramesConnect packet.now result }
 {
     let mut frame = BytesMut::new(alloc);
     NO_LIMITS.write(packet, &mut frame)?;
@@ -70,7 +70,7 @@ fn frame_of(alloc: Global, packet: &Packet) -> Result<BytesMut, Error>
 
 /// The frame of the Connect.
 pub(crate) fn connect_frame(alloc: Global, options: &MqttOptions) -> Result<BytesMut, Error>
-    ensures { IsFrameOf (connect_packet options.now) result }
+    ensures { FramesConnect (connect_packet options.now) result }
 {
     let packet = connect_packet(options)?;
     let frame = frame_of(alloc, &packet);

@@ -10,14 +10,14 @@ use Rattle.mqtt5_base.specs.Laws.{Reads}
 use Rattle.mqtt5_base.proofs.ReadsLemmas.{reads_like, reads_map, reads_one}
 use Rattle.mqtt5_base.proofs.FrameLaws.{frame_reads}
 use Rattle.mqtt5_base.proofs.HeaderLemmas.{one_whole, frame_at_whole}
-use Rattle.mqtt5_flow.proofs.PacketsBack.{publish_back, puback_back, pubrec_back, pubrel_back, pubcomp_back}
-use Rattle.mqtt5_flow.proofs.RowsBack.{publish_row_again, puback_row_again, pubrec_row_again, pubrel_row_again, pubcomp_row_again, ping_row_again}
-use Rattle.mqtt5_subs.proofs.PacketsBack.{subscribe_back, suback_back, unsubscribe_back, unsuback_back}
-use Rattle.mqtt5_subs.proofs.RowsBack.{subscribe_row_again, suback_row_again, suback_of_settled, unsubscribe_row_again, unsuback_row_again}
+use Rattle.mqtt5_publish.proofs.PacketsBack.{publish_back, puback_back, pubrec_back, pubrel_back, pubcomp_back}
+use Rattle.mqtt5_publish.proofs.RowsBack.{publish_row_again, puback_row_again, pubrec_row_again, pubrel_row_again, pubcomp_row_again, ping_row_again}
+use Rattle.mqtt5_subscribe.proofs.PacketsBack.{subscribe_back, suback_back, unsubscribe_back, unsuback_back}
+use Rattle.mqtt5_subscribe.proofs.RowsBack.{subscribe_row_again, suback_row_again, suback_of_settled, unsubscribe_row_again, unsuback_row_again}
 use Rattle.mqtt5_connect.proofs.PacketsBack.{connect_back, will_back, login_back}
 use Rattle.mqtt5_connect.proofs.RowsBack.{connect_row_again}
-use Rattle.mqtt5_link.proofs.PacketsBack.{connack_back, disconnect_back, auth_back}
-use Rattle.mqtt5_link.proofs.RowsBack.{connack_row_again, disconnect_row_again, auth_row_again}
+use Rattle.mqtt5_control.proofs.PacketsBack.{connack_back, disconnect_back, auth_back}
+use Rattle.mqtt5_control.proofs.RowsBack.{connack_row_again, disconnect_row_again, auth_row_again}
 use Rattle.mqtt5_codec.specs.declared.packet.Packet.{Packet}
 use Rattle.mqtt5_codec.specs.declared.packet.Packet.TheVariants as packets
 use Rattle.mqtt5_codec.specs.Packets.{packet_rows, packet_type, packet_content, IsRead, IsFrameOf, IsFaultOf}

@@ -7,42 +7,42 @@ use Rattle.mqtt5_base.specs.Layout.{WrittenPacket, writing}
 use Rattle.mqtt5_base.specs.Sets.{IsBlockOf}
 use Rattle.mqtt5_base.specs.Front.{Admits}
 use Rattle.mqtt5_base.proofs.FramesAgain.{is_written, written_front, content_read}
-use Rattle.mqtt5_flow.specs.declared.publish.Publish.{Publish}
-use Rattle.mqtt5_flow.specs.declared.puback.PubAck.{PubAck}
-use Rattle.mqtt5_flow.specs.declared.pubrec.PubRec.{PubRec}
-use Rattle.mqtt5_flow.specs.declared.pubrel.PubRel.{PubRel}
-use Rattle.mqtt5_flow.specs.declared.pubcomp.PubComp.{PubComp}
-use Rattle.mqtt5_flow.specs.declared.ping.PingReq.{PingReq}
-use Rattle.mqtt5_flow.specs.declared.ping.PingResp.{PingResp}
-use Rattle.mqtt5_subs.specs.declared.subscribe.Subscribe.{Subscribe}
-use Rattle.mqtt5_subs.specs.declared.suback.SubAck.{SubAck}
-use Rattle.mqtt5_subs.specs.declared.unsubscribe.Unsubscribe.{Unsubscribe}
-use Rattle.mqtt5_subs.specs.declared.unsuback.UnsubAck.{UnsubAck}
+use Rattle.mqtt5_publish.specs.declared.publish.Publish.{Publish}
+use Rattle.mqtt5_publish.specs.declared.puback.PubAck.{PubAck}
+use Rattle.mqtt5_publish.specs.declared.pubrec.PubRec.{PubRec}
+use Rattle.mqtt5_publish.specs.declared.pubrel.PubRel.{PubRel}
+use Rattle.mqtt5_publish.specs.declared.pubcomp.PubComp.{PubComp}
+use Rattle.mqtt5_publish.specs.declared.ping.PingReq.{PingReq}
+use Rattle.mqtt5_publish.specs.declared.ping.PingResp.{PingResp}
+use Rattle.mqtt5_subscribe.specs.declared.subscribe.Subscribe.{Subscribe}
+use Rattle.mqtt5_subscribe.specs.declared.suback.SubAck.{SubAck}
+use Rattle.mqtt5_subscribe.specs.declared.unsubscribe.Unsubscribe.{Unsubscribe}
+use Rattle.mqtt5_subscribe.specs.declared.unsuback.UnsubAck.{UnsubAck}
 use Rattle.mqtt5_connect.specs.declared.connect.Connect.{Connect}
 use Rattle.mqtt5_connect.specs.declared.will.LastWill.{LastWill}
 use Rattle.mqtt5_connect.specs.declared.login.Login.{Login}
-use Rattle.mqtt5_link.specs.declared.connack.ConnAck.{ConnAck}
-use Rattle.mqtt5_link.specs.declared.disconnect.Disconnect.{Disconnect}
-use Rattle.mqtt5_link.specs.declared.auth.Auth.{Auth}
+use Rattle.mqtt5_control.specs.declared.connack.ConnAck.{ConnAck}
+use Rattle.mqtt5_control.specs.declared.disconnect.Disconnect.{Disconnect}
+use Rattle.mqtt5_control.specs.declared.auth.Auth.{Auth}
 use Rattle.mqtt5_base.specs.AckSets.{ack_table, ack_found}
-use Rattle.mqtt5_flow.specs.Rows.{publish_table}
-use Rattle.mqtt5_subs.specs.Rows.{subscribe_table, unsubscribe_table}
-use Rattle.mqtt5_subs.specs.Subscribes.{subscribe_found}
-use Rattle.mqtt5_subs.specs.Unsubscribes.{unsubscribe_found}
+use Rattle.mqtt5_publish.specs.Rows.{publish_table}
+use Rattle.mqtt5_subscribe.specs.Rows.{subscribe_table, unsubscribe_table}
+use Rattle.mqtt5_subscribe.specs.Subscribes.{subscribe_found}
+use Rattle.mqtt5_subscribe.specs.Unsubscribes.{unsubscribe_found}
 use Rattle.mqtt5_connect.specs.Rows.{connect_table, will_table}
-use Rattle.mqtt5_link.specs.Rows.{connack_table, disconnect_table, auth_table}
+use Rattle.mqtt5_control.specs.Rows.{connack_table, disconnect_table, auth_table}
 use Rattle.mqtt5_connect.specs.Short.{will_block}
 use Rattle.mqtt5_connect.specs.Connects.{connect_found}
-use Rattle.mqtt5_link.specs.ConnAcks.{connack_found}
-use Rattle.mqtt5_link.specs.Disconnects.{disconnect_found}
-use Rattle.mqtt5_link.specs.Auths.{auth_found}
-use Rattle.mqtt5_subs.proofs.PacketsAgain.{subscribe_again, subscribe_norm_twice, suback_again, suback_norm_twice, unsubscribe_again, unsubscribe_norm_twice, unsuback_again, unsuback_norm_twice}
+use Rattle.mqtt5_control.specs.ConnAcks.{connack_found}
+use Rattle.mqtt5_control.specs.Disconnects.{disconnect_found}
+use Rattle.mqtt5_control.specs.Auths.{auth_found}
+use Rattle.mqtt5_subscribe.proofs.PacketsAgain.{subscribe_again, subscribe_norm_twice, suback_again, suback_norm_twice, unsubscribe_again, unsubscribe_norm_twice, unsuback_again, unsuback_norm_twice}
 use Rattle.mqtt5_connect.proofs.PacketsAgain.{connect_again, connect_norm_twice, will_norm_twice, login_norm_twice}
-use Rattle.mqtt5_link.proofs.PacketsAgain.{connack_again, connack_norm_twice, disconnect_again, disconnect_norm_twice, auth_again, auth_norm_twice}
-use Rattle.mqtt5_flow.specs.Publishes.{publish_found}
-use Rattle.mqtt5_flow.proofs.AcksAgain.{puback_again, puback_norm_twice, pubrec_again, pubrec_norm_twice, pubrel_again, pubrel_norm_twice, pubcomp_again, pubcomp_norm_twice}
-use Rattle.mqtt5_flow.proofs.PublishesAgain.{publish_type, publish_again, publish_norm_twice}
-use Rattle.mqtt5_flow.proofs.PingsAgain.{ping_again}
+use Rattle.mqtt5_control.proofs.PacketsAgain.{connack_again, connack_norm_twice, disconnect_again, disconnect_norm_twice, auth_again, auth_norm_twice}
+use Rattle.mqtt5_publish.specs.Publishes.{publish_found}
+use Rattle.mqtt5_publish.proofs.AcksAgain.{puback_again, puback_norm_twice, pubrec_again, pubrec_norm_twice, pubrel_again, pubrel_norm_twice, pubcomp_again, pubcomp_norm_twice}
+use Rattle.mqtt5_publish.proofs.PublishesAgain.{publish_type, publish_again, publish_norm_twice}
+use Rattle.mqtt5_publish.proofs.PingsAgain.{ping_again}
 use Rattle.mqtt5_codec.specs.declared.packet.Packet.{Packet}
 use Rattle.mqtt5_codec.specs.declared.packet.Packet.TheVariants as packets
 use Rattle.mqtt5_codec.specs.Packets.{packet_rows, packet_type, packet_row, written_packet, packet_content, IsRead, packet_writing}

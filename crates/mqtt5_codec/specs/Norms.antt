@@ -3,10 +3,10 @@ use Rattle.std.specs.Prelude.{◌≡◌, ℕ, List, ◌++◌, length, Option, Ok
 use Rattle.mqtt5_base.specs.Front.{Admits, Whole}
 use Rattle.mqtt5_base.specs.FrontAt.{front}
 use Rattle.mqtt5_base.specs.Layout.{body_bytes}
-use Rattle.mqtt5_flow.specs.Norms.{publish_norm, puback_norm, pubrec_norm, pubrel_norm, pubcomp_norm}
-use Rattle.mqtt5_subs.specs.Norms.{subscribe_norm, suback_norm, unsubscribe_norm, unsuback_norm}
+use Rattle.mqtt5_publish.specs.Norms.{publish_norm, puback_norm, pubrec_norm, pubrel_norm, pubcomp_norm}
+use Rattle.mqtt5_subscribe.specs.Norms.{subscribe_norm, suback_norm, unsubscribe_norm, unsuback_norm}
 use Rattle.mqtt5_connect.specs.Norms.{connect_norm, will_norm, login_norm}
-use Rattle.mqtt5_link.specs.Norms.{connack_norm, disconnect_norm, auth_norm}
+use Rattle.mqtt5_control.specs.Norms.{connack_norm, disconnect_norm, auth_norm}
 use Rattle.mqtt5_codec.specs.declared.packet.Packet.{Packet}
 use Rattle.mqtt5_codec.specs.declared.packet.Packet.TheVariants as packets
 use Rattle.mqtt5_codec.specs.Packets.{packet_row, written_packet, packet_writing, IsFrameOf}

@@ -5,20 +5,20 @@ use Rattle.mqtt5_base.specs.declared.error.Error.TheVariants.{OutgoingPacketTooL
 use Rattle.mqtt5_base.specs.Grammar.{Row, Content}
 use Rattle.mqtt5_base.specs.Frames.{Rows, IsWhole, IsFrame, FrameFault}
 use Rattle.mqtt5_base.specs.Layout.{WrittenPacket, plainly, content_of_packet, layout, writing}
-use Rattle.mqtt5_flow.specs.Rows.{publish_row, puback_row, pubrel_row, ping_row}
-use Rattle.mqtt5_flow.specs.Publishes.{publish_packet}
-use Rattle.mqtt5_flow.specs.Acks.{puback_packet, pubrec_packet, pubrel_packet, pubcomp_packet}
-use Rattle.mqtt5_subs.specs.Rows.{subscribe_row, suback_row, unsubscribe_row, unsuback_row}
-use Rattle.mqtt5_subs.specs.Subscribes.{subscribe_packet}
-use Rattle.mqtt5_subs.specs.SubAcks.{suback_packet, suback_settled}
-use Rattle.mqtt5_subs.specs.Unsubscribes.{unsubscribe_packet}
-use Rattle.mqtt5_subs.specs.UnsubAcks.{unsuback_packet}
+use Rattle.mqtt5_publish.specs.Rows.{publish_row, puback_row, pubrel_row, ping_row}
+use Rattle.mqtt5_publish.specs.Publishes.{publish_packet}
+use Rattle.mqtt5_publish.specs.Acks.{puback_packet, pubrec_packet, pubrel_packet, pubcomp_packet}
+use Rattle.mqtt5_subscribe.specs.Rows.{subscribe_row, suback_row, unsubscribe_row, unsuback_row}
+use Rattle.mqtt5_subscribe.specs.Subscribes.{subscribe_packet}
+use Rattle.mqtt5_subscribe.specs.SubAcks.{suback_packet, suback_settled}
+use Rattle.mqtt5_subscribe.specs.Unsubscribes.{unsubscribe_packet}
+use Rattle.mqtt5_subscribe.specs.UnsubAcks.{unsuback_packet}
 use Rattle.mqtt5_connect.specs.Rows.{connect_row}
-use Rattle.mqtt5_link.specs.Rows.{connack_row, disconnect_row, auth_row}
+use Rattle.mqtt5_control.specs.Rows.{connack_row, disconnect_row, auth_row}
 use Rattle.mqtt5_connect.specs.Connects.{connect_packet}
-use Rattle.mqtt5_link.specs.ConnAcks.{connack_packet}
-use Rattle.mqtt5_link.specs.Disconnects.{disconnect_packet}
-use Rattle.mqtt5_link.specs.Auths.{auth_packet}
+use Rattle.mqtt5_control.specs.ConnAcks.{connack_packet}
+use Rattle.mqtt5_control.specs.Disconnects.{disconnect_packet}
+use Rattle.mqtt5_control.specs.Auths.{auth_packet}
 use Rattle.mqtt5_codec.specs.declared.packet.Packet.{Packet}
 use Rattle.mqtt5_codec.specs.declared.packet.Packet.TheVariants as packets
 

@@ -3,16 +3,16 @@ use Rattle.std.specs.Prelude.{ℕ, ◌/◌, ◌==◌, List, [], ◌∷◌, Resul
 use Rattle.mqtt5_base.specs.declared.error.Error.{Error}
 use Rattle.mqtt5_base.specs.Grammar.{Content}
 use Rattle.mqtt5_base.specs.Reading.{◌>>=◌, frame_at}
-use Rattle.mqtt5_flow.specs.FromValues.{publish_of}
-use Rattle.mqtt5_flow.specs.FromValues.{puback_of, pubrec_of, pubrel_of, pubcomp_of}
-use Rattle.mqtt5_subs.specs.FromValues.{subscribe_of}
-use Rattle.mqtt5_subs.specs.FromValues.{suback_of}
-use Rattle.mqtt5_subs.specs.FromValues.{unsubscribe_of}
-use Rattle.mqtt5_subs.specs.FromValues.{unsuback_of}
+use Rattle.mqtt5_publish.specs.FromValues.{publish_of}
+use Rattle.mqtt5_publish.specs.FromValues.{puback_of, pubrec_of, pubrel_of, pubcomp_of}
+use Rattle.mqtt5_subscribe.specs.FromValues.{subscribe_of}
+use Rattle.mqtt5_subscribe.specs.FromValues.{suback_of}
+use Rattle.mqtt5_subscribe.specs.FromValues.{unsubscribe_of}
+use Rattle.mqtt5_subscribe.specs.FromValues.{unsuback_of}
 use Rattle.mqtt5_connect.specs.FromValues.{connect_of, connect_will, connect_login}
-use Rattle.mqtt5_link.specs.FromValues.{connack_of}
-use Rattle.mqtt5_link.specs.FromValues.{disconnect_of}
-use Rattle.mqtt5_link.specs.FromValues.{auth_of}
+use Rattle.mqtt5_control.specs.FromValues.{connack_of}
+use Rattle.mqtt5_control.specs.FromValues.{disconnect_of}
+use Rattle.mqtt5_control.specs.FromValues.{auth_of}
 use Rattle.mqtt5_codec.specs.declared.packet.Packet.{Packet}
 use Rattle.mqtt5_codec.specs.declared.packet.Packet.TheVariants as packets
 use Rattle.mqtt5_codec.specs.Packets.{packet_rows}

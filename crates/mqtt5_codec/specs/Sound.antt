@@ -2,10 +2,10 @@
 use Rattle.std.proofs.Common.{ap, sym}
 use mathlib.Core.Bool.{true≢false}
 use Rattle.mqtt5_base.specs.Sound.{Sound, both, number_sound, option_sound}
-use Rattle.mqtt5_flow.specs.Sound.{publish_sound, puback_sound, pubrec_sound, pubrel_sound, pubcomp_sound, pingreq_sound, pingresp_sound}
-use Rattle.mqtt5_subs.specs.Sound.{subscribe_sound, suback_sound, unsubscribe_sound, unsuback_sound}
+use Rattle.mqtt5_publish.specs.Sound.{publish_sound, puback_sound, pubrec_sound, pubrel_sound, pubcomp_sound, pingreq_sound, pingresp_sound}
+use Rattle.mqtt5_subscribe.specs.Sound.{subscribe_sound, suback_sound, unsubscribe_sound, unsuback_sound}
 use Rattle.mqtt5_connect.specs.Sound.{connect_sound, will_sound, login_sound}
-use Rattle.mqtt5_link.specs.Sound.{connack_sound, disconnect_sound, auth_sound}
+use Rattle.mqtt5_control.specs.Sound.{connack_sound, disconnect_sound, auth_sound}
 use Rattle.mqtt5_codec.specs.declared.packet.Packet.TheVariants as packets
 use Rattle.mqtt5_codec.specs.contracts.packet.PacketPartialEq.TheImpl as packet
 use Rattle.mqtt5_codec.specs.contracts.codec.CodecPartialEq.TheImpl as codec

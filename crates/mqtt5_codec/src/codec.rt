@@ -2,7 +2,7 @@
 
 ghost use Rattle.std.specs.Prelude.{◌≡◌, ◌<◌, drop, length, IfOk, IfSome};
 ghost use Rattle.std.specs.Bool.{Decides};
-ghost use Rattle.mqtt5_base.specs.Front.{IsMore};
+ghost use Rattle.mqtt5_base.specs.Front.{NeedsMore};
 ghost use Rattle.mqtt5_base.specs.FrontAt.{front};
 ghost use Rattle.mqtt5_base.specs.Headers.{IsHeader};
 ghost use Rattle.mqtt5_base.specs.Puts.{Writes};
@@ -39,7 +39,7 @@ impl Codec {
 
     /// Whether more bytes are needed: no frame is whole yet, and none is refused. Takes no memory.
     pub fn needs_more(&self, input: &BytesMut) -> bool
-        ensures { Decides result (IsMore (front self.now.max_incoming_size input.now.items)) }
+        ensures { Decides result (NeedsMore (front self.now.max_incoming_size input.now.items)) }
     {
         match check(input.as_slice(), self.max_incoming_size) {
             Err(Error::InsufficientBytes(_)) => true,
@@ -52,9 +52,11 @@ impl Codec {
     /// E19.
     #[inline(always)]
     pub fn decode(&self, alloc: Global, stream: &mut BytesMut) -> Result<Option<Packet>, Error>
-        ensures decodes { Decodes result self.now.max_incoming_size stream.old.items stream.new.items }
+        ensures decodes { Decodes result self.now.max_incoming_size stream.old.items
+            stream.new.items }
         ensures reserves { Reserves result stream.old stream.new }
-        ensures shorter { IfOk result (λ m. IfSome m (λ _. length stream.new.items < length stream.old.items)) }
+        ensures shorter { IfOk result
+            (λ m. IfSome m (λ _. length stream.new.items < length stream.old.items)) }
     {
         let header = match check(stream.as_slice(), self.max_incoming_size) {
             Ok(header) => header,
@@ -68,7 +70,8 @@ impl Codec {
     /// Appends the packet's frame. E20, E11, E9, E10, E16, E1 or E21, as of `Packet::write` under the
     /// outgoing limit; the buffer is then unchanged.
     pub fn encode(&self, item: Packet, buffer: &mut BytesMut) -> Result<(), Error>
-        ensures { Writes (λ _. tt) (writing_under self.now.max_outgoing_size item) result buffer.old.items buffer.new.items }
+        ensures { Writes (λ _. tt) (writing_under self.now.max_outgoing_size item) result
+            buffer.old.items buffer.new.items }
     {
         let written = self.write(&item, buffer);
         drop(item);
@@ -77,7 +80,8 @@ impl Codec {
 
     /// The same of a packet that stays the caller's.
     pub fn write(&self, packet: &Packet, buffer: &mut BytesMut) -> Result<(), Error>
-        ensures { Writes (λ _. tt) (writing_under self.now.max_outgoing_size packet.now) result buffer.old.items buffer.new.items }
+        ensures { Writes (λ _. tt) (writing_under self.now.max_outgoing_size packet.now) result
+            buffer.old.items buffer.new.items }
     {
         packet.write(buffer, self.max_outgoing_size)?;
         Ok(())

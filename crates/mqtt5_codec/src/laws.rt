@@ -8,9 +8,9 @@ ghost use Rattle.mqtt5_codec.specs.Norms.{IsReadBack};
 use crate::packet::Packet;
 use mqtt5_base::block_known;
 use mqtt5_connect::{Connect, LastWill, Login};
-use mqtt5_flow::{PubAck, PubComp, PubRec, PubRel, Publish};
-use mqtt5_link::{Auth, ConnAck, Disconnect};
-use mqtt5_subs::{SubAck, Subscribe, UnsubAck, Unsubscribe};
+use mqtt5_control::{Auth, ConnAck, Disconnect};
+use mqtt5_publish::{PubAck, PubComp, PubRec, PubRel, Publish};
+use mqtt5_subscribe::{SubAck, Subscribe, UnsubAck, Unsubscribe};
 
 /// Says of a will's properties what the types of their fields do.
 fn will_known(will: &Option<LastWill>)

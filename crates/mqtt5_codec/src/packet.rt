@@ -4,9 +4,9 @@ use crate::codec::Codec;
 use bytes::BytesMut;
 use mqtt5_base::{Error, check, frame_size};
 use mqtt5_connect::{Connect, LastWill, Login};
-use mqtt5_flow::{PingReq, PingResp, PubAck, PubComp, PubRec, PubRel, Publish};
-use mqtt5_link::{Auth, ConnAck, Disconnect};
-use mqtt5_subs::{SubAck, Subscribe, UnsubAck, Unsubscribe};
+use mqtt5_control::{Auth, ConnAck, Disconnect};
+use mqtt5_publish::{PingReq, PingResp, PubAck, PubComp, PubRec, PubRel, Publish};
+use mqtt5_subscribe::{SubAck, Subscribe, UnsubAck, Unsubscribe};
 use std::alloc::Global;
 
 /// A packet: a Connect with its will and its login.
@@ -131,7 +131,8 @@ impl Packet {
     /// Subscribe, E16 of a SubAck or UnsubAck, or E1 of a ConnAck; E21. The buffer is then unchanged.
     #[inline(always)]
     pub fn write(&self, buffer: &mut BytesMut, max_size: Option<u32>) -> Result<usize, Error>
-        ensures { Writes length (writing_under max_size self.now) result buffer.old.items buffer.new.items }
+        ensures { Writes length (writing_under max_size self.now) result buffer.old.items
+            buffer.new.items }
     {
         if let Some(max) = max_size {
             let size = self.size();

@@ -9,14 +9,15 @@ use crate::packet::Packet;
 use bytes::Bytes;
 use mqtt5_base::{Error, FixedHeader};
 use mqtt5_connect::Connect;
-use mqtt5_flow::{PingReq, PingResp, PubAck, PubComp, PubRec, PubRel, Publish};
-use mqtt5_link::{Auth, ConnAck, Disconnect};
-use mqtt5_subs::{SubAck, Subscribe, UnsubAck, Unsubscribe};
+use mqtt5_control::{Auth, ConnAck, Disconnect};
+use mqtt5_publish::{PingReq, PingResp, PubAck, PubComp, PubRec, PubRel, Publish};
+use mqtt5_subscribe::{SubAck, Subscribe, UnsubAck, Unsubscribe};
 use std::alloc::Global;
 
 /// E13 of a frame without a body.
 fn needs_body(header: FixedHeader) -> Result<(), Error>
-    ensures { MatchResult result (λ _. 0 < header.remaining_len) (λ e. (header.remaining_len ≡ 0) × (e ≡ Error.PayloadRequired)) }
+    ensures { MatchResult result (λ _. 0 < header.remaining_len)
+        (λ e. (header.remaining_len ≡ 0) × (e ≡ Error.PayloadRequired)) }
 {
     if header.remaining_len == 0 {
         return Err(Error::PayloadRequired);

@@ -64,7 +64,18 @@ impl Clone for ConnectProperties {
 impl ConnectProperties {
     /// The set without values. Takes no memory.
     pub fn new(alloc: Global) -> ConnectProperties
-        ensures { result ≡ record { session_expiry_interval = None; receive_maximum = None; max_packet_size = None; topic_alias_max = None; request_response_info = None; request_problem_info = None; user_properties = []; authentication_method = None; authentication_data = None } }
+        ensures { result
+            ≡ record {
+              session_expiry_interval = None;
+              receive_maximum = None;
+              max_packet_size = None;
+              topic_alias_max = None;
+              request_response_info = None;
+              request_problem_info = None;
+              user_properties = [];
+              authentication_method = None;
+              authentication_data = None;
+            } }
     {
         ConnectProperties {
             session_expiry_interval: None,
@@ -82,8 +93,10 @@ impl ConnectProperties {
     /// Appends the first six, which are numbers.
     fn put_numbers(&self, out: &mut BytesMut)
         requires fits { items_fit connect_table (connect_found self.now) ≡ true }
-        requires room { length (items_bytes (take 6 connect_table) (take 6 (connect_found self.now))) ≤ out.old.spare }
-        ensures { Puts out.old out.new (items_bytes (take 6 connect_table) (take 6 (connect_found self.now))) }
+        requires room { length (items_bytes (take 6 connect_table)
+            (take 6 (connect_found self.now))) ≤ out.old.spare }
+        ensures { Puts out.old out.new
+            (items_bytes (take 6 connect_table) (take 6 (connect_found self.now))) }
     {
         self.session_expiry_interval.put_values(17, out);
         self.receive_maximum.put_values(33, out);
@@ -205,7 +218,8 @@ fn read_parts(
     flags: u8,
     stream: &mut Bytes,
 ) -> Result<(Option<LastWill>, Option<Login>), Error>
-    ensures { Gives (λ p. (map group_of (will_group p.0 ∷ login_group p.1 ∷ []), stream.new)) result (groups_at flags stream.old) }
+    ensures { Gives (λ p. (map group_of (will_group p.0 ∷ login_group p.1 ∷ []), stream.new)) result
+        (groups_at flags stream.old) }
 {
     let will = LastWill::read_part(alloc, flags, stream)?;
     let login = Login::read_part(alloc, flags, stream)?;
@@ -226,7 +240,8 @@ impl Connect {
         flags: u8,
         mut stream: Bytes,
     ) -> Result<(Connect, Option<LastWill>, Option<Login>), Error>
-        ensures { Gives (λ p. content_of_packet (connect_packet p.0 p.1 p.2)) result (after_flags flags stream) }
+        ensures { Gives (λ p. content_of_packet (connect_packet p.0 p.1 p.2)) result
+            (after_flags flags stream) }
     {
         let connect = read_fields(alloc, flags, &mut stream)?;
         let (will, login) = read_parts(alloc, flags, &mut stream)?;
@@ -240,7 +255,9 @@ impl Connect {
         bytes: Bytes,
     ) -> Result<(Connect, Option<LastWill>, Option<Login>), Error>
         requires { length bytes ≡ header.fixed_header_len + header.remaining_len }
-        ensures { Gives (λ p. content_of_packet (connect_packet p.0 p.1 p.2)) result (values_in connect_row header.byte1 header.remaining_len (drop header.fixed_header_len bytes)) }
+        ensures { Gives (λ p. content_of_packet (connect_packet p.0 p.1 p.2)) result
+            (values_in connect_row header.byte1 header.remaining_len
+            (drop header.fixed_header_len bytes)) }
     {
         let mut stream = bytes;
         stream.advance(header.fixed_header_len);
@@ -266,8 +283,11 @@ impl Connect {
         bytes: Bytes,
     ) -> Result<(Connect, Option<LastWill>, Option<Login>), Error>
         requires { length bytes ≡ header.fixed_header_len + header.remaining_len }
-        ensures row { ReadsRow (λ p. content_of_packet (connect_packet p.0 p.1 p.2)) connect_row header bytes result }
-        ensures values { Gives (λ p. content_of_packet (connect_packet p.0 p.1 p.2)) result (values_in connect_row header.byte1 header.remaining_len (drop header.fixed_header_len bytes)) }
+        ensures row { ReadsRow (λ p. content_of_packet (connect_packet p.0 p.1 p.2)) connect_row
+            header bytes result }
+        ensures values { Gives (λ p. content_of_packet (connect_packet p.0 p.1 p.2)) result
+            (values_in connect_row header.byte1 header.remaining_len
+            (drop header.fixed_header_len bytes)) }
     {
         Connect::read_values(alloc, header, bytes)
     }
@@ -287,7 +307,9 @@ impl Connect {
     }
 
     fn head_len(&self) -> usize
-        ensures { result ≡ min (length (written_bytes connect_row.steps 16 (connect_head 0 self.now))) usize.MAX }
+        ensures { result
+            ≡ min (length (written_bytes connect_row.steps 16 (connect_head 0 self.now)))
+            usize.MAX }
     {
         block_len(&self.properties)
             .saturating_add(self.client_id.field_len())
@@ -297,8 +319,10 @@ impl Connect {
     /// Appends what stands before the will.
     fn put_head(&self, flags: u8, out: &mut BytesMut)
         requires fits { written_fits connect_row.steps (connect_head 0 self.now) ≡ true }
-        requires room { length (written_bytes connect_row.steps 16 (connect_head flags self.now)) ≤ out.old.spare }
-        ensures { Puts out.old out.new (written_bytes connect_row.steps 16 (connect_head flags self.now)) }
+        requires room { length (written_bytes connect_row.steps 16 (connect_head flags self.now))
+            ≤ out.old.spare }
+        ensures { Puts out.old out.new
+            (written_bytes connect_row.steps 16 (connect_head flags self.now)) }
     {
         out.extend_reserved(&[0, 4, b'M', b'Q', b'T', b'T', 5]);
         flags.put_field(out);
@@ -308,7 +332,9 @@ impl Connect {
     }
 
     fn body_len(&self, will: &Option<LastWill>, login: &Option<Login>) -> usize
-        ensures { result ≡ min (length (body_bytes connect_row (connect_packet self.now will.now login.now))) usize.MAX }
+        ensures { result
+            ≡ min (length (body_bytes connect_row (connect_packet self.now will.now login.now)))
+            usize.MAX }
     {
         let flags = self.flags(will, login);
         self.head_len()
@@ -318,9 +344,12 @@ impl Connect {
 
     fn put_body(&self, will: &Option<LastWill>, login: &Option<Login>, out: &mut BytesMut)
         requires head { written_fits connect_row.steps (connect_head 0 self.now) ≡ true }
-        requires parts { parts_fit connect_parts (will_group will.now ∷ login_group login.now ∷ []) ≡ true }
-        requires room { length (body_bytes connect_row (connect_packet self.now will.now login.now)) ≤ out.old.spare }
-        ensures { Puts out.old out.new (body_bytes connect_row (connect_packet self.now will.now login.now)) }
+        requires parts { parts_fit connect_parts (will_group will.now ∷ login_group login.now ∷ [])
+            ≡ true }
+        requires room { length (body_bytes connect_row (connect_packet self.now will.now login.now))
+            ≤ out.old.spare }
+        ensures { Puts out.old out.new
+            (body_bytes connect_row (connect_packet self.now will.now login.now)) }
     {
         let flags = self.flags(will, login);
         self.put_head(flags, out);
@@ -338,7 +367,8 @@ impl Connect {
         login: &Option<Login>,
         buffer: &mut BytesMut,
     ) -> Result<usize, Error>
-        ensures { Writes length (writing connect_row (connect_packet self.now will.now login.now)) result buffer.old.items buffer.new.items }
+        ensures { Writes length (writing connect_row (connect_packet self.now will.now login.now))
+            result buffer.old.items buffer.new.items }
     {
         if !self.head_fits() || !parts_fit(will, login) {
             return Err(Error::PayloadTooLong);
@@ -354,7 +384,9 @@ impl Connect {
 
     /// How many bytes it takes, or the greatest `usize` where they are more. Takes no memory.
     pub fn size(&self, will: &Option<LastWill>, login: &Option<Login>) -> usize
-        ensures { result ≡ min (length (layout connect_row (connect_packet self.now will.now login.now))) usize.MAX }
+        ensures { result
+            ≡ min (length (layout connect_row (connect_packet self.now will.now login.now)))
+            usize.MAX }
     {
         frame_size(self.body_len(will, login))
     }

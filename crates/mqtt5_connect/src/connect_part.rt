@@ -35,18 +35,22 @@ pub(crate) trait ConnectPart {
 
     /// How many bytes it takes under these flags, or the greatest `usize` where they are more.
     fn part_len(&self, flags: u8) -> usize
-        ensures { result ≡ min (length (written_bytes steps flags (just (values self.now)))) usize.MAX };
+        ensures { result ≡ min (length (written_bytes steps flags (just (values self.now))))
+            usize.MAX };
 
     /// Appends it, under these flags.
     fn put_part(&self, flags: u8, out: &mut BytesMut)
         requires fits { written_fits steps (just (values self.now)) ≡ true }
-        requires room { length (written_bytes steps flags (just (values self.now))) ≤ out.old.spare }
+        requires room { length (written_bytes steps flags (just (values self.now)))
+            ≤ out.old.spare }
         ensures { Puts out.old out.new (written_bytes steps flags (just (values self.now))) };
 }
 
 /// Appends a part and answers its flags. E11, E21; then the buffer is unchanged.
 pub(crate) fn write_part<P: ConnectPart>(part: &P, buffer: &mut BytesMut) -> Result<u8, Error>
-    ensures { Writes (λ _. P.own_flags part.now) (steps_writing P.steps (P.own_flags part.now) (just (P.values part.now))) result buffer.old.items buffer.new.items }
+    ensures { Writes (λ _. P.own_flags part.now)
+        (steps_writing P.steps (P.own_flags part.now) (just (P.values part.now))) result
+        buffer.old.items buffer.new.items }
 {
     if !part.part_fits() {
         return Err(Error::PayloadTooLong);
@@ -80,7 +84,9 @@ pub(crate) fn fits<P: ConnectPart>(part: &Option<P>) -> bool
 
 /// How many bytes such a part takes under these flags, or the greatest `usize` where they are more.
 pub(crate) fn len_under<P: ConnectPart>(flags: u8, part: &Option<P>) -> usize
-    ensures { result ≡ min (length (optional_bytes P.steps flags (option_map (λ p. just (P.values p)) part.now))) usize.MAX }
+    ensures { result
+        ≡ min (length (optional_bytes P.steps flags (option_map (λ p. just (P.values p)) part.now)))
+        usize.MAX }
 {
     match part {
         Some(part) => part.part_len(flags),
@@ -91,8 +97,10 @@ pub(crate) fn len_under<P: ConnectPart>(flags: u8, part: &Option<P>) -> usize
 /// Appends such a part, under these flags.
 pub(crate) fn put_under<P: ConnectPart>(flags: u8, part: &Option<P>, out: &mut BytesMut)
     requires fits { optional_fits P.steps (option_map (λ p. just (P.values p)) part.now) ≡ true }
-    requires room { length (optional_bytes P.steps flags (option_map (λ p. just (P.values p)) part.now)) ≤ out.old.spare }
-    ensures { Puts out.old out.new (optional_bytes P.steps flags (option_map (λ p. just (P.values p)) part.now)) }
+    requires room { length (optional_bytes P.steps flags
+        (option_map (λ p. just (P.values p)) part.now)) ≤ out.old.spare }
+    ensures { Puts out.old out.new
+        (optional_bytes P.steps flags (option_map (λ p. just (P.values p)) part.now)) }
 {
     if let Some(part) = part {
         part.put_part(flags, out);

@@ -26,7 +26,8 @@ pub struct Login {
 
 /// A text, where it is there; else an empty one.
 fn read_optional(alloc: Global, is_there: bool, bytes: &mut Bytes) -> Result<Text, Error>
-    ensures { Gives (λ t. (plain (content t.bytes), bytes.new)) result (optional_at is_there (one text) (plain (content [])) bytes.old) }
+    ensures { Gives (λ t. (plain (content t.bytes), bytes.new)) result
+        (optional_at is_there (one text) (plain (content [])) bytes.old) }
 {
     if is_there {
         read_text(alloc, bytes)
@@ -53,7 +54,8 @@ impl Login {
         flags: u8,
         bytes: &mut Bytes,
     ) -> Result<Option<Login>, Error>
-        ensures read { Gives (λ l. (group_of (login_group l), bytes.new)) result (part_at (login_part 0) (under_flags flags) bytes.old) }
+        ensures read { Gives (λ l. (group_of (login_group l), bytes.new)) result
+            (part_at (login_part 0) (under_flags flags) bytes.old) }
         ensures kept { OnErr result (bytes.new ≡ bytes.old) }
     {
         let mut rest = bytes.clone()?;
@@ -71,7 +73,8 @@ impl Login {
     /// E21. After a refusal the bytes are unchanged.
     #[tactic(auto, using(mqtt5_base::proofs::AnswersLemmas::part_said))]
     pub fn read(alloc: Global, flags: u8, bytes: &mut Bytes) -> Result<Option<Login>, Error>
-        ensures read { ReadsPart (λ l. (group_of (login_group l), bytes.new)) (login_part 0) (under_flags flags) bytes.old result }
+        ensures read { ReadsPart (λ l. (group_of (login_group l), bytes.new)) (login_part 0)
+            (under_flags flags) bytes.old result }
         ensures kept { OnErr result (bytes.new ≡ bytes.old) }
     {
         Login::read_part(alloc, flags, bytes)
@@ -81,7 +84,9 @@ impl Login {
     /// flags: 0x80 for a user name, 0x40 for a password. E11 where one is over 65,535 bytes, E21; then
     /// the buffer is unchanged.
     pub fn write(&self, buffer: &mut BytesMut) -> Result<u8, Error>
-        ensures { Writes (λ _. login_flags self.now) (steps_writing login_steps (login_flags self.now) (just (login_values self.now))) result buffer.old.items buffer.new.items }
+        ensures { Writes (λ _. login_flags self.now)
+            (steps_writing login_steps (login_flags self.now) (just (login_values self.now))) result
+            buffer.old.items buffer.new.items }
     {
         write_part(self, buffer)
     }

@@ -55,7 +55,16 @@ impl Clone for LastWillProperties {
 impl LastWillProperties {
     /// The set without values. Takes no memory.
     pub fn new(alloc: Global) -> LastWillProperties
-        ensures { result ≡ record { delay_interval = None; payload_format_indicator = None; message_expiry_interval = None; content_type = None; response_topic = None; correlation_data = None; user_properties = [] } }
+        ensures { result
+            ≡ record {
+              delay_interval = None;
+              payload_format_indicator = None;
+              message_expiry_interval = None;
+              content_type = None;
+              response_topic = None;
+              correlation_data = None;
+              user_properties = [];
+            } }
     {
         LastWillProperties {
             delay_interval: None,
@@ -191,7 +200,14 @@ impl LastWill {
         retain: bool,
         properties: Option<LastWillProperties>,
     ) -> Result<LastWill, Error>
-        ensures { Answers result (record { topic = topic.now; message = payload.items; qos = qos; retain = retain; properties = properties }) }
+        ensures { Answers result
+            (record {
+              topic = topic.now;
+              message = payload.items;
+              qos = qos;
+              retain = retain;
+              properties = properties;
+            }) }
     {
         Ok(LastWill {
             topic: Bytes::copy_from_slice(alloc, topic.as_bytes())?,
@@ -208,7 +224,8 @@ impl LastWill {
         flags: u8,
         bytes: &mut Bytes,
     ) -> Result<Option<LastWill>, Error>
-        ensures read { Gives (λ w. (group_of (will_group w), bytes.new)) result (part_at (will_part 0) (under_flags flags) bytes.old) }
+        ensures read { Gives (λ w. (group_of (will_group w), bytes.new)) result
+            (part_at (will_part 0) (under_flags flags) bytes.old) }
         ensures kept { OnErr result (bytes.new ≡ bytes.old) }
     {
         if flags / 4 % 2 == 0 {
@@ -227,7 +244,8 @@ impl LastWill {
     /// other flags of a will without it, E7 of a QoS of 3, E14 to E18 of a field that can't be read;
     /// E21. After a refusal the bytes are unchanged.
     pub fn read(alloc: Global, flags: u8, bytes: &mut Bytes) -> Result<Option<LastWill>, Error>
-        ensures read { ReadsPart (λ w. (group_of (will_group w), bytes.new)) (will_part 0) (under_flags flags) bytes.old result }
+        ensures read { ReadsPart (λ w. (group_of (will_group w), bytes.new)) (will_part 0)
+            (under_flags flags) bytes.old result }
         ensures kept { OnErr result (bytes.new ≡ bytes.old) }
     {
         LastWill::read_part(alloc, flags, bytes)
@@ -237,7 +255,9 @@ impl LastWill {
     /// QoS in bits 3 and 4, and 0x20 for retain. E11 where a text or bytes are over 65,535 bytes, or the
     /// properties over 268,435,455; E21. The buffer is then unchanged.
     pub fn write(&self, buffer: &mut BytesMut) -> Result<u8, Error>
-        ensures { Writes (λ _. will_flags self.now) (steps_writing will_steps (will_flags self.now) (just (will_values self.now))) result buffer.old.items buffer.new.items }
+        ensures { Writes (λ _. will_flags self.now)
+            (steps_writing will_steps (will_flags self.now) (just (will_values self.now))) result
+            buffer.old.items buffer.new.items }
     {
         write_part(self, buffer)
     }

@@ -7,16 +7,16 @@ use Rattle.mqtt5_base.proofs.FrontFound.{front_found}
 use Rattle.mqtt5_base.proofs.FrontLemmas.{front_is}
 use Rattle.mqtt5_codec.specs.declared.codec.Codec.{Codec}
 use Rattle.mqtt5_codec.specs.PacketsIn.{packet_in}
-use Rattle.mqtt5_held.specs.Errors.{state_error}
+use Rattle.mqtt5_inflight.specs.Errors.{state_error}
 use Rattle.mqtt5_session.specs.Session.{Session}
-use Rattle.mqtt5_drive.specs.Course.{Course, Faults}
-use Rattle.mqtt5_drive.specs.Run.{Turn, bytes_of, received, looked, run}
+use Rattle.mqtt5_drive.specs.Trace.{Trace, Faults}
+use Rattle.mqtt5_drive.specs.Run.{Turn, bytes_of, on_frame, on_front, run}
 
 -- what comes of a stream whose front is this
-abbrev pub outcome : Codec → ℕ → List Turn → Session → List ℕ → Front → Course
+abbrev pub outcome : Codec → ℕ → List Turn → Session → List ℕ → Front → Trace
 outcome codec at rest s stream (Bad e) = Faults (state_error e)
 outcome codec at rest s stream (More n) = run codec rest s stream
-outcome codec at rest s stream (Whole frame left) = received codec at s (packet_in frame) (λ t. run codec (bytes_of at left ++ rest) t [])
+outcome codec at rest s stream (Whole frame left) = on_frame codec at s (packet_in frame) (λ t. run codec (bytes_of at left ++ rest) t [])
 
 -- from held on, these bytes come to what the front of all of them says
 abbrev Settles : Codec → ℕ → List Turn → Session → List ℕ → List ℕ → Type 0
@@ -27,7 +27,7 @@ Settles codec at rest s bytes held =
 one : (codec : Codec) (at : ℕ) (rest : List Turn) (s : Session) (b : ℕ) (bytes held : List ℕ) (n : ℕ) → front codec.max_incoming_size held ≡ More n
     → ((m : ℕ) → front codec.max_incoming_size (held ++ b ∷ []) ≡ More m → Settles codec at rest s bytes (held ++ b ∷ []))
     → (f : Front) → front codec.max_incoming_size (held ++ b ∷ []) ≡ f
-    → looked codec at s (held ++ b ∷ []) f (λ t left. run codec (bytes_of at bytes ++ rest) t left) ≡ outcome codec at rest s ((held ++ b ∷ []) ++ bytes) (front codec.max_incoming_size ((held ++ b ∷ []) ++ bytes))
+    → on_front codec at s (held ++ b ∷ []) f (λ t left. run codec (bytes_of at bytes ++ rest) t left) ≡ outcome codec at rest s ((held ++ b ∷ []) ++ bytes) (front codec.max_incoming_size ((held ++ b ∷ []) ++ bytes))
 one codec at rest s b bytes held n h go (Bad e) is = rw ((front_is codec.max_incoming_size).bad (held ++ b ∷ []) bytes e is) refl
 one codec at rest s b bytes held n h go (More m) is = go m is
 one codec at rest s b bytes held n h go (Whole frame left) is =

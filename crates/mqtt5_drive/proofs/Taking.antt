@@ -1,7 +1,7 @@
 -- What the codec and the session do with the front of a stream is what the run does.
 use Rattle.std.specs.Prelude.{OnOk, IfErr}
 use Rattle.std.proofs.Common.{◌≡◌, ℕ, List, [], ◌∷◌, ◌++◌, Some, None, Result, Ok, Err, refl, sym, ap, ◌∙◌, inl, inr}
-use Rattle.mqtt5_base.specs.Front.{Bad, More, Whole}
+use Rattle.mqtt5_base.specs.Front.{Bad, More, Whole, NeedsMore}
 use Rattle.mqtt5_base.specs.FrontAt.{front}
 use Rattle.mqtt5_base.specs.declared.error.Error.{Error}
 use Rattle.mqtt5_codec.specs.declared.codec.Codec.{Codec}
@@ -9,35 +9,35 @@ use Rattle.mqtt5_codec.specs.declared.packet.Packet.{Packet}
 use Rattle.mqtt5_codec.specs.Packets.{IsFrameOf}
 use Rattle.mqtt5_codec.proofs.CodecLemmas.{taken_packet, taken_fault}
 use Rattle.mqtt5_codec.specs.Codecs.{Decodes}
-use Rattle.mqtt5_held.specs.Errors.{state_error}
-use Rattle.mqtt5_held.specs.declared.error.StateError.{StateError}
-use Rattle.mqtt5_held.specs.declared.event.Request.{Request}
+use Rattle.mqtt5_inflight.specs.Errors.{state_error}
+use Rattle.mqtt5_inflight.specs.declared.error.StateError.{StateError}
+use Rattle.mqtt5_inflight.specs.declared.event.Request.{Request}
 use Rattle.mqtt5_session.specs.Session.{Session}
-use Rattle.mqtt5_session.specs.Requests.{out}
-use Rattle.mqtt5_session.specs.Packets.{inc}
+use Rattle.mqtt5_session.specs.Requests.{on_request}
+use Rattle.mqtt5_session.specs.Packets.{on_packet}
 use Rattle.mqtt5_drive.specs.Ways.{LeadsTo, Goes, Drained}
-use Rattle.mqtt5_drive.specs.Course.{Course, finish, Stops, Holds}
-use Rattle.mqtt5_drive.specs.Run.{Turn, Ask, bytes_of, stepped, received, run, IsMore}
+use Rattle.mqtt5_drive.specs.Trace.{Trace, finish, Stops, Holds}
+use Rattle.mqtt5_drive.specs.Run.{Turn, Ask, bytes_of, on_answer, on_frame, run}
 use Rattle.mqtt5_drive.proofs.Settles.{from_start, regroup}
 use Rattle.mqtt5_drive.proofs.Ways.{leads_same, leads_on, stops_on, passes_here}
 
 -- a whole frame with a packet is one step of the session
 pub took : (codec : Codec) (at : ℕ) (rest : List Turn) (s : Session) (stream frame left : List ℕ) (m : Packet) → front codec.max_incoming_size stream ≡ Whole frame left → IsFrameOf frame m
-    → run codec (bytes_of at stream ++ rest) s [] ≡ stepped codec (inc s m at) (λ t. run codec (bytes_of at left ++ rest) t [])
+    → run codec (bytes_of at stream ++ rest) s [] ≡ on_answer codec (on_packet s m at) (λ t. run codec (bytes_of at left ++ rest) t [])
 took codec at rest s stream frame left m whole is =
     from_start codec at rest s stream (Whole frame left) whole
-    ∙ ap (λ (x : Result Packet Error). received codec at s x (λ t. run codec (bytes_of at left ++ rest) t [])) (taken_packet codec.max_incoming_size stream frame left m whole is)
+    ∙ ap (λ (x : Result Packet Error). on_frame codec at s x (λ t. run codec (bytes_of at left ++ rest) t [])) (taken_packet codec.max_incoming_size stream frame left m whole is)
 
 pub takes : (codec : Codec) (at : ℕ) (s0 : Session) (o0 h0 : List ℕ) (s : Session) (o stream left : List ℕ) (p : Packet) (t : Session) (u : List ℕ)
     → Drained codec at s0 o0 h0 s o stream → Decodes (Ok (Some p)) codec.max_incoming_size stream left
-    → ((goes_on : Session → Course) → LeadsTo s o (stepped codec (inc s p at) goes_on) t u (goes_on t))
+    → ((goes_on : Session → Trace) → LeadsTo s o (on_answer codec (on_packet s p at) goes_on) t u (goes_on t))
     → Drained codec at s0 o0 h0 t u left
 takes codec at s0 o0 h0 s o stream left p t u drained decoded goes = λ rest.
     leads_on (drained rest) (leads_on (leads_same s o _ _ (took codec at rest s stream decoded.0 left p decoded.1 decoded.2)) (goes (λ t. run codec (bytes_of at left ++ rest) t [])))
 
 pub stops_at : (codec : Codec) (at : ℕ) (s0 : Session) (o0 h0 : List ℕ) (s : Session) (o stream left : List ℕ) (p : Packet) (e : StateError) (t : Session) (u : List ℕ)
     → Drained codec at s0 o0 h0 s o stream → Decodes (Ok (Some p)) codec.max_incoming_size stream left
-    → ((goes_on : Session → Course) → Stops e s o (stepped codec (inc s p at) goes_on) t u)
+    → ((goes_on : Session → Trace) → Stops e s o (on_answer codec (on_packet s p at) goes_on) t u)
     → (rest : List Turn) → Stops e s0 o0 (run codec (bytes_of at h0 ++ rest) s0 []) t u
 stops_at codec at s0 o0 h0 s o stream left p e t u drained decoded stops rest =
     stops_on e (drained rest) (stops_on e (leads_same s o _ _ (took codec at rest s stream decoded.0 left p decoded.1 decoded.2)) (stops (λ t. run codec (bytes_of at left ++ rest) t [])))
@@ -54,7 +54,7 @@ pub faults_at : (codec : Codec) (at : ℕ) (s : Session) (o stream left : List �
     → (rest : List Turn) → Stops (state_error e) s o (run codec (bytes_of at stream ++ rest) s []) s o
 faults_at codec at s o stream left e (inl (inl h)) rest =
     inr (ap (finish s o) (from_start codec at rest s stream (Whole h.0 left) h.1
-    ∙ ap (λ (x : Result Packet Error). received codec at s x (λ t. run codec (bytes_of at left ++ rest) t [])) (taken_fault codec.max_incoming_size stream h.0 left e h.1 h.2)))
+    ∙ ap (λ (x : Result Packet Error). on_frame codec at s x (λ t. run codec (bytes_of at left ++ rest) t [])) (taken_fault codec.max_incoming_size stream h.0 left e h.1 h.2)))
 faults_at codec at s o stream left e (inl (inr h)) rest = inl (ap state_error h.0, passes_here s o _)
 faults_at codec at s o stream left e (inr h) rest = inr (ap (finish s o) (from_start codec at rest s stream (Bad e) h.0))
 
@@ -65,33 +65,33 @@ ends_at codec at s0 o0 h0 s o stream left e drained decoded rest =
     stops_on (state_error e) (drained rest) (faults_at codec at s o stream left e decoded rest)
 
 -- a piece behind a stream that wants more
-pub extends : (codec : Codec) (at : ℕ) (rest : List Turn) (s : Session) (held bytes stream : List ℕ) → IsMore (front codec.max_incoming_size held) → stream ≡ held ++ bytes
+pub extends : (codec : Codec) (at : ℕ) (rest : List Turn) (s : Session) (held bytes stream : List ℕ) → NeedsMore (front codec.max_incoming_size held) → stream ≡ held ++ bytes
     → run codec (bytes_of at bytes ++ rest) s held ≡ run codec (bytes_of at stream ++ rest) s []
 extends codec at rest s held bytes stream more is = rw is (regroup codec at rest s bytes held more.0 more.1)
 
 -- a piece after which the stream still wants more is held
-pub holds : (codec : Codec) (at : ℕ) (rest : List Turn) (s : Session) (o held bytes stream : List ℕ) → IsMore (front codec.max_incoming_size held) → stream ≡ held ++ bytes
-    → IsMore (front codec.max_incoming_size stream) → LeadsTo s o (run codec (bytes_of at bytes ++ rest) s held) s o (run codec rest s stream)
+pub holds : (codec : Codec) (at : ℕ) (rest : List Turn) (s : Session) (o held bytes stream : List ℕ) → NeedsMore (front codec.max_incoming_size held) → stream ≡ held ++ bytes
+    → NeedsMore (front codec.max_incoming_size stream) → LeadsTo s o (run codec (bytes_of at bytes ++ rest) s held) s o (run codec rest s stream)
 holds codec at rest s o held bytes stream more is still =
     leads_same s o _ _ (extends codec at rest s held bytes stream more is ∙ from_start codec at rest s stream (More still.0) still.1)
 
 -- a request is one step of the session
 pub asks : (codec : Codec) (at : ℕ) (rest : List Turn) (s : Session) (held : List ℕ) (request : Request)
-    → run codec (Ask at request ∷ rest) s held ≡ stepped codec (out s request at) (λ t. run codec rest t held)
+    → run codec (Ask at request ∷ rest) s held ≡ on_answer codec (on_request s request at) (λ t. run codec rest t held)
 unfolding run
 asks codec at rest s held request = refl
 
 -- the end of the steps
-pub ended : (codec : Codec) (s : Session) (o : List ℕ) (c : Course) (t : Session) (u held : List ℕ) → LeadsTo s o c t u (run codec [] t held) → finish s o c ≡ record { session = t; output = u; ending = Holds held }
+pub ended : (codec : Codec) (s : Session) (o : List ℕ) (c : Trace) (t : Session) (u held : List ℕ) → LeadsTo s o c t u (run codec [] t held) → finish s o c ≡ record { session = t; output = u; ending = Holds held }
 unfolding run
 ended codec s o c t u held p = p.ends
 
-pub asked_ok : (r : Result Unit StateError) (codec : Codec) (at : ℕ) (s : Session) (o held : List ℕ) (request : Request) (t : Session) (u : List ℕ) → Goes r codec (out s request at) s o t u
+pub asked_ok : (r : Result Unit StateError) (codec : Codec) (at : ℕ) (s : Session) (o held : List ℕ) (request : Request) (t : Session) (u : List ℕ) → Goes r codec (on_request s request at) s o t u
     → OnOk r ((rest : List Turn) → LeadsTo s o (run codec (Ask at request ∷ rest) s held) t u (run codec rest t held))
 asked_ok (Ok x) codec at s o held request t u goes = λ rest. leads_on (leads_same s o _ _ (asks codec at rest s held request)) (goes (λ v. run codec rest v held))
 asked_ok (Err e) codec at s o held request t u goes = tt
 
-pub asked_err : (r : Result Unit StateError) (codec : Codec) (at : ℕ) (s : Session) (o held : List ℕ) (request : Request) (t : Session) (u : List ℕ) → Goes r codec (out s request at) s o t u
+pub asked_err : (r : Result Unit StateError) (codec : Codec) (at : ℕ) (s : Session) (o held : List ℕ) (request : Request) (t : Session) (u : List ℕ) → Goes r codec (on_request s request at) s o t u
     → IfErr r (λ e. (rest : List Turn) → Stops e s o (run codec (Ask at request ∷ rest) s held) t u)
 asked_err (Ok x) codec at s o held request t u goes = tt
 asked_err (Err e) codec at s o held request t u goes = λ rest. stops_on e (leads_same s o _ _ (asks codec at rest s held request)) (goes (λ v. run codec rest v held))

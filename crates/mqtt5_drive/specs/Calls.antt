@@ -6,10 +6,10 @@ use Rattle.mqtt5_base.specs.FrontAt.{front}
 use Rattle.mqtt5_codec.specs.declared.packet.Packet.{Packet}
 use Rattle.mqtt5_codec.specs.declared.codec.Codec.{Codec}
 use Rattle.mqtt5_codec.specs.PacketsIn.{packet_in}
-use Rattle.mqtt5_held.specs.declared.error.StateError.{StateError}
+use Rattle.mqtt5_inflight.specs.declared.error.StateError.{StateError}
 use Rattle.mqtt5_session.specs.Session.{Session}
-use Rattle.mqtt5_session.specs.Requests.{out}
-use Rattle.mqtt5_session.specs.Packets.{inc}
+use Rattle.mqtt5_session.specs.Requests.{on_request}
+use Rattle.mqtt5_session.specs.Packets.{on_packet}
 use Rattle.mqtt5_session.specs.Ledger.{Call, Hear}
 use Rattle.mqtt5_session.specs.Ledger as ledger
 use Rattle.mqtt5_drive.specs.Run.{Turn, Byte, Ask, reply_bytes}
@@ -26,7 +26,7 @@ where_answered codec (Err e) rest = []
 
 -- the packet of a whole frame goes to the session
 abbrev pub hearing : Codec → ℕ → Session → Result Packet Error → (Session → List Call) → List Call
-hearing codec at s (Ok p) goes_on = Hear p at ∷ where_answered codec (inc s p at).0 (goes_on (inc s p at).1)
+hearing codec at s (Ok p) goes_on = Hear p at ∷ where_answered codec (on_packet s p at).0 (goes_on (on_packet s p at).1)
 hearing codec at s (Err e) goes_on = []
 
 -- the front of the bytes held is looked at
@@ -41,4 +41,4 @@ calls_of codec [] s held = []
 calls_of codec (Byte at b ∷ rest) s held =
     looking codec at s (held ++ b ∷ []) (front codec.max_incoming_size (held ++ b ∷ [])) (λ t left. calls_of codec rest t left)
 calls_of codec (Ask at request ∷ rest) s held =
-    ledger.Ask request at ∷ where_answered codec (out s request at).0 (calls_of codec rest (out s request at).1 held)
+    ledger.Ask request at ∷ where_answered codec (on_request s request at).0 (calls_of codec rest (on_request s request at).1 held)

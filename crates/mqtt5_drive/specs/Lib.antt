@@ -1,4 +1,4 @@
-pub mod Course
+pub mod Trace
 pub mod Run
 pub mod Calls
 pub mod Ways

@@ -1,12 +1,12 @@
 -- The longest packet that the broker takes, as its ConnAck says (MQTT 5.0 section 3.2.2.3.6).
 use Rattle.std.specs.Prelude.{ℕ, List, [], ◌∷◌, Option, None, Some}
-use Rattle.mqtt5_link.specs.declared.connack.ConnectReturnCode.{ConnectReturnCode}
-use Rattle.mqtt5_link.specs.declared.connack.ConnectReturnCode.TheVariants as return_codes
-use Rattle.mqtt5_link.specs.declared.connack.ConnAckProperties.{ConnAckProperties}
+use Rattle.mqtt5_control.specs.declared.connack.ConnectReturnCode.{ConnectReturnCode}
+use Rattle.mqtt5_control.specs.declared.connack.ConnectReturnCode.TheVariants as return_codes
+use Rattle.mqtt5_control.specs.declared.connack.ConnAckProperties.{ConnAckProperties}
 use Rattle.mqtt5_codec.specs.declared.packet.Packet.TheVariants as packets
 use Rattle.mqtt5_codec.specs.declared.codec.Codec.{Codec}
-use Rattle.mqtt5_held.specs.declared.event.Event.{Event}
-use Rattle.mqtt5_held.specs.declared.event.Event.TheVariants as events
+use Rattle.mqtt5_inflight.specs.declared.event.Event.{Event}
+use Rattle.mqtt5_inflight.specs.declared.event.Event.TheVariants as events
 
 -- what the properties of a ConnAck say of it; where they don't, there is no limit
 abbrev pub size_in : Option ConnAckProperties → Option ℕ

@@ -8,16 +8,16 @@ use Rattle.mqtt5_codec.specs.declared.packet.Packet.{Packet}
 use Rattle.mqtt5_codec.specs.declared.codec.Codec.{Codec}
 use Rattle.mqtt5_codec.specs.Packets.{writing_under}
 use Rattle.mqtt5_codec.specs.PacketsIn.{packet_in}
-use Rattle.mqtt5_held.specs.Errors.{state_error}
-use Rattle.mqtt5_held.specs.declared.event.Request.{Request}
-use Rattle.mqtt5_held.specs.declared.error.StateError.{StateError}
+use Rattle.mqtt5_inflight.specs.Errors.{state_error}
+use Rattle.mqtt5_inflight.specs.declared.event.Request.{Request}
+use Rattle.mqtt5_inflight.specs.declared.error.StateError.{StateError}
 use Rattle.mqtt5_session.specs.Session.{Session, Answer}
-use Rattle.mqtt5_session.specs.Requests.{out}
-use Rattle.mqtt5_session.specs.Packets.{inc}
+use Rattle.mqtt5_session.specs.Requests.{on_request}
+use Rattle.mqtt5_session.specs.Packets.{on_packet}
 use Rattle.mqtt5_drive.specs.declared.run.Step.{Step}
 use Rattle.mqtt5_drive.specs.declared.run.Input.{Input}
 use Rattle.mqtt5_drive.specs.declared.run.Input.TheVariants as inputs
-use Rattle.mqtt5_drive.specs.Course.{Course, Rests, Faults, Moves}
+use Rattle.mqtt5_drive.specs.Trace.{Trace, Waits, Faults, Steps}
 
 -- what the run takes, one after another: a byte or a request, with its moment
 pub data Turn : Type 0 where
@@ -45,40 +45,36 @@ reply_bytes codec None = Ok []
 reply_bytes codec (Some p) = writing_under codec.max_outgoing_size p
 
 -- the reply is written, or its refusal ends the run
-abbrev pub answered : Session → Result (List ℕ) Error → (Session → Course) → Course
-answered s (Ok bytes) goes_on = Moves s bytes (goes_on s)
-answered s (Err e) goes_on = Moves s [] (Faults (state_error e))
+abbrev pub on_written : Session → Result (List ℕ) Error → (Session → Trace) → Trace
+on_written s (Ok bytes) goes_on = Steps s bytes (goes_on s)
+on_written s (Err e) goes_on = Steps s [] (Faults (state_error e))
 
 -- a fault of the session ends the run
-abbrev pub moved : Codec → Session → Result (Option Packet) StateError → (Session → Course) → Course
-moved codec s (Ok reply) goes_on = answered s (reply_bytes codec reply) goes_on
-moved codec s (Err e) goes_on = Moves s [] (Faults e)
+abbrev pub on_reply : Codec → Session → Result (Option Packet) StateError → (Session → Trace) → Trace
+on_reply codec s (Ok reply) goes_on = on_written s (reply_bytes codec reply) goes_on
+on_reply codec s (Err e) goes_on = Steps s [] (Faults e)
 
 -- an answer of the session, and the session after it
-abbrev pub stepped : Codec → Answer → (Session → Course) → Course
-stepped codec a goes_on = moved codec a.1 a.0 goes_on
+abbrev pub on_answer : Codec → Answer → (Session → Trace) → Trace
+on_answer codec a goes_on = on_reply codec a.1 a.0 goes_on
 
 -- the packet of a whole frame goes to the session, or its fault ends the run
-abbrev pub received : Codec → ℕ → Session → Result Packet Error → (Session → Course) → Course
-received codec at s (Ok p) goes_on = stepped codec (inc s p at) goes_on
-received codec at s (Err e) goes_on = Faults (state_error e)
+abbrev pub on_frame : Codec → ℕ → Session → Result Packet Error → (Session → Trace) → Trace
+on_frame codec at s (Ok p) goes_on = on_answer codec (on_packet s p at) goes_on
+on_frame codec at s (Err e) goes_on = Faults (state_error e)
 
 -- the front of the bytes held is looked at: more are awaited, a whole frame is taken out, or a bad one ends the run
-abbrev pub looked : Codec → ℕ → Session → List ℕ → Front → (Session → List ℕ → Course) → Course
-looked codec at s held (Bad e) goes_on = Faults (state_error e)
-looked codec at s held (More n) goes_on = goes_on s held
-looked codec at s held (Whole frame rest) goes_on = received codec at s (packet_in frame) (λ t. goes_on t rest)
+abbrev pub on_front : Codec → ℕ → Session → List ℕ → Front → (Session → List ℕ → Trace) → Trace
+on_front codec at s held (Bad e) goes_on = Faults (state_error e)
+on_front codec at s held (More n) goes_on = goes_on s held
+on_front codec at s held (Whole frame rest) goes_on = on_frame codec at s (packet_in frame) (λ t. goes_on t rest)
 
 -- from a session and the bytes held
-unfoldable pub run : Codec → List Turn → Session → List ℕ → Course
-run codec [] s held = Rests held
+unfoldable pub run : Codec → List Turn → Session → List ℕ → Trace
+run codec [] s held = Waits held
 run codec (Byte at b ∷ rest) s held =
-    looked codec at s (held ++ b ∷ []) (front codec.max_incoming_size (held ++ b ∷ [])) (λ t left. run codec rest t left)
-run codec (Ask at request ∷ rest) s held = stepped codec (out s request at) (λ t. run codec rest t held)
-
--- a front that needs more bytes
-abbrev pub IsMore : Front → Type 0
-IsMore f = (n : ℕ) × (f ≡ More n)
+    on_front codec at s (held ++ b ∷ []) (front codec.max_incoming_size (held ++ b ∷ [])) (λ t left. run codec rest t left)
+run codec (Ask at request ∷ rest) s held = on_answer codec (on_request s request at) (λ t. run codec rest t held)
 
 -- a step that is a piece
 abbrev pub piece : ℕ → List ℕ → Step

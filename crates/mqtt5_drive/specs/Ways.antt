@@ -2,22 +2,22 @@
 use Rattle.std.specs.Prelude.{◌≡◌, ℕ, ◌⊎◌, List, [], ◌++◌, Result, Ok, Err}
 use Rattle.mqtt5_base.specs.declared.error.Error.{Error}
 use Rattle.mqtt5_codec.specs.declared.codec.Codec.{Codec}
-use Rattle.mqtt5_held.specs.Errors.{state_error}
-use Rattle.mqtt5_held.specs.declared.error.StateError.{StateError}
-use Rattle.mqtt5_held.specs.declared.error.StateError.TheVariants as faults
+use Rattle.mqtt5_inflight.specs.Errors.{state_error}
+use Rattle.mqtt5_inflight.specs.declared.error.StateError.{StateError}
+use Rattle.mqtt5_inflight.specs.declared.error.StateError.TheVariants as faults
 use Rattle.mqtt5_session.specs.Session.{Session, Answer}
-use Rattle.mqtt5_drive.specs.Course.{Course, finish, Passes, Stops}
-use Rattle.mqtt5_drive.specs.Run.{Turn, bytes_of, stepped, run}
+use Rattle.mqtt5_drive.specs.Trace.{Trace, finish, Passes, Stops}
+use Rattle.mqtt5_drive.specs.Run.{Turn, bytes_of, on_answer, run}
 
 -- c, from s and o, goes on as d from t and u
-pub record LeadsTo (s : Session) (o : List ℕ) (c : Course) (t : Session) (u : List ℕ) (d : Course) : Type 0 where
+pub record LeadsTo (s : Session) (o : List ℕ) (c : Trace) (t : Session) (u : List ℕ) (d : Trace) : Type 0 where
   pub ends : finish s o c ≡ finish t u d
   pub points : (v : Session) (w : List ℕ) → Passes t u d v w → Passes s o c v w
 
 -- one move, whatever comes after
 abbrev pub Goes : Result Unit StateError → Codec → Answer → Session → List ℕ → Session → List ℕ → Type 0
-Goes (Ok done) codec a s o t u = (goes_on : Session → Course) → LeadsTo s o (stepped codec a goes_on) t u (goes_on t)
-Goes (Err e) codec a s o t u = (goes_on : Session → Course) → Stops e s o (stepped codec a goes_on) t u
+Goes (Ok done) codec a s o t u = (goes_on : Session → Trace) → LeadsTo s o (on_answer codec a goes_on) t u (goes_on t)
+Goes (Err e) codec a s o t u = (goes_on : Session → Trace) → Stops e s o (on_answer codec a goes_on) t u
 
 -- a reply is put at the end, or nothing is
 abbrev pub Replies : Result Unit StateError → Result (List ℕ) Error → List ℕ → List ℕ → Type 0

@@ -5,4 +5,4 @@ mod limit;
 mod run;
 
 pub use limit::take_limit;
-pub use run::{Input, Step, calls_law, cutting, drive, may_start, twice};
+pub use run::{Input, Step, calls_law, cutting, drive, empty_needs_more, twice};

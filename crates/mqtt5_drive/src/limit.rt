@@ -4,7 +4,7 @@ ghost use Rattle.std.specs.Prelude.{◌≡◌, ◌+◌, drop};
 ghost use Rattle.mqtt5_drive.specs.Limit.{size_in, size_after, size_allowed, allowed};
 
 use mqtt5_codec::{Codec, Packet};
-use mqtt5_link::{ConnAckProperties, ConnectReturnCode};
+use mqtt5_control::{ConnAckProperties, ConnectReturnCode};
 use mqtt5_session::Event;
 use std::collections::VecDeque;
 
@@ -44,7 +44,8 @@ fn size_after(event: &Event, limit: Option<u32>) -> Option<u32>
 
 /// The limit after the event at this place.
 fn size_at(events: &VecDeque<Event>, place: usize, limit: Option<u32>) -> Option<u32>
-    ensures { size_allowed (drop place events.now.items) limit ≡ size_allowed (drop (place + 1) events.now.items) result }
+    ensures { size_allowed (drop place events.now.items) limit
+        ≡ size_allowed (drop (place + 1) events.now.items) result }
 {
     match events.get(place) {
         Some(event) => size_after(event, limit),

@@ -2,26 +2,27 @@
 
 ghost use Rattle.std.specs.Prelude.{◌≡◌, ◌≢◌, ◌+◌, ℕ, min, Some, List, [], ◌++◌, map, Option, IfErr, OnOk, IsOk};
 ghost use Rattle.std.specs.List.{concat};
+ghost use Rattle.mqtt5_base.specs.Front.{NeedsMore};
 ghost use Rattle.mqtt5_base.specs.FrontAt.{front};
 ghost use Rattle.mqtt5_base.specs.declared.quality.QoS.TheVariants.{AtMostOnce};
 ghost use Rattle.mqtt5_base.specs.Puts.{Writes};
 ghost use Rattle.mqtt5_codec.specs.declared.codec.Codec.{Codec};
 ghost use Rattle.mqtt5_codec.specs.Packets.{writing_under};
 ghost use Rattle.mqtt5_session.specs.Session.{Session};
-ghost use Rattle.mqtt5_session.specs.Requests.{out};
-ghost use Rattle.mqtt5_session.specs.Packets.{inc};
+ghost use Rattle.mqtt5_session.specs.Requests.{on_request};
+ghost use Rattle.mqtt5_session.specs.Packets.{on_packet};
 ghost use Rattle.mqtt5_session.specs.Replies.{made_of, packet_of};
 ghost use Rattle.mqtt5_session.specs.Ledger.{after_all};
 ghost use Rattle.mqtt5_session.specs.Once.{kept_id, notified_by, released_by};
 ghost use Rattle.mqtt5_drive.specs.Ways.{LeadsTo, Goes, Replies};
-ghost use Rattle.mqtt5_drive.specs.Course.{Holds, finish, Stops};
+ghost use Rattle.mqtt5_drive.specs.Trace.{Holds, finish, Stops};
 ghost use Rattle.mqtt5_drive.specs.Calls.{calls_of};
-ghost use Rattle.mqtt5_drive.specs.Run.{Turn, bytes_of, of_input, turns, reply_bytes, run, IsMore, piece};
+ghost use Rattle.mqtt5_drive.specs.Run.{Turn, bytes_of, of_input, turns, reply_bytes, run, piece};
 
 use bytes::{Bytes, BytesMut};
 use mqtt5_base::{Error, QoS, copied};
 use mqtt5_codec::{Codec, Packet};
-use mqtt5_flow::{PubAck, Publish};
+use mqtt5_publish::{PubAck, Publish};
 use mqtt5_session::{MqttState, Reply, Request, StateError};
 use std::alloc::Global;
 
@@ -44,7 +45,8 @@ pub struct Step {
 }
 
 fn encode(codec: &Codec, output: &mut BytesMut, packet: &Packet) -> Result<(), StateError>
-    ensures { Replies result (reply_bytes codec.now (Some packet.now)) output.old.items output.new.items }
+    ensures { Replies result (reply_bytes codec.now (Some packet.now)) output.old.items
+        output.new.items }
 {
     match codec.write(packet, output) {
         Ok(()) => Ok(()),
@@ -64,7 +66,9 @@ fn over_limit(size: usize, max: u32) -> Error
 }
 
 fn put_publish(codec: &Codec, output: &mut BytesMut, publish: &Publish) -> Result<(), Error>
-    ensures { Writes (λ _. tt) (writing_under codec.now.max_outgoing_size (Packet.Publish publish.now)) result output.old.items output.new.items }
+    ensures { Writes (λ _. tt)
+        (writing_under codec.now.max_outgoing_size (Packet.Publish publish.now)) result
+        output.old.items output.new.items }
 {
     if let Some(max) = codec.max_outgoing_size {
         let size = publish.size();
@@ -78,7 +82,8 @@ fn put_publish(codec: &Codec, output: &mut BytesMut, publish: &Publish) -> Resul
 
 /// Writes a publish where it stands.
 fn write_publish(codec: &Codec, output: &mut BytesMut, publish: &Publish) -> Result<(), StateError>
-    ensures { Replies result (reply_bytes codec.now (Some (Packet.Publish publish.now))) output.old.items output.new.items }
+    ensures { Replies result (reply_bytes codec.now (Some (Packet.Publish publish.now)))
+        output.old.items output.new.items }
 {
     match put_publish(codec, output, publish) {
         Ok(()) => Ok(()),
@@ -87,7 +92,8 @@ fn write_publish(codec: &Codec, output: &mut BytesMut, publish: &Publish) -> Res
 }
 
 fn put_puback(codec: &Codec, output: &mut BytesMut, ack: &PubAck) -> Result<(), Error>
-    ensures { Writes (λ _. tt) (writing_under codec.now.max_outgoing_size (Packet.PubAck ack.now)) result output.old.items output.new.items }
+    ensures { Writes (λ _. tt) (writing_under codec.now.max_outgoing_size (Packet.PubAck ack.now))
+        result output.old.items output.new.items }
 {
     if let Some(max) = codec.max_outgoing_size {
         let size = ack.size();
@@ -101,7 +107,8 @@ fn put_puback(codec: &Codec, output: &mut BytesMut, ack: &PubAck) -> Result<(), 
 
 /// Writes a PubAck where it stands.
 fn write_puback(codec: &Codec, output: &mut BytesMut, ack: &PubAck) -> Result<(), StateError>
-    ensures { Replies result (reply_bytes codec.now (Some (Packet.PubAck ack.now))) output.old.items output.new.items }
+    ensures { Replies result (reply_bytes codec.now (Some (Packet.PubAck ack.now))) output.old.items
+        output.new.items }
 {
     match put_puback(codec, output, ack) {
         Ok(()) => Ok(()),
@@ -125,7 +132,8 @@ fn write_stored(
     output: &mut BytesMut,
     id: u16,
 ) -> Result<(), StateError>
-    ensures { Replies result (reply_bytes codec.now (packet_of (Reply.Publish id) state.now)) output.old.items output.new.items }
+    ensures { Replies result (reply_bytes codec.now (packet_of (Reply.Publish id) state.now))
+        output.old.items output.new.items }
 {
     match state.outgoing_pub(id) {
         Some(publish) => write_publish(codec, output, publish),
@@ -136,7 +144,8 @@ fn write_stored(
 /// Writes an ack or a Disconnect.
 #[inline(never)]
 fn write_made(codec: &Codec, output: &mut BytesMut, reply: Reply) -> Result<(), StateError>
-    ensures { Replies result (reply_bytes codec.now (made_of reply)) output.old.items output.new.items }
+    ensures { Replies result (reply_bytes codec.now (made_of reply)) output.old.items
+        output.new.items }
 {
     let packet = reply.packet();
     let answered = answer(codec, output, &packet);
@@ -151,7 +160,8 @@ fn write_reply(
     output: &mut BytesMut,
     reply: Reply,
 ) -> Result<(), StateError>
-    ensures { Replies result (reply_bytes codec.now (packet_of reply state.now)) output.old.items output.new.items }
+    ensures { Replies result (reply_bytes codec.now (packet_of reply state.now)) output.old.items
+        output.new.items }
 {
     match reply {
         Reply::Nothing => Ok(()),
@@ -168,7 +178,8 @@ fn deliver(
     packet: Packet,
     at: u64,
 ) -> Result<(), StateError>
-    ensures { Goes result codec.now (inc state.old packet at) state.old output.old.items state.new output.new.items }
+    ensures { Goes result codec.now (on_packet state.old packet at) state.old output.old.items
+        state.new output.new.items }
 {
     match state.hear_packet(packet, at) {
         Ok(reply) => write_reply(state, codec, output, reply),
@@ -177,25 +188,26 @@ fn deliver(
 }
 
 #[inline(never)]
-fn ask(
+fn send_request(
     state: &mut MqttState,
     codec: &Codec,
     output: &mut BytesMut,
     request: &Request,
     at: u64,
 ) -> Result<(), StateError>
-    ensures { Goes result codec.now (out state.old request.now at) state.old output.old.items state.new output.new.items }
+    ensures { Goes result codec.now (on_request state.old request.now at) state.old output.old.items
+        state.new output.new.items }
 {
     match request {
         Request::Publish(publish) if publish.qos != QoS::AtMostOnce => {
-            ask_copy(state, codec, output, publish, at)
+            send_publish(state, codec, output, publish, at)
         }
-        _other => ask_any(state, codec, output, request, at),
+        _other => send_any(state, codec, output, request, at),
     }
 }
 
 /// A publish of QoS 1 or 2 is stored, and written where it is stored.
-fn ask_copy(
+fn send_publish(
     state: &mut MqttState,
     codec: &Codec,
     output: &mut BytesMut,
@@ -203,7 +215,8 @@ fn ask_copy(
     at: u64,
 ) -> Result<(), StateError>
     requires { publish.now.qos ≢ AtMostOnce }
-    ensures { Goes result codec.now (out state.old (Request.Publish publish.now) at) state.old output.old.items state.new output.new.items }
+    ensures { Goes result codec.now (on_request state.old (Request.Publish publish.now) at)
+        state.old output.old.items state.new output.new.items }
 {
     match state.send_copy(publish, at) {
         Ok(reply) => write_reply(state, codec, output, reply),
@@ -213,14 +226,15 @@ fn ask_copy(
 
 /// A copy of a request is handed on.
 #[inline(never)]
-fn ask_any(
+fn send_any(
     state: &mut MqttState,
     codec: &Codec,
     output: &mut BytesMut,
     request: &Request,
     at: u64,
 ) -> Result<(), StateError>
-    ensures { Goes result codec.now (out state.old request.now at) state.old output.old.items state.new output.new.items }
+    ensures { Goes result codec.now (on_request state.old request.now at) state.old output.old.items
+        state.new output.new.items }
 {
     let Ok(request) = copied(request) else {
         return Err(StateError::OutOfMemory);
@@ -245,9 +259,15 @@ fn take_frames(
     output: &mut BytesMut,
     at: u64,
 ) -> Result<(), StateError>
-    ensures more { OnOk result (IsMore (front codec.now.max_incoming_size input.new.items)) }
-    ensures ok { OnOk result ((rest : List Turn) → LeadsTo state.old output.old.items (run codec.now (bytes_of at input.old.items ++ rest) state.old []) state.new output.new.items (run codec.now rest state.new input.new.items)) }
-    ensures err { IfErr result (λ e. (rest : List Turn) → Stops e state.old output.old.items (run codec.now (bytes_of at input.old.items ++ rest) state.old []) state.new output.new.items) }
+    ensures more { OnOk result (NeedsMore (front codec.now.max_incoming_size input.new.items)) }
+    ensures ok { OnOk result ((rest : List Turn)
+        → LeadsTo state.old output.old.items
+        (run codec.now (bytes_of at input.old.items ++ rest) state.old []) state.new
+        output.new.items (run codec.now rest state.new input.new.items)) }
+    ensures err { IfErr result (λ e. (rest : List Turn)
+        → Stops e state.old output.old.items
+        (run codec.now (bytes_of at input.old.items ++ rest) state.old []) state.new
+        output.new.items) }
 {
     while let Some(packet) = codec.decode(alloc, input)? {
         deliver(state, codec, output, packet, at)?;
@@ -264,10 +284,16 @@ fn take_step(
     output: &mut BytesMut,
     step: &Step,
 ) -> Result<(), StateError>
-    requires { IsMore (front codec.now.max_incoming_size input.old.items) }
-    ensures more { OnOk result (IsMore (front codec.now.max_incoming_size input.new.items)) }
-    ensures ok { OnOk result ((rest : List Turn) → LeadsTo state.old output.old.items (run codec.now (of_input step.now.at step.now.input ++ rest) state.old input.old.items) state.new output.new.items (run codec.now rest state.new input.new.items)) }
-    ensures err { IfErr result (λ e. (rest : List Turn) → Stops e state.old output.old.items (run codec.now (of_input step.now.at step.now.input ++ rest) state.old input.old.items) state.new output.new.items) }
+    requires { NeedsMore (front codec.now.max_incoming_size input.old.items) }
+    ensures more { OnOk result (NeedsMore (front codec.now.max_incoming_size input.new.items)) }
+    ensures ok { OnOk result ((rest : List Turn)
+        → LeadsTo state.old output.old.items
+        (run codec.now (of_input step.now.at step.now.input ++ rest) state.old input.old.items)
+        state.new output.new.items (run codec.now rest state.new input.new.items)) }
+    ensures err { IfErr result (λ e. (rest : List Turn)
+        → Stops e state.old output.old.items
+        (run codec.now (of_input step.now.at step.now.input ++ rest) state.old input.old.items)
+        state.new output.new.items) }
 {
     match &step.input {
         Input::Bytes(piece) => {
@@ -280,7 +306,7 @@ fn take_step(
             }
             take_frames(alloc, state, codec, input, output, step.at)
         }
-        Input::Request(request) => ask(state, codec, output, request, step.at),
+        Input::Request(request) => send_request(state, codec, output, request, step.at),
     }
 }
 
@@ -298,13 +324,20 @@ pub fn drive(
     output: &mut BytesMut,
     steps: &[Step],
 ) -> Result<(), StateError>
-    requires { IsMore (front codec.old.max_incoming_size input.old.items) }
+    requires { NeedsMore (front codec.old.max_incoming_size input.old.items) }
     // All is the run's: session, output and the bytes held.
-    ensures ok { OnOk result (finish state.old output.old.items (run codec.old (turns steps.now) state.old input.old.items) ≡ record { session = state.new; output = output.new.items; ending = Holds input.new.items }) }
+    ensures ok { OnOk result (finish state.old output.old.items
+        (run codec.old (turns steps.now) state.old input.old.items)
+        ≡ record {
+          session = state.new;
+          output = output.new.items;
+          ending = Holds input.new.items;
+        }) }
     // The fault is the run's, with its session and output, or memory ran out on the way.
-    ensures err { IfErr result (λ e. Stops e state.old output.old.items (run codec.old (turns steps.now) state.old input.old.items) state.new output.new.items) }
+    ensures err { IfErr result (λ e. Stops e state.old output.old.items
+        (run codec.old (turns steps.now) state.old input.old.items) state.new output.new.items) }
     // So another call may follow.
-    ensures more { OnOk result (IsMore (front codec.old.max_incoming_size input.new.items)) }
+    ensures more { OnOk result (NeedsMore (front codec.old.max_incoming_size input.new.items)) }
     ensures codec { codec.new ≡ codec.old }
     ensures nothing { steps.now ≡ [] → IsOk result }
 {
@@ -315,14 +348,15 @@ pub fn drive(
 }
 
 /// `drive` may start on an empty input.
-pub fn may_start()
-    ensures { (limit : Option ℕ) (input : List ℕ) → input ≡ [] → IsMore (front limit input) }
+pub fn empty_needs_more()
+    ensures { (limit : Option ℕ) (input : List ℕ) → input ≡ [] → NeedsMore (front limit input) }
 {}
 
 /// A law, which does nothing when it is called: any two ways of cutting the same bytes into pieces, with the
 /// same moment, are the same run, whatever comes before and after.
 pub fn cutting()
-    ensures { (codec : Codec) (s : Session) (held : List ℕ) (before after : List Step) (at : ℕ) (pieces others : List (List ℕ))
+    ensures { (codec : Codec) (s : Session) (held : List ℕ) (before after : List Step) (at : ℕ)
+        (pieces others : List (List ℕ))
         → concat pieces ≡ concat others
         → run codec (turns (before ++ map (piece at) pieces ++ after)) s held
         ≡ run codec (turns (before ++ map (piece at) others ++ after)) s held }
@@ -332,13 +366,19 @@ pub fn cutting()
 /// they are one call over the steps of both. Its premises are what the two calls ensure.
 pub fn twice()
     // Where the second answers Ok, so does the one call, with the session, output and bytes held that it left.
-    ensures ok { (codec : Codec) (s t v : Session) (o u w held left last : List ℕ) (first second : List Step)
-        → finish s o (run codec (turns first) s held) ≡ record { session = t; output = u; ending = Holds left }
-        → finish t u (run codec (turns second) t left) ≡ record { session = v; output = w; ending = Holds last }
-        → finish s o (run codec (turns (first ++ second)) s held) ≡ record { session = v; output = w; ending = Holds last } }
+    ensures ok { (codec : Codec) (s t v : Session) (o u w held left last : List ℕ)
+        (first second : List Step)
+        → finish s o (run codec (turns first) s held)
+        ≡ record { session = t; output = u; ending = Holds left }
+        → finish t u (run codec (turns second) t left)
+        ≡ record { session = v; output = w; ending = Holds last }
+        → finish s o (run codec (turns (first ++ second)) s held)
+        ≡ record { session = v; output = w; ending = Holds last } }
     // Where the second stops, the one call may stop so too.
-    ensures stops { (codec : Codec) (s t v : Session) (o u w held left : List ℕ) (first second : List Step) (why : StateError)
-        → finish s o (run codec (turns first) s held) ≡ record { session = t; output = u; ending = Holds left }
+    ensures stops { (codec : Codec) (s t v : Session) (o u w held left : List ℕ)
+        (first second : List Step) (why : StateError)
+        → finish s o (run codec (turns first) s held)
+        ≡ record { session = t; output = u; ending = Holds left }
         → Stops why t u (run codec (turns second) t left) v w
         → Stops why s o (run codec (turns (first ++ second)) s held) v w }
 {}
@@ -351,6 +391,7 @@ pub fn calls_law()
         → (finish s output (run codec ts s held)).session ≡ after_all s (calls_of codec ts s held) }
     // Each id that is kept or was released was kept before or handed on.
     ensures once { (codec : Codec) (ts : List Turn) (s : Session) (held output : List ℕ) (id : ℕ)
-        → kept_id id (finish s output (run codec ts s held)).session.core + released_by id s (calls_of codec ts s held)
+        → kept_id id (finish s output (run codec ts s held)).session.core + released_by id s
+        (calls_of codec ts s held)
         ≡ kept_id id s.core + notified_by id s (calls_of codec ts s held) }
 {}

@@ -25,7 +25,8 @@ impl MqttOptions {
     /// memory.
     pub fn set_session_expiry_interval(&mut self, interval: Option<u32>) -> &mut Self
         ensures same { result.ghost_name ≡ self.entry.ghost_name }
-        ensures set { result.now ≡ with_properties self.old (record (properties_of self.old) { session_expiry_interval = interval }) }
+        ensures set { result.now ≡ with_properties self.old
+            (record (properties_of self.old) { session_expiry_interval = interval }) }
     {
         self.connect().session_expiry_interval = interval;
         self
@@ -46,7 +47,8 @@ impl MqttOptions {
     /// memory.
     pub fn set_receive_maximum(&mut self, recv_max: Option<u16>) -> &mut Self
         ensures same { result.ghost_name ≡ self.entry.ghost_name }
-        ensures set { result.now ≡ with_properties self.old (record (properties_of self.old) { receive_maximum = recv_max }) }
+        ensures set { result.now ≡ with_properties self.old
+            (record (properties_of self.old) { receive_maximum = recv_max }) }
     {
         self.connect().receive_maximum = recv_max;
         self
@@ -66,7 +68,8 @@ impl MqttOptions {
     /// Sets the longest packet that the server may send, in bytes. Takes no memory.
     pub fn set_max_packet_size(&mut self, max_size: Option<u32>) -> &mut Self
         ensures same { result.ghost_name ≡ self.entry.ghost_name }
-        ensures set { result.now ≡ with_properties self.old (record (properties_of self.old) { max_packet_size = max_size }) }
+        ensures set { result.now ≡ with_properties self.old
+            (record (properties_of self.old) { max_packet_size = max_size }) }
     {
         self.connect().max_packet_size = max_size;
         self
@@ -85,7 +88,8 @@ impl MqttOptions {
     /// Sets the greatest topic alias that the server may use. Takes no memory.
     pub fn set_topic_alias_max(&mut self, topic_alias_max: Option<u16>) -> &mut Self
         ensures same { result.ghost_name ≡ self.entry.ghost_name }
-        ensures set { result.now ≡ with_properties self.old (record (properties_of self.old) { topic_alias_max = topic_alias_max }) }
+        ensures set { result.now ≡ with_properties self.old
+            (record (properties_of self.old) { topic_alias_max = topic_alias_max }) }
     {
         self.connect().topic_alias_max = topic_alias_max;
         self
@@ -105,7 +109,8 @@ impl MqttOptions {
     /// Sets whether the server may answer with response information: 0 or 1. Takes no memory.
     pub fn set_request_response_info(&mut self, request_response_info: Option<u8>) -> &mut Self
         ensures same { result.ghost_name ≡ self.entry.ghost_name }
-        ensures set { result.now ≡ with_properties self.old (record (properties_of self.old) { request_response_info = request_response_info }) }
+        ensures set { result.now ≡ with_properties self.old
+            (record (properties_of self.old) { request_response_info = request_response_info }) }
     {
         self.connect().request_response_info = request_response_info;
         self
@@ -126,7 +131,8 @@ impl MqttOptions {
     /// memory.
     pub fn set_request_problem_info(&mut self, request_problem_info: Option<u8>) -> &mut Self
         ensures same { result.ghost_name ≡ self.entry.ghost_name }
-        ensures set { result.now ≡ with_properties self.old (record (properties_of self.old) { request_problem_info = request_problem_info }) }
+        ensures set { result.now ≡ with_properties self.old
+            (record (properties_of self.old) { request_problem_info = request_problem_info }) }
     {
         self.connect().request_problem_info = request_problem_info;
         self
@@ -145,7 +151,8 @@ impl MqttOptions {
     /// Sets the user properties, in their order. Takes no memory.
     pub fn set_user_properties(&mut self, user_properties: Sequence<(Text, Text)>) -> &mut Self
         ensures same { result.ghost_name ≡ self.entry.ghost_name }
-        ensures set { result.now ≡ with_properties self.old (record (properties_of self.old) { user_properties = user_properties }) }
+        ensures set { result.now ≡ with_properties self.old
+            (record (properties_of self.old) { user_properties = user_properties }) }
     {
         self.connect().user_properties = user_properties;
         self
@@ -164,7 +171,8 @@ impl MqttOptions {
     /// Sets the authentication method. Takes no memory.
     pub fn set_authentication_method(&mut self, authentication_method: Option<Text>) -> &mut Self
         ensures same { result.ghost_name ≡ self.entry.ghost_name }
-        ensures set { result.now ≡ with_properties self.old (record (properties_of self.old) { authentication_method = authentication_method }) }
+        ensures set { result.now ≡ with_properties self.old
+            (record (properties_of self.old) { authentication_method = authentication_method }) }
     {
         self.connect().authentication_method = authentication_method;
         self
@@ -183,7 +191,8 @@ impl MqttOptions {
     /// Sets the authentication data. Takes no memory.
     pub fn set_authentication_data(&mut self, authentication_data: Option<Bytes>) -> &mut Self
         ensures same { result.ghost_name ≡ self.entry.ghost_name }
-        ensures set { result.now ≡ with_properties self.old (record (properties_of self.old) { authentication_data = authentication_data }) }
+        ensures set { result.now ≡ with_properties self.old
+            (record (properties_of self.old) { authentication_data = authentication_data }) }
     {
         self.connect().authentication_data = authentication_data;
         self

@@ -154,7 +154,8 @@ impl MqttOptions {
 
     /// The connect properties, empty ones where there were none.
     pub(crate) fn connect(&mut self) -> &mut ConnectProperties
-        ensures* writes_back { sem 𝓛 (Lends the_row properties_row self.entry result (with_properties self.old)) }
+        ensures* writes_back { sem 𝓛 (Lends the_row properties_row self.entry result
+            (with_properties self.old)) }
         ensures value { result.now ≡ properties_of self.old }
     {
         let empty = ConnectProperties::new(self.alloc);
@@ -209,7 +210,9 @@ impl MqttOptions {
 
     /// Sets the user name and the password. E21; then the settings are unchanged.
     pub fn set_credentials(&mut self, username: &str, password: &str) -> Result<(), Error>
-        ensures ok { OnOk result (self.new ≡ record (self.old) { credentials = Some (login_of username.now password.now) }) }
+        ensures ok { OnOk result
+            (self.new
+            ≡ record (self.old) { credentials = Some (login_of username.now password.now) }) }
         ensures kept { OnErr result (self.new ≡ self.old) }
         ensures err { IfErr result (λ e. e ≡ Error.OutOfMemory) }
     {
@@ -325,7 +328,8 @@ impl MqttOptions {
     /// Sets the most outgoing publishes that may be without an ack. Takes no memory.
     pub fn set_outgoing_inflight_upper_limit(&mut self, limit: u16) -> &mut Self
         ensures same { result.ghost_name ≡ self.entry.ghost_name }
-        ensures set { result.now ≡ record (self.old) { outgoing_inflight_upper_limit = Some limit } }
+        ensures set { result.now
+            ≡ record (self.old) { outgoing_inflight_upper_limit = Some limit } }
     {
         self.outgoing_inflight_upper_limit = Some(limit);
         self

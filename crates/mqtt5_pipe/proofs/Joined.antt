@@ -1,21 +1,21 @@
 -- Two calls of a pipe, one after the other, are one.
 use Rattle.std.proofs.Common.{◌≡◌, ℕ, List, [], ◌∷◌, ◌++◌, refl, sym, ap, subst, ◌∙◌, append_assoc}
 use Rattle.mqtt5_codec.specs.declared.codec.Codec.{Codec}
-use Rattle.mqtt5_held.specs.declared.error.StateError.{StateError}
+use Rattle.mqtt5_inflight.specs.declared.error.StateError.{StateError}
 use Rattle.mqtt5_drive.specs.declared.run.Step.{Step}
-use Rattle.mqtt5_drive.specs.Course.{Holds, finish, Stops}
+use Rattle.mqtt5_drive.specs.Trace.{Holds, finish, Stops}
 use Rattle.mqtt5_drive.specs.Run.{Turn, bytes_of, turns, run, piece}
 use Rattle.mqtt5_drive.proofs.Cuts.{bytes_of-append}
 use Rattle.mqtt5_drive.proofs.Joins.{twice_ok, twice_stops}
-use Rattle.mqtt5_pipe.specs.declared.fault.Fault.{Fault}
-use Rattle.mqtt5_pipe.specs.declared.fault.Fault.TheVariants.{Read, Write, Session as OfSession, Unanswered}
+use Rattle.mqtt5_pipe.specs.declared.error.PipeError.{PipeError}
+use Rattle.mqtt5_pipe.specs.declared.error.PipeError.TheVariants.{Read, Write, Session as OfSession, Unanswered}
 use Rattle.mqtt5_pipe.specs.declared.pipe.Pipe.{Pipe}
-use Rattle.mqtt5_pipe.specs.Pipe.{IsReady, course, Runs, Fails, StopsBy}
+use Rattle.mqtt5_pipe.specs.Pipe.{IsReady, trace, Runs, Fails, StopsBy}
 use Rattle.mqtt5_pipe.proofs.Behind.{behind, finish_behind, stops_behind}
 
 module _ (p q r : Pipe) (first second : List Step) (sent more : List ℕ) (ran : Runs p first sent q) (codec : q.codec ≡ p.codec) where
   -- the second run, behind what the first one wrote
-  follows : finish q.state (sent ++ q.output.items) (run p.codec (turns second) q.state q.input.items) ≡ behind sent (finish q.state q.output.items (course q second))
+  follows : finish q.state (sent ++ q.output.items) (run p.codec (turns second) q.state q.input.items) ≡ behind sent (finish q.state q.output.items (trace q second))
   follows =
       finish_behind sent q.state q.output.items (run p.codec (turns second) q.state q.input.items)
       ∙ ap (λ (c : Codec). behind sent (finish q.state q.output.items (run c (turns second) q.state q.input.items))) (sym codec)
@@ -34,7 +34,7 @@ module _ (p q r : Pipe) (first second : List Step) (sent more : List ℕ) (ran :
       (stops_behind sent e q.state q.output.items (run p.codec (turns second) q.state q.input.items) r.state (more ++ r.output.items)
       (subst (λ (c : Codec). Stops e q.state q.output.items (run c (turns second) q.state q.input.items) r.state (more ++ r.output.items)) codec h)))
 
-  pub join_stops : (fault : Fault) → StopsBy fault q second more r → StopsBy fault p (first ++ second) (sent ++ more) r
+  pub join_stops : (fault : PipeError) → StopsBy fault q second more r → StopsBy fault p (first ++ second) (sent ++ more) r
   join_stops (Read error) h = join_runs h
   join_stops (Write error) h = join_runs h
   join_stops (OfSession e) h = (join_fails e h.0, h.1)
@@ -55,7 +55,7 @@ module _ (p r : Pipe) (at : ℕ) (a b : List ℕ) (sent : List ℕ) where
   as_one_fails : (e : StateError) → Fails e p (piece at a ∷ piece at b ∷ []) sent r → Fails e p (piece at (a ++ b) ∷ []) sent r
   as_one_fails e h = subst (λ (ts : List Turn). Stops e p.state p.output.items (run p.codec ts p.state p.input.items) r.state (sent ++ r.output.items)) (two_pieces at a b) h
 
-  as_one_stops : (fault : Fault) → StopsBy fault p (piece at a ∷ piece at b ∷ []) sent r → StopsBy fault p (piece at (a ++ b) ∷ []) sent r
+  as_one_stops : (fault : PipeError) → StopsBy fault p (piece at a ∷ piece at b ∷ []) sent r → StopsBy fault p (piece at (a ++ b) ∷ []) sent r
   as_one_stops (Read error) h = as_one_runs h
   as_one_stops (Write error) h = as_one_runs h
   as_one_stops (OfSession e) h = (as_one_fails e h.0, h.1)
@@ -66,7 +66,7 @@ module _ (p q r : Pipe) (at : ℕ) (a b : List ℕ) (sent more : List ℕ) (ran 
   pub turn_runs : Runs q (piece at b ∷ []) more r → Runs p (piece at (a ++ b) ∷ []) (sent ++ more) r
   turn_runs h = as_one_runs p r at a b (sent ++ more) (join_runs p q r (piece at a ∷ []) (piece at b ∷ []) sent more ran codec h)
 
-  pub turn_stops : (fault : Fault) → StopsBy fault q (piece at b ∷ []) more r → StopsBy fault p (piece at (a ++ b) ∷ []) (sent ++ more) r
+  pub turn_stops : (fault : PipeError) → StopsBy fault q (piece at b ∷ []) more r → StopsBy fault p (piece at (a ++ b) ∷ []) (sent ++ more) r
   turn_stops fault h = as_one_stops p r at a b (sent ++ more) fault (join_stops p q r (piece at a ∷ []) (piece at b ∷ []) sent more ran codec fault h)
 
 -- nothing came yet

@@ -8,17 +8,17 @@ ghost use Rattle.std.specs.Io.KnownBytes.{Appends, Consumes, IsAtEnd, Keeps};
 ghost use Rattle.std.specs.declared.io.Error.{Error as IoError};
 ghost use Rattle.mqtt5_drive.specs.declared.run.Step.{Step};
 ghost use Rattle.mqtt5_drive.specs.Run.{piece};
-ghost use Rattle.mqtt5_pipe.specs.declared.fault.Fault.{Fault};
-ghost use Rattle.mqtt5_pipe.specs.declared.fault.Fault.TheVariants as faults;
+ghost use Rattle.mqtt5_pipe.specs.declared.error.PipeError.{PipeError};
+ghost use Rattle.mqtt5_pipe.specs.declared.error.PipeError.TheVariants as faults;
 ghost use Rattle.mqtt5_pipe.specs.declared.pipe.Pipe.{Pipe};
 ghost use Rattle.mqtt5_pipe.specs.Pipe.{IsReady, Runs, Fails, StopsBy, Leaves, IsRetried};
 ghost use Rattle.mqtt5_pipe.specs.Ends.{ends};
 
-use crate::fault::Fault;
+use crate::error::PipeError;
 use bytes::{Bytes, BytesMut};
 use mqtt5_base::{Error, check};
 use mqtt5_codec::Codec;
-use mqtt5_drive::{Input, Step, drive, may_start};
+use mqtt5_drive::{Input, Step, drive, empty_needs_more};
 use mqtt5_session::{MqttState, StateError};
 use std::alloc::Global;
 use std::io;
@@ -49,7 +49,7 @@ impl Pipe {
         ensures empty { (result.input.items ≡ []) × (result.output.items ≡ []) }
         ensures ready { IsReady result }
     {
-        may_start();
+        empty_needs_more();
         Pipe {
             state,
             codec,
@@ -59,7 +59,7 @@ impl Pipe {
     }
 
     /// Whether a call may follow: the input needs more bytes, as an empty one does. Takes no memory.
-    pub fn is_ready(&self) -> bool
+    pub fn needs_more(&self) -> bool
         ensures { Decides result (IsReady self.now) }
     {
         match check(self.input.as_slice(), self.codec.max_incoming_size) {
@@ -72,10 +72,11 @@ impl Pipe {
     /// earlier one left. A writer is called again after a short write and after an interruption; `Write` is its
     /// failure, also where it takes nothing (`WriteZero`). `Session` is the fault that ends the run, as `drive`
     /// has it, once all that was answered before is written, and `Unanswered` both.
-    pub fn take_steps<W: Write>(&mut self, steps: &[Step], writer: &mut W) -> Result<(), Fault>
+    pub fn take_steps<W: Write>(&mut self, steps: &[Step], writer: &mut W) -> Result<(), PipeError>
         requires ready { IsReady self.old }
         // What was written is the run's output.
-        ensures carried { (sent : List ℕ) × Appends (W.contents writer.old) (W.contents writer.new) sent
+        ensures carried { (sent : List ℕ) × Appends (W.contents writer.old)
+            (W.contents writer.new) sent
             × Leaves result self.old steps.now sent self.new }
         // So another call may follow.
         ensures ready { OnOk result (IsReady self.new) }
@@ -96,12 +97,14 @@ impl Pipe {
         at: u64,
         reader: &mut R,
         writer: &mut W,
-    ) -> Result<usize, Fault>
+    ) -> Result<usize, PipeError>
         requires ready { IsReady self.old }
         // What was written is the run's output over what was read.
-        ensures carried { (came sent : List ℕ) × Consumes (R.remaining reader.old) (R.remaining reader.new) came
+        ensures carried { (came sent : List ℕ)
+            × Consumes (R.remaining reader.old) (R.remaining reader.new) came
             × Appends (W.contents writer.old) (W.contents writer.new) sent
-            × Leaves result self.old (piece at came ∷ []) sent self.new × IfOk result (λ count. count ≡ length came) }
+            × Leaves result self.old (piece at came ∷ []) sent self.new
+            × IfOk result (λ count. count ≡ length came) }
         ensures end { IfOk result (λ count. count ≡ 0 → IsAtEnd (R.remaining reader.new)) }
         // So another call may follow.
         ensures ready { OnOk result (IsReady self.new) }
@@ -111,9 +114,9 @@ impl Pipe {
         let mut buffer = [0u8; PIECE];
         let count = match read_once(reader, &mut buffer) {
             Ok(count) => count,
-            Err(error) => return Err(Fault::Read(error)),
+            Err(error) => return Err(PipeError::Read(error)),
         };
-        let taken = self.hear(at, &buffer[..count]);
+        let taken = self.receive_bytes(at, &buffer[..count]);
         let written = write_out(&mut self.output, writer);
         join_faults(taken, written)?;
         Ok(count)
@@ -126,10 +129,11 @@ impl Pipe {
         at: u64,
         reader: &mut R,
         writer: &mut W,
-    ) -> Result<(), Fault>
+    ) -> Result<(), PipeError>
         requires ready { IsReady self.old }
         // All that was written is the run's output over all that was read, as if that were one piece.
-        ensures carried { (came sent : List ℕ) × Consumes (R.remaining reader.old) (R.remaining reader.new) came
+        ensures carried { (came sent : List ℕ)
+            × Consumes (R.remaining reader.old) (R.remaining reader.new) came
             × Appends (W.contents writer.old) (W.contents writer.new) sent
             × Leaves result self.old (piece at came ∷ []) sent self.new }
         ensures end { OnOk result (IsAtEnd (R.remaining reader.new)) }
@@ -143,7 +147,7 @@ impl Pipe {
                 return Ok(());
             }
         }
-        Err(Fault::Read(ErrorKind::TimedOut.into()))
+        Err(PipeError::Read(ErrorKind::TimedOut.into()))
     }
 
     /// Runs the steps, and writes nothing.
@@ -165,7 +169,7 @@ impl Pipe {
     }
 
     /// Runs one piece.
-    fn hear(&mut self, at: u64, bytes: &[u8]) -> Result<(), StateError>
+    fn receive_bytes(&mut self, at: u64, bytes: &[u8]) -> Result<(), StateError>
         requires { IsReady self.old }
         ensures ok { OnOk result (Runs self.old (piece at bytes.now ∷ []) [] self.new) }
         ensures err { IfErr result (λ e. Fails e self.old (piece at bytes.now ∷ []) [] self.new) }
@@ -186,8 +190,10 @@ impl Pipe {
 /// Reads once, and again after an interruption.
 fn read_once<R: Read>(reader: &mut R, buffer: &mut [u8]) -> io::Result<usize>
     ensures bound { ReadsAtMost result buffer.new }
-    ensures bytes { IfOk result (λ n. Consumes (R.remaining reader.old) (R.remaining reader.new) (take n buffer.new)) }
-    ensures end { IfOk result (λ n. n ≡ 0 → 0 < length buffer.old → IsAtEnd (R.remaining reader.new)) }
+    ensures bytes { IfOk result (λ n. Consumes (R.remaining reader.old) (R.remaining reader.new)
+        (take n buffer.new)) }
+    ensures end { IfOk result (λ n. n ≡ 0 → 0 < length buffer.old
+        → IsAtEnd (R.remaining reader.new)) }
     ensures err { OnErr result (Keeps (R.remaining reader.old) (R.remaining reader.new)) }
     ensures retried { IfErr result (λ e. error_kind e ≢ ErrorKind.Interrupted) }
 {
@@ -203,7 +209,8 @@ fn read_once<R: Read>(reader: &mut R, buffer: &mut [u8]) -> io::Result<usize>
 
 /// Writes the output from its front until it is empty, and flushes the writer. What was written is gone from it.
 fn write_out<W: Write>(output: &mut BytesMut, writer: &mut W) -> io::Result<()>
-    ensures written { (sent : List ℕ) × Appends (W.contents writer.old) (W.contents writer.new) sent × (output.old.items ≡ sent ++ output.new.items) }
+    ensures written { (sent : List ℕ) × Appends (W.contents writer.old) (W.contents writer.new) sent
+        × (output.old.items ≡ sent ++ output.new.items) }
     ensures whole { OnOk result (output.new.items ≡ []) }
     ensures retried { IfErr result (λ e. error_kind e ≢ ErrorKind.Interrupted) }
 {
@@ -236,14 +243,14 @@ fn flush<W: Write>(writer: &mut W) -> io::Result<()>
     Err(ErrorKind::TimedOut.into())
 }
 
-fn join_faults(taken: Result<(), StateError>, written: io::Result<()>) -> Result<(), Fault>
+fn join_faults(taken: Result<(), StateError>, written: io::Result<()>) -> Result<(), PipeError>
     ensures { result ≡ ends taken written }
 {
     match (taken, written) {
         (Ok(()), Ok(())) => Ok(()),
-        (Ok(()), Err(error)) => Err(Fault::Write(error)),
-        (Err(fault), Ok(())) => Err(Fault::Session(fault)),
-        (Err(fault), Err(error)) => Err(Fault::Unanswered(fault, error)),
+        (Ok(()), Err(error)) => Err(PipeError::Write(error)),
+        (Err(fault), Ok(())) => Err(PipeError::Session(fault)),
+        (Err(fault), Err(error)) => Err(PipeError::Unanswered(fault, error)),
     }
 }
 
@@ -255,7 +262,8 @@ pub fn one_call()
         → Runs p first sent q → q.codec ≡ p.codec → Runs q second more r
         → Runs p (first ++ second) (sent ++ more) r }
     // Where the second stops by a fault, so do both.
-    ensures stops { (p q r : Pipe) (first second : List Step) (sent more : List ℕ) (fault : Fault)
+    ensures stops { (p q r : Pipe) (first second : List Step) (sent more : List ℕ)
+        (fault : PipeError)
         → Runs p first sent q → q.codec ≡ p.codec → StopsBy fault q second more r
         → StopsBy fault p (first ++ second) (sent ++ more) r }
 {}

@@ -1,7 +1,7 @@
 //! The lines that tell of a world: what came of each content, which is a publish but for its id and dup.
 
 use bytes::Bytes;
-use mqtt5_flow::Publish;
+use mqtt5_publish::Publish;
 use mqtt5_scripts::write_hex;
 use mqtt5_session::MqttState;
 use mqtt5_streams::ByteEvent;

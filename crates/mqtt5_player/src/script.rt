@@ -1,6 +1,6 @@
 //! Scripts of a client and its broker: what happens, a line each.
 
-use mqtt5_flow::Publish;
+use mqtt5_publish::Publish;
 use mqtt5_scripts::{Field, LineError, Script, split_word};
 use mqtt5_streams::ByteEvent;
 use mqtt5_world::WorldEvent;

@@ -4,9 +4,11 @@ use bytes::{Bytes, BytesMut};
 use mqtt5_base::{Error, QoS, Sequence, Text, same};
 use mqtt5_codec::Packet;
 use mqtt5_connect::{Connect, LastWill, Login};
-use mqtt5_flow::{PingReq, PingResp, PubAck, PubComp, PubCompReason, Publish, PublishProperties};
-use mqtt5_link::{Auth, AuthReasonCode, ConnAck, ConnAckProperties, ConnectReturnCode};
-use mqtt5_subs::{
+use mqtt5_control::{Auth, AuthReasonCode, ConnAck, ConnAckProperties, ConnectReturnCode};
+use mqtt5_publish::{
+    PingReq, PingResp, PubAck, PubComp, PubCompReason, Publish, PublishProperties,
+};
+use mqtt5_subscribe::{
     Filter, SubAck, Subscribe, SubscribeReasonCode, UnsubAck, UnsubAckReason, Unsubscribe,
 };
 use std::alloc::Global;

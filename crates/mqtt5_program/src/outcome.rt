@@ -2,7 +2,7 @@
 
 use bytes::BytesMut;
 use mqtt5_codec::Codec;
-use mqtt5_drive::{Step, drive, may_start};
+use mqtt5_drive::{Step, drive, empty_needs_more};
 use mqtt5_session::{MqttState, StateError};
 use std::alloc::Global;
 use std::num::NonZeroU16;
@@ -22,7 +22,7 @@ pub fn run_steps(alloc: Global, limit: NonZeroU16, steps: &[Step]) -> Result<Out
     let mut codec = Codec::new();
     let mut input = BytesMut::new(alloc);
     let mut written = BytesMut::new(alloc);
-    may_start();
+    empty_needs_more();
     let fault = drive(
         alloc,
         &mut state,

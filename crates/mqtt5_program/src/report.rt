@@ -2,7 +2,7 @@
 
 use crate::outcome::Outcome;
 use mqtt5_codec::Packet;
-use mqtt5_flow::Publish;
+use mqtt5_publish::Publish;
 use mqtt5_scripts::{write_fault, write_hex, write_message};
 use mqtt5_session::{Event, Outgoing};
 use std::io;

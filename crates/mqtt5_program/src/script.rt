@@ -1,15 +1,15 @@
 //! A script of `drive`: a step on each line.
 
 ghost use Rattle.std.specs.Prelude.{◌≡◌, Some, codes};
-ghost use Rattle.mqtt5_held.specs.declared.event.Request.TheVariants as requests;
+ghost use Rattle.mqtt5_inflight.specs.declared.event.Request.TheVariants as requests;
 
 use bytes::Bytes;
 use mqtt5_base::QoS;
 use mqtt5_drive::{Input, Step};
-use mqtt5_flow::{PubAck, PubRec, PubRel, Publish};
+use mqtt5_publish::{PubAck, PubRec, PubRel, Publish};
 use mqtt5_scripts::{Field, LineError, Script, split_word};
 use mqtt5_session::Request;
-use mqtt5_subs::{Filter, Subscribe, Unsubscribe};
+use mqtt5_subscribe::{Filter, Subscribe, Unsubscribe};
 use std::alloc::Global;
 
 /// The steps of a run, in order.

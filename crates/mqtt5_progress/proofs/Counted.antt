@@ -6,10 +6,10 @@ use Rattle.std.specs.FinMap.{get}
 use Rattle.std.specs.FinSet as set
 use Rattle.mqtt5_base.specs.declared.quality.QoS.{QoS}
 use Rattle.mqtt5_base.specs.declared.quality.QoS.TheVariants.{AtMostOnce, AtLeastOnce, ExactlyOnce}
-use Rattle.mqtt5_flow.specs.declared.publish.Publish.{Publish}
-use Rattle.mqtt5_held.specs.declared.slot.Slot.{Slot}
-use Rattle.mqtt5_held.specs.Held.{Held, awaiting_ack}
-use Rattle.mqtt5_held.specs.Unacked.{by_id, publish_again, release_again, requests_of}
+use Rattle.mqtt5_publish.specs.declared.publish.Publish.{Publish}
+use Rattle.mqtt5_inflight.specs.declared.slot.Slot.{Slot}
+use Rattle.mqtt5_inflight.specs.InUse.{InUse, awaiting_ack}
+use Rattle.mqtt5_inflight.specs.Unacked.{by_id, publish_again, release_again, requests_of}
 use Rattle.mqtt5_session.specs.Session.{Core, Session}
 use Rattle.mqtt5_world.specs.declared.event.WorldEvent.{WorldEvent}
 use Rattle.mqtt5_world.specs.declared.event.WorldEvent.TheVariants as events
@@ -28,15 +28,15 @@ use Rattle.mqtt5_progress.proofs.Settled.{whole, settled_four, deliveries_alone,
 
 -- ---- a core that is idle has nothing to send
 
-none_by_id : {A : Type 0} (f : ℕ → Option Slot → List A) → ((id : ℕ) → f id None ≡ []) → (h : Held) → ((id : ℕ) → get h id ≡ None) → (n : ℕ) → by_id f n h ≡ []
+none_by_id : {A : Type 0} (f : ℕ → Option Slot → List A) → ((id : ℕ) → f id None ≡ []) → (h : InUse) → ((id : ℕ) → get h id ≡ None) → (n : ℕ) → by_id f n h ≡ []
 none_by_id f gives h none zero = refl
 none_by_id f gives h none (suc n) = ap₂ (λ xs ys. xs ++ ys) (none_by_id f gives h none n) (ap (f (suc n)) (none (suc n)) ∙ gives (suc n))
 
 none_stored : (c : Core) → IsIdle c → stored_in c ≡ []
-none_stored c i = none_by_id (λ id slot. option_to_list (awaiting_ack slot)) (λ id. refl) c.held i.held c.limit
+none_stored c i = none_by_id (λ id slot. option_to_list (awaiting_ack slot)) (λ id. refl) c.in_use i.in_use c.limit
 
 none_without : (ids : set.FinSet nat_cmp) (c : Core) → IsIdle c → stored_without ids c ≡ []
-none_without ids c i = none_by_id (λ id slot. cond (set.contains ids id) [] (option_to_list (awaiting_ack slot))) (λ id. by (set.contains ids id)) c.held i.held c.limit
+none_without ids c i = none_by_id (λ id slot. cond (set.contains ids id) [] (option_to_list (awaiting_ack slot))) (λ id. by (set.contains ids id)) c.in_use i.in_use c.limit
   where
     by : (b : Bool) → cond b [] (option_to_list (awaiting_ack None)) ≡ []
     by true = refl
@@ -46,8 +46,8 @@ none_waiting : (c : Core) → IsIdle c → waiting_in c ≡ []
 none_waiting c i = ap option_to_list i.waiting
 
 -- so nothing is given back
-pub nothing_back : (c : Core) → IsIdle c → requests_of c.limit c.held ≡ []
-nothing_back c i = ap₂ (λ xs ys. xs ++ ys) (none_by_id publish_again (λ id. refl) c.held i.held c.limit) (none_by_id release_again (λ id. refl) c.held i.held c.limit)
+pub nothing_back : (c : Core) → IsIdle c → requests_of c.limit c.in_use ≡ []
+nothing_back c i = ap₂ (λ xs ys. xs ++ ys) (none_by_id publish_again (λ id. refl) c.in_use i.in_use c.limit) (none_by_id release_again (λ id. refl) c.in_use i.in_use c.limit)
 
 -- ---- after four rounds
 

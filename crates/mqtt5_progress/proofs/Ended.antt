@@ -3,14 +3,14 @@ use Rattle.std.proofs.Common.{◌≡◌, ◌≢◌, ℕ, false, List, [], ◌∷
 use Rattle.std.specs.Ordering.{nat_cmp}
 use Rattle.std.specs.FinMap.{get, get-empty}
 use Rattle.mqtt5_base.specs.declared.quality.QoS.TheVariants.{ExactlyOnce}
-use Rattle.mqtt5_flow.specs.declared.publish.Publish.{Publish}
+use Rattle.mqtt5_publish.specs.declared.publish.Publish.{Publish}
 use Rattle.mqtt5_codec.specs.declared.packet.Packet.{Packet}
-use Rattle.mqtt5_held.specs.declared.slot.Slot.{Slot}
-use Rattle.mqtt5_held.specs.Resent.{packet_for}
-use Rattle.mqtt5_held.proofs.Within.{get_insert_same}
+use Rattle.mqtt5_inflight.specs.declared.slot.Slot.{Slot}
+use Rattle.mqtt5_inflight.specs.Resent.{packet_for}
+use Rattle.mqtt5_inflight.proofs.Within.{get_insert_same}
 use Rattle.mqtt5_session.specs.Session.{Core, Session}
-use Rattle.mqtt5_session.specs.Requests.{out, release_of}
-use Rattle.mqtt5_session.specs.Packets.{inc}
+use Rattle.mqtt5_session.specs.Requests.{on_request, release_of}
+use Rattle.mqtt5_session.specs.Packets.{on_packet}
 use Rattle.mqtt5_session.proofs.Keeps.{Sound}
 use Rattle.mqtt5_world.specs.declared.event.WorldEvent.{WorldEvent}
 use Rattle.mqtt5_world.specs.declared.event.WorldEvent.TheVariants as events
@@ -27,12 +27,12 @@ use Rattle.mqtt5_progress.proofs.Counted.{nothing_back}
 back_sends : (w : World) (s : Session) (m : ℕ) → s.core ≡ record w.session.core { current = m } → Inv w → IsIdle w.session.core → (resumes (record w { session = s; up = []; down = [] })).up ≡ []
 back_sends w s m e i idle =
     let sound : Sound s.core = subst Sound (sym e) i.sound in
-    let allowed : (id : ℕ) → SlotAllowed s.core.alias_max (get s.core.held id) = subst (λ (c : Core). (id : ℕ) → SlotAllowed c.alias_max (get c.held id)) (sym e) i.allowed in
-    let none : IsIdle s.core = subst IsIdle (sym e) (record { held = idle.held; waiting = idle.waiting }) in
+    let allowed : (id : ℕ) → SlotAllowed s.core.alias_max (get s.core.in_use id) = subst (λ (c : Core). (id : ℕ) → SlotAllowed c.alias_max (get c.in_use id)) (sym e) i.allowed in
+    let none : IsIdle s.core = subst IsIdle (sym e) (record { in_use = idle.in_use; waiting = idle.waiting }) in
     subst (λ r. (resumed (record w { session = s; up = []; down = [] }) r).up ≡ []) (sym (sends_again s sound allowed)) (ap (filter_map packet_for) (nothing_back s.core none))
 
 loss_sends : (w : World) (m : Option ℕ) → Inv w → IsIdle w.session.core → (resumes (takes (record w { up = []; down = [] }) (taken_back m))).up ≡ []
-unfolding inc
+unfolding on_packet
 loss_sends w None i idle = back_sends w _ w.session.core.current refl i idle
 loss_sends w (Some m) i idle = back_sends w _ _ refl i idle
 
@@ -51,7 +51,7 @@ abbrev two_of_one : List WorldEvent
 two_of_one = events.Publish sample ∷ events.Publish sample ∷ []
 
 third : (settle 3 (run two_of_one (start 1))).up ≡ release_of 1 ∷ []
-unfolding out inc
+unfolding on_request on_packet
 third = simp (get-empty {X = Slot} nat_cmp, get_insert_same) refl
 
 not_none : (x : Packet) (us : List Packet) → us ≡ x ∷ [] → us ≢ []

@@ -15,22 +15,22 @@ use Rattle.std.proofs.lemmas.List.Filters.{sum_by-filter_both}
 use Rattle.std.proofs.lemmas.List.Sums.{sum_by-append}
 use Rattle.mqtt5_base.specs.declared.quality.QoS.{QoS}
 use Rattle.mqtt5_base.specs.declared.quality.QoS.TheVariants.{AtMostOnce, AtLeastOnce, ExactlyOnce}
-use Rattle.mqtt5_flow.specs.declared.publish.Publish.{Publish}
+use Rattle.mqtt5_publish.specs.declared.publish.Publish.{Publish}
 use Rattle.mqtt5_codec.specs.declared.packet.Packet.{Packet}
 use Rattle.mqtt5_codec.specs.declared.packet.Packet.TheVariants as packets
-use Rattle.mqtt5_held.specs.declared.slot.Slot.{Slot}
-use Rattle.mqtt5_held.specs.declared.event.Request.TheVariants as requests
-use Rattle.mqtt5_held.specs.declared.error.StateError.{StateError}
-use Rattle.mqtt5_held.specs.Held.{Held, awaiting_ack}
-use Rattle.mqtt5_held.specs.Unacked.{by_id}
+use Rattle.mqtt5_inflight.specs.declared.slot.Slot.{Slot}
+use Rattle.mqtt5_inflight.specs.declared.event.Request.TheVariants as requests
+use Rattle.mqtt5_inflight.specs.declared.error.StateError.{StateError}
+use Rattle.mqtt5_inflight.specs.InUse.{InUse, awaiting_ack}
+use Rattle.mqtt5_inflight.specs.Unacked.{by_id}
 use Rattle.mqtt5_session.specs.Session.{Session}
-use Rattle.mqtt5_session.specs.Requests.{out}
-use Rattle.mqtt5_session.specs.Packets.{inc, pubcomp_of}
-use Rattle.mqtt5_session.specs.Cleaning.{Sendings, resume_of}
+use Rattle.mqtt5_session.specs.Requests.{on_request}
+use Rattle.mqtt5_session.specs.Packets.{on_packet, pubcomp_of}
+use Rattle.mqtt5_session.specs.Resuming.{Sendings, resume_of}
 use Rattle.mqtt5_world.specs.declared.event.WorldEvent.{WorldEvent}
 use Rattle.mqtt5_world.specs.declared.event.WorldEvent.TheVariants as events
 use Rattle.mqtt5_world.specs.Broker.{Broker, Served, idle, serve_publish, serve, reason_for}
-use Rattle.mqtt5_world.specs.World.{World, start, asked, arrives, heard, takes, returns, taken_back, resumed, resumes, happens, run}
+use Rattle.mqtt5_world.specs.World.{World, start, asked, arrives, after_reply, takes, returns, taken_back, resumed, resumes, happens, run}
 use Rattle.mqtt5_world.specs.Delivery.{IsClass, stored_in, stored_without, waiting_in}
 use Rattle.mqtt5_world.proofs.Step.{one, count_push}
 use Rattle.mqtt5_world.proofs.Contents as contents
@@ -218,12 +218,12 @@ module _ (b : Broker) where
   asked_left w p (Ok reply) s = record { around = refl; broker = refl }
   asked_left w p (Err e) s = record { around = refl; broker = refl }
 
-  heard_left : (w : World) (r : Result (Option Packet) StateError) (s : Session) → Left b w (heard w r s) (heard (with b w) r s)
+  heard_left : (w : World) (r : Result (Option Packet) StateError) (s : Session) → Left b w (after_reply w r s) (after_reply (with b w) r s)
   heard_left w (Ok reply) s = record { around = refl; broker = refl }
   heard_left w (Err e) s = record { around = refl; broker = refl }
 
   takes_left : (w : World) (p : Packet) → Left b w (takes w p) (takes (with b w) p)
-  takes_left w p = heard_left w (inc w.session p 0).0 (inc w.session p 0).1
+  takes_left w p = heard_left w (on_packet w.session p 0).0 (on_packet w.session p 0).1
 
   returns_left : (w : World) (ds : List Packet) → Left b w (returns w ds) (returns (with b w) ds)
   returns_left w [] = record { around = refl; broker = refl }
@@ -249,7 +249,7 @@ arrives_beside l w (x ∷ rest) t =
     record { same = ap (λ o. record w { broker = idle; up = rest; down = w.down ++ option_to_list o }) a.reply; tied = a.tied }
 
 happens_beside : (l : Late) (w : World) (e : WorldEvent) → Tied l w.broker → Beside (happens_late (record { around = with idle w; broker = l }) e) (happens w e)
-happens_beside l w (events.Publish p) t = goes_on l w _ _ t (asked_left idle w p (out w.session (requests.Publish p) 0).0 (out w.session (requests.Publish p) 0).1)
+happens_beside l w (events.Publish p) t = goes_on l w _ _ t (asked_left idle w p (on_request w.session (requests.Publish p) 0).0 (on_request w.session (requests.Publish p) 0).1)
 happens_beside l w events.Up t = arrives_beside l w w.up t
 happens_beside l w events.Down t = goes_on l w _ _ t (returns_left idle w w.down)
 happens_beside l w (events.Loss m) t =
@@ -316,10 +316,10 @@ module _ (limit : ℕ) (es : List WorldEvent) where
 
   without_is : stored_without_late late ≡ stored_without early.broker.ids early.session.core
   without_is =
-      ap (λ (a : World). by_id (λ id slot. cond (has_id id late.broker.stored) [] (option_to_list (awaiting_ack slot))) a.session.core.limit a.session.core.held) same_world
-      ∙ by_same early.session.core.limit early.session.core.held
+      ap (λ (a : World). by_id (λ id slot. cond (has_id id late.broker.stored) [] (option_to_list (awaiting_ack slot))) a.session.core.limit a.session.core.in_use) same_world
+      ∙ by_same early.session.core.limit early.session.core.in_use
     where
-      by_same : (n : ℕ) (h : Held) → by_id (λ id slot. cond (has_id id late.broker.stored) [] (option_to_list (awaiting_ack slot))) n h ≡ by_id (λ id slot. cond (set.contains early.broker.ids id) [] (option_to_list (awaiting_ack slot))) n h
+      by_same : (n : ℕ) (h : InUse) → by_id (λ id slot. cond (has_id id late.broker.stored) [] (option_to_list (awaiting_ack slot))) n h ≡ by_id (λ id slot. cond (set.contains early.broker.ids id) [] (option_to_list (awaiting_ack slot))) n h
       by_same zero h = refl
       by_same (suc n) h = ap₂ (λ xs b. xs ++ cond b [] (option_to_list (awaiting_ack (get h (suc n))))) (by_same n h) (same_ids (suc n))
 

@@ -7,25 +7,25 @@ use Rattle.std.specs.FinMap.{get, insert, remove}
 use Rattle.std.specs.FinSet as set
 use Rattle.mqtt5_base.specs.declared.quality.QoS.{QoS}
 use Rattle.mqtt5_base.specs.declared.quality.QoS.TheVariants.{AtMostOnce, AtLeastOnce, ExactlyOnce}
-use Rattle.mqtt5_flow.specs.declared.publish.Publish.{Publish}
-use Rattle.mqtt5_flow.specs.declared.puback.PubAckReason.{PubAckReason}
-use Rattle.mqtt5_flow.specs.declared.pubrel.PubRelReason.{PubRelReason}
-use Rattle.mqtt5_flow.specs.declared.pubrel.PubRelReason.TheVariants as pubrel_reasons
-use Rattle.mqtt5_link.specs.declared.connack.ConnectReturnCode.{ConnectReturnCode}
-use Rattle.mqtt5_link.specs.declared.connack.ConnectReturnCode.TheVariants as return_codes
-use Rattle.mqtt5_link.specs.declared.connack.ConnAckProperties.{ConnAckProperties}
-use Rattle.mqtt5_link.specs.declared.disconnect.DisconnectReasonCode.TheVariants.{ProtocolError}
+use Rattle.mqtt5_publish.specs.declared.publish.Publish.{Publish}
+use Rattle.mqtt5_publish.specs.declared.puback.PubAckReason.{PubAckReason}
+use Rattle.mqtt5_publish.specs.declared.pubrel.PubRelReason.{PubRelReason}
+use Rattle.mqtt5_publish.specs.declared.pubrel.PubRelReason.TheVariants as pubrel_reasons
+use Rattle.mqtt5_control.specs.declared.connack.ConnectReturnCode.{ConnectReturnCode}
+use Rattle.mqtt5_control.specs.declared.connack.ConnectReturnCode.TheVariants as return_codes
+use Rattle.mqtt5_control.specs.declared.connack.ConnAckProperties.{ConnAckProperties}
+use Rattle.mqtt5_control.specs.declared.disconnect.DisconnectReasonCode.TheVariants.{ProtocolError}
 use Rattle.mqtt5_codec.specs.declared.packet.Packet.{Packet}
 use Rattle.mqtt5_codec.specs.declared.packet.Packet.TheVariants as packets
-use Rattle.mqtt5_held.specs.declared.slot.Slot.{Slot}
-use Rattle.mqtt5_held.specs.declared.slot.Slot.TheVariants.{Sent, Released}
-use Rattle.mqtt5_held.specs.declared.event.Outgoing.TheVariants as outgoing
-use Rattle.mqtt5_held.specs.declared.error.StateError.{StateError}
-use Rattle.mqtt5_held.specs.Held.{Held}
-use Rattle.mqtt5_held.proofs.Within.{get_insert_same, get_insert_other}
+use Rattle.mqtt5_inflight.specs.declared.slot.Slot.{Slot}
+use Rattle.mqtt5_inflight.specs.declared.slot.Slot.TheVariants.{Sent, Released}
+use Rattle.mqtt5_inflight.specs.declared.event.Outgoing.TheVariants as outgoing
+use Rattle.mqtt5_inflight.specs.declared.error.StateError.{StateError}
+use Rattle.mqtt5_inflight.specs.InUse.{InUse}
+use Rattle.mqtt5_inflight.proofs.Within.{get_insert_same, get_insert_other}
 use Rattle.mqtt5_session.specs.Session.{Core, Session, Answer}
 use Rattle.mqtt5_session.specs.Requests.{release_of, disconnect_of}
-use Rattle.mqtt5_session.specs.Packets.{inc, heard, notes, told, takes, freed_for, on_puback, on_received, on_pubrec, on_pubcomp, on_released, on_pubrel, on_qos, answers, on_publish, on_connack, is_taken, topic_of, puback_of, pubrec_of, pubcomp_of}
+use Rattle.mqtt5_session.specs.Packets.{on_packet, answer_to, with_notice, event_of, takes, freed_for, on_puback, on_received, on_pubrec, on_pubcomp, on_released, on_pubrel, on_qos, answers, on_publish, on_connack, is_taken, topic_of, puback_of, pubrec_of, pubcomp_of}
 use Rattle.mqtt5_session.proofs.Owed.{choose}
 use Rattle.mqtt5_world.proofs.Places.{get_remove_other}
 use Rattle.mqtt5_progress.specs.Progress.{work_of, work_up, work_down}
@@ -51,20 +51,20 @@ rounds_down other = 1
 -- ---- what waits
 
 -- what waits waits for an id in use
-abbrev pub WaitsFor : Held → Option Publish → Type 0
+abbrev pub WaitsFor : InUse → Option Publish → Type 0
 WaitsFor h None = Unit {0}
 WaitsFor h (Some p) = get h p.pkid ≢ None
 
 abbrev pub Waits : Core → Type 0
-Waits c = WaitsFor c.held c.waiting
+Waits c = WaitsFor c.in_use c.waiting
 
-pub in_use : (x : Option Slot) (y : Slot) → x ≡ Some y → x ≢ None
-in_use x y e f = absurd cc
+pub not_free : (x : Option Slot) (y : Slot) → x ≡ Some y → x ≢ None
+not_free x y e f = absurd cc
 
-pub waits_insert : (h : Held) (o : Option Publish) (k : ℕ) (x : Slot) → WaitsFor h o → WaitsFor (insert h k x) o
+pub waits_insert : (h : InUse) (o : Option Publish) (k : ℕ) (x : Slot) → WaitsFor h o → WaitsFor (insert h k x) o
 waits_insert h None k x w = tt {0}
 waits_insert h (Some p) k x w = ⊎_elim
-    (λ (e : p.pkid ≡ k). in_use _ x (ap (get (insert h k x)) e ∙ get_insert_same h k x))
+    (λ (e : p.pkid ≡ k). not_free _ x (ap (get (insert h k x)) e ∙ get_insert_same h k x))
     (λ (ne : p.pkid ≢ k). λ e. w (sym (get_insert_other h k x p.pkid ne) ∙ e))
     (cases_eq p.pkid k)
 
@@ -87,17 +87,17 @@ refused s x e = Still (Err e) s refl refl (λ w. w)
 -- an id is made free
 module _ (s : Session) (k : ℕ) (x : Packet) where
   abbrev removed : Session
-  removed = record s { core = record s.core { held = remove s.core.held k } }
+  removed = record s { core = record s.core { in_use = remove s.core.in_use k } }
 
   pub freed_moves : (o : Option Publish) → s.core.waiting ≡ o → Move s.core x (freed_for o s k 0)
-  freed_moves None e = Still _ _ refl refl (λ _. subst (WaitsFor (remove s.core.held k)) (sym e) (tt {0}))
+  freed_moves None e = Still _ _ refl refl (λ _. subst (WaitsFor (remove s.core.in_use k)) (sym e) (tt {0}))
   freed_moves (Some p) e =
       choose (Move s.core x) (p.pkid == k) _ (takes removed 0)
       (λ same. LetsGo p _ _ refl e refl)
       (λ other. Still _ _ refl refl (λ w.
-      let v : WaitsFor s.core.held (Some p) = subst (WaitsFor s.core.held) e w in
-      let still : WaitsFor (remove s.core.held k) (Some p) = λ g. v (sym (get_remove_other s.core.held k p.pkid (eqb-false p.pkid k other)) ∙ g) in
-      subst (WaitsFor (remove s.core.held k)) (sym e) still))
+      let v : WaitsFor s.core.in_use (Some p) = subst (WaitsFor s.core.in_use) e w in
+      let still : WaitsFor (remove s.core.in_use k) (Some p) = λ g. v (sym (get_remove_other s.core.in_use k p.pkid (eqb-false p.pkid k other)) ∙ g) in
+      subst (WaitsFor (remove s.core.in_use k)) (sym e) still))
 
 puback_moves : (s : Session) (k : ℕ) (x : Packet) (slot : Option Slot) → Move s.core x (on_puback slot s k 0)
 puback_moves s k x (Some (Sent p)) = freed_moves s k x s.core.waiting refl
@@ -105,7 +105,7 @@ puback_moves s k x (Some Released) = refused s x _
 puback_moves s k x None = refused s x _
 
 received_moves : (s : Session) (k : ℕ) (x : Packet) (taken : Bool) → rounds_down x ≡ 2 → 3 ≤ work_down x → Move s.core x (on_received taken s k 0)
-received_moves s k x true e le = Answers (release_of k) _ _ refl refl e le refl (waits_insert s.core.held s.core.waiting k Released)
+received_moves s k x true e le = Answers (release_of k) _ _ refl refl e le refl (waits_insert s.core.in_use s.core.waiting k Released)
 received_moves s k x false e le = freed_moves s k x s.core.waiting refl
 
 pubrec_moves : (s : Session) (k : ℕ) (x : Packet) (slot : Option Slot) (reason : PubAckReason) → rounds_down x ≡ 2 → 3 ≤ work_down x → Move s.core x (on_pubrec slot s reason k 0)
@@ -139,10 +139,10 @@ connack_moves : (s : Session) (x : Packet) (code : ConnectReturnCode) (o : Optio
 connack_moves s x return_codes.Success o = Still _ _ refl refl (λ w. w)
 connack_moves s x other o = refused s x _
 
-heard_moves : (s : Session) (x : Packet) → Move s.core x (heard s x 0)
-heard_moves s (packets.PubAck a) = puback_moves s a.pkid _ (get s.core.held a.pkid)
-heard_moves s (packets.PubRec a) = pubrec_moves s a.pkid (packets.PubRec a) (get s.core.held a.pkid) a.reason refl (omega arith)
-heard_moves s (packets.PubComp a) = pubcomp_moves s a.pkid _ (get s.core.held a.pkid)
+heard_moves : (s : Session) (x : Packet) → Move s.core x (answer_to s x 0)
+heard_moves s (packets.PubAck a) = puback_moves s a.pkid _ (get s.core.in_use a.pkid)
+heard_moves s (packets.PubRec a) = pubrec_moves s a.pkid (packets.PubRec a) (get s.core.in_use a.pkid) a.reason refl (omega arith)
+heard_moves s (packets.PubComp a) = pubcomp_moves s a.pkid _ (get s.core.in_use a.pkid)
 heard_moves s (packets.PubRel a) = pubrel_moves s a.pkid (packets.PubRel a) (set.contains s.core.incoming a.pkid) a.reason refl (omega arith)
 heard_moves s (packets.Publish p) = publish_moves s p (packets.Publish p) (is_some (topic_of s p)) refl (omega arith)
 heard_moves s (packets.ConnAck a) = connack_moves s _ a.code a.properties
@@ -153,10 +153,10 @@ heard_moves s (packets.Disconnect p) = refused s _ _
 heard_moves s other = refused s _ _
 
 -- what is told of a packet changes no core
-notes_core : (s : Session) (o : Option Packet) → (notes s o).core ≡ s.core
+notes_core : (s : Session) (o : Option Packet) → (with_notice s o).core ≡ s.core
 notes_core s None = refl
 notes_core s (Some x) = refl
 
-pub moves : (s : Session) (x : Packet) → Move s.core x (inc s x 0)
-unfolding inc
-moves s x = subst (λ c. Move c x (heard (notes s (told s x)) x 0)) (notes_core s (told s x)) (heard_moves (notes s (told s x)) x)
+pub moves : (s : Session) (x : Packet) → Move s.core x (on_packet s x 0)
+unfolding on_packet
+moves s x = subst (λ c. Move c x (answer_to (with_notice s (event_of s x)) x 0)) (notes_core s (event_of s x)) (heard_moves (with_notice s (event_of s x)) x)

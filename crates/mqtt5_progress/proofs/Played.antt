@@ -1,10 +1,10 @@
 -- The loops of deliveries in the code.
 use Rattle.std.proofs.Common.{◌≡◌, ℕ, zero, suc, ◌+◌, ◌-◌, ◌<◌, ◌≤◌, List, [], ◌∷◌, ◌++◌, length, map, drop, Err, refl, sym, ap, ◌∙◌, subst, arith}
 use Rattle.std.proofs.Math.Seq.{drop-cons}
-use Rattle.mqtt5_flow.specs.declared.publish.Publish.{Publish}
+use Rattle.mqtt5_publish.specs.declared.publish.Publish.{Publish}
 use Rattle.mqtt5_codec.specs.declared.packet.Packet.{Packet}
-use Rattle.mqtt5_held.specs.declared.error.StateError.{StateError}
-use Rattle.mqtt5_held.specs.declared.error.StateError.TheVariants as errors
+use Rattle.mqtt5_inflight.specs.declared.error.StateError.{StateError}
+use Rattle.mqtt5_inflight.specs.declared.error.StateError.TheVariants as errors
 use Rattle.mqtt5_session.specs.Requests.{release_of}
 use Rattle.mqtt5_world.specs.declared.event.WorldEvent.{WorldEvent}
 use Rattle.mqtt5_world.specs.World.{World, happens, run, start}

@@ -4,14 +4,14 @@ use Rattle.std.specs.Option.{option_to_list}
 use Rattle.std.specs.FinSet as set
 use Rattle.mqtt5_base.specs.declared.quality.QoS.{QoS}
 use Rattle.mqtt5_base.specs.declared.quality.QoS.TheVariants.{AtMostOnce, AtLeastOnce, ExactlyOnce}
-use Rattle.mqtt5_flow.specs.declared.publish.Publish.{Publish}
+use Rattle.mqtt5_publish.specs.declared.publish.Publish.{Publish}
 use Rattle.mqtt5_codec.specs.declared.packet.Packet.{Packet}
 use Rattle.mqtt5_codec.specs.declared.packet.Packet.TheVariants as packets
-use Rattle.mqtt5_held.specs.declared.error.StateError.{StateError}
+use Rattle.mqtt5_inflight.specs.declared.error.StateError.{StateError}
 use Rattle.mqtt5_session.specs.Session.{Session, Answer}
-use Rattle.mqtt5_session.specs.Packets.{inc, puback_of, pubrec_of, pubcomp_of}
+use Rattle.mqtt5_session.specs.Packets.{on_packet, puback_of, pubrec_of, pubcomp_of}
 use Rattle.mqtt5_world.specs.Broker.{serve, serve_publish, reason_for}
-use Rattle.mqtt5_world.specs.World.{World, served, arrives, heard, returns, run}
+use Rattle.mqtt5_world.specs.World.{World, served, arrives, after_reply, returns, run}
 use Rattle.mqtt5_progress.specs.Progress.{all_up, all_down, upward, downward, round, settle}
 use Rattle.mqtt5_progress.proofs.Moves.{rounds_of, rounds_up, rounds_down, sent, Move, Still, LetsGo, Answers, moves}
 
@@ -132,25 +132,25 @@ pub record Becomes (rest : List Packet) (w w' : World) (r : Result (Option Packe
   pub session : w'.session ≡ t
   pub up : w'.up ≡ w.up ++ sent r
 
-pub becomes : (w : World) (rest : List Packet) (r : Result (Option Packet) StateError) (t : Session) → Becomes rest w (heard (record w { down = rest }) r t) r t
+pub becomes : (w : World) (rest : List Packet) (r : Result (Option Packet) StateError) (t : Session) → Becomes rest w (after_reply (record w { down = rest }) r t) r t
 becomes w rest (Ok reply) t = record { down = refl; session = refl; up = refl }
 becomes w rest (Err e) t = record { down = refl; session = refl; up = sym (append-nil w.up) }
 
 module _ (n : ℕ) (w : World) (rest : List Packet) (x : Packet) (le : rounds_down x + later w.session.core.waiting ≤ suc n) (up : Within rounds_up n (later w.session.core.waiting) w.up) where
   -- after it these packets go up, and this waits
-  gone : (r : Result (Option Packet) StateError) (t : Session) (ps : List Packet) (o : Option Publish) → sent r ≡ ps → t.core.waiting ≡ o → later o ≤ later w.session.core.waiting → Within rounds_up n (later o) ps → Read n rest w (heard (record w { down = rest }) r t)
+  gone : (r : Result (Option Packet) StateError) (t : Session) (ps : List Packet) (o : Option Publish) → sent r ≡ ps → t.core.waiting ≡ o → later o ≤ later w.session.core.waiting → Within rounds_up n (later o) ps → Read n rest w (after_reply (record w { down = rest }) r t)
   gone r t ps o s e less h =
       let b = becomes w rest r t in
-      let same : later (heard (record w { down = rest }) r t).session.core.waiting ≡ later o = ap (λ (s : Session). later s.core.waiting) b.session ∙ ap later e in
-      let ups : (heard (record w { down = rest }) r t).up ≡ w.up ++ ps = b.up ∙ ap (λ qs. w.up ++ qs) s in
+      let same : later (after_reply (record w { down = rest }) r t).session.core.waiting ≡ later o = ap (λ (s : Session). later s.core.waiting) b.session ∙ ap later e in
+      let ups : (after_reply (record w { down = rest }) r t).up ≡ w.up ++ ps = b.up ∙ ap (λ qs. w.up ++ qs) s in
       let all : Within rounds_up n (later o) (w.up ++ ps) = within_append rounds_up n (later o) w.up ps (within_less rounds_up n _ (later o) w.up less up) h in
       record {
         down = b.down;
-        up = subst (λ m. Within rounds_up n m (heard (record w { down = rest }) r t).up) (sym same) (subst (Within rounds_up n (later o)) (sym ups) all);
+        up = subst (λ m. Within rounds_up n m (after_reply (record w { down = rest }) r t).up) (sym same) (subst (Within rounds_up n (later o)) (sym ups) all);
         less = subst (λ m. m ≤ later w.session.core.waiting) (sym same) less;
       }
 
-  read_move : (a : Answer) → Move w.session.core x a → Read n rest w (heard (record w { down = rest }) a.0 a.1)
+  read_move : (a : Answer) → Move w.session.core x a → Read n rest w (after_reply (record w { down = rest }) a.0 a.1)
   read_move a (Still r t s e keeps) = gone r t [] w.session.core.waiting s e (omega arith) (tt {0})
   read_move a (LetsGo p r t s was is) =
       let two = ap later was in
@@ -164,8 +164,8 @@ module _ (n : ℕ) (w : World) (rest : List Packet) (x : Packet) (le : rounds_do
 all_read : (n : ℕ) (ds : List Packet) (w : World) → w.down ≡ ds → Within rounds_down (suc n) (later w.session.core.waiting) ds → Within rounds_up n (later w.session.core.waiting) w.up → Read n [] w (run (all_down ds) w)
 all_read n [] w e h up = record { down = e; up = up; less = omega arith }
 all_read n (x ∷ ds) w e h up =
-    let next : World = heard (record w { down = ds }) (inc w.session x 0).0 (inc w.session x 0).1 in
-    let t : Read n ds w next = read_move n w ds x h.0 up (inc w.session x 0) (moves w.session x) in
+    let next : World = after_reply (record w { down = ds }) (on_packet w.session x 0).0 (on_packet w.session x 0).1 in
+    let t : Read n ds w next = read_move n w ds x h.0 up (on_packet w.session x 0) (moves w.session x) in
     let all = all_read n ds next t.down (within_less rounds_down (suc n) _ _ ds t.less h.1) t.up in
     let whole : Read n [] w (run (all_down ds) next) = record {
       down = all.down;

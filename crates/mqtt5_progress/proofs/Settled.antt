@@ -2,15 +2,15 @@
 use Rattle.std.proofs.Common.{◌≡◌, ℕ, zero, suc, ◌+◌, Bool, true, false, List, [], ◌∷◌, ◌++◌, filter, Option, Some, None, Ok, Err, refl, sym, ap, ◌∙◌, subst, arith}
 use Rattle.std.specs.FinMap.{get}
 use Rattle.std.specs.FinSet as set
-use Rattle.mqtt5_flow.specs.declared.publish.Publish.{Publish}
+use Rattle.mqtt5_publish.specs.declared.publish.Publish.{Publish}
 use Rattle.mqtt5_codec.specs.declared.packet.Packet.{Packet}
 use Rattle.mqtt5_session.specs.Session.{Answer}
-use Rattle.mqtt5_session.specs.Packets.{inc}
-use Rattle.mqtt5_held.specs.declared.slot.Slot.{Slot}
-use Rattle.mqtt5_held.specs.Held.{Held}
+use Rattle.mqtt5_session.specs.Packets.{on_packet}
+use Rattle.mqtt5_inflight.specs.declared.slot.Slot.{Slot}
+use Rattle.mqtt5_inflight.specs.InUse.{InUse}
 use Rattle.mqtt5_world.specs.declared.event.WorldEvent.{WorldEvent}
 use Rattle.mqtt5_world.specs.declared.event.WorldEvent.TheVariants as events
-use Rattle.mqtt5_world.specs.World.{World, arrives, heard, returns, happens, run, start, losses}
+use Rattle.mqtt5_world.specs.World.{World, arrives, after_reply, returns, happens, run, start, losses}
 use Rattle.mqtt5_world.specs.Delivery.{is_token_up, is_token_down, Token, Free, PublishUp, PubAckDown, PublishTwiceUp, PubRecDown, PubRelUp, PubCompDown}
 use Rattle.mqtt5_world.proofs.Step.{Inv}
 use Rattle.mqtt5_world.proofs.Runs.{inv_run, inv_start, run_append, losses_append}
@@ -31,7 +31,7 @@ no_token (PubRecDown p q) u d = absurd cc
 no_token (PubRelUp b) u d = absurd cc
 no_token (PubCompDown b) u d = absurd cc
 
-none_waits : (h : Held) (o : Option Publish) → ((id : ℕ) → get h id ≡ None) → WaitsFor h o → o ≡ None
+none_waits : (h : InUse) (o : Option Publish) → ((id : ℕ) → get h id ≡ None) → WaitsFor h o → o ≡ None
 none_waits h None none w = refl
 none_waits h (Some p) none w = absurd (w (none p.pkid))
 
@@ -40,12 +40,12 @@ settled w i waits u d =
     record {
       up = u;
       down = d;
-      core = record { held = λ id. (free id).0; waiting = none_waits w.session.core.held w.session.core.waiting (λ id. (free id).0) waits };
+      core = record { in_use = λ id. (free id).0; waiting = none_waits w.session.core.in_use w.session.core.waiting (λ id. (free id).0) waits };
       ids = λ id. (free id).1;
       faults = i.none;
     }
   where
-    free : (id : ℕ) → (get w.session.core.held id ≡ None) × (set.contains w.broker.ids id ≡ false)
+    free : (id : ℕ) → (get w.session.core.in_use id ≡ None) × (set.contains w.broker.ids id ≡ false)
     free id = no_token (i.tokens id) (ap (filter (is_token_up id)) u) (ap (filter (is_token_down id)) d)
 
 -- in a world that is reached
@@ -112,13 +112,13 @@ arrives_unasked : (w : World) (us : List Packet) → Unasked w (arrives w us)
 arrives_unasked w [] = record { accepted = refl; refused = refl }
 arrives_unasked w (x ∷ us) = record { accepted = refl; refused = refl }
 
-heard_unasked : (w : World) (ds : List Packet) (a : Answer) → Unasked w (heard (record w { down = ds }) a.0 a.1)
+heard_unasked : (w : World) (ds : List Packet) (a : Answer) → Unasked w (after_reply (record w { down = ds }) a.0 a.1)
 heard_unasked w ds (Ok reply, s) = record { accepted = refl; refused = refl }
 heard_unasked w ds (Err e, s) = record { accepted = refl; refused = refl }
 
 returns_unasked : (w : World) (ds : List Packet) → Unasked w (returns w ds)
 returns_unasked w [] = record { accepted = refl; refused = refl }
-returns_unasked w (x ∷ ds) = heard_unasked w ds (inc w.session x 0)
+returns_unasked w (x ∷ ds) = heard_unasked w ds (on_packet w.session x 0)
 
 then_unasked : {u v w : World} → Unasked u v → Unasked v w → Unasked u w
 then_unasked a b = record { accepted = b.accepted ∙ a.accepted; refused = b.refused ∙ a.refused }

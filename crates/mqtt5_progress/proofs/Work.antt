@@ -6,16 +6,16 @@ use Rattle.std.specs.FinSet as set
 use Rattle.std.proofs.lemmas.List.Sums.{sum_by-append, sum_by-cons}
 use Rattle.mqtt5_base.specs.declared.quality.QoS.{QoS}
 use Rattle.mqtt5_base.specs.declared.quality.QoS.TheVariants.{AtMostOnce, AtLeastOnce, ExactlyOnce}
-use Rattle.mqtt5_flow.specs.declared.publish.Publish.{Publish}
+use Rattle.mqtt5_publish.specs.declared.publish.Publish.{Publish}
 use Rattle.mqtt5_codec.specs.declared.packet.Packet.{Packet}
 use Rattle.mqtt5_codec.specs.declared.packet.Packet.TheVariants as packets
-use Rattle.mqtt5_held.specs.declared.error.StateError.{StateError}
+use Rattle.mqtt5_inflight.specs.declared.error.StateError.{StateError}
 use Rattle.mqtt5_session.specs.Session.{Session, Answer}
-use Rattle.mqtt5_session.specs.Packets.{inc, puback_of, pubrec_of, pubcomp_of}
+use Rattle.mqtt5_session.specs.Packets.{on_packet, puback_of, pubrec_of, pubcomp_of}
 use Rattle.mqtt5_world.specs.declared.event.WorldEvent.{WorldEvent}
 use Rattle.mqtt5_world.specs.declared.event.WorldEvent.TheVariants as events
 use Rattle.mqtt5_world.specs.Broker.{Broker, Served, serve, serve_publish, reason_for}
-use Rattle.mqtt5_world.specs.World.{World, start, served, arrives, heard, returns, happens, run}
+use Rattle.mqtt5_world.specs.World.{World, start, served, arrives, after_reply, returns, happens, run}
 use Rattle.mqtt5_world.proofs.Runs.{run_append}
 use Rattle.mqtt5_progress.specs.Progress.{work_of, work_up, work_down, work_waiting, work, found, delivered, Deliveries, Settled}
 use Rattle.mqtt5_progress.proofs.Moves.{sent, Move, Still, LetsGo, Answers, moves}
@@ -67,7 +67,7 @@ some_up other = omega arith
 
 module _ (w : World) (x : Packet) (ds : List Packet) (e : w.down ≡ x ∷ ds) where
   -- after it these packets go up, and this waits
-  gone : (r : Result (Option Packet) StateError) (t : Session) (ps : List Packet) (o : Option Publish) → sent r ≡ ps → t.core.waiting ≡ o → sum_by work_up ps + work_waiting o + 1 ≤ work_down x + work_waiting w.session.core.waiting → work (heard (record w { down = ds }) r t) + 1 ≤ work w
+  gone : (r : Result (Option Packet) StateError) (t : Session) (ps : List Packet) (o : Option Publish) → sent r ≡ ps → t.core.waiting ≡ o → sum_by work_up ps + work_waiting o + 1 ≤ work_down x + work_waiting w.session.core.waiting → work (after_reply (record w { down = ds }) r t) + 1 ≤ work w
   gone r t ps o s f le =
       let b = becomes w ds r t in
       let u = ap (sum_by work_up) (b.up ∙ ap (λ qs. w.up ++ qs) s) in
@@ -78,7 +78,7 @@ module _ (w : World) (x : Packet) (ds : List Packet) (e : w.down ≡ x ∷ ds) w
       let c = sum_by-cons work_down x ds in
       omega (arith, u, v, d, m, a, c, le)
 
-  move_lowers : (a : Answer) → Move w.session.core x a → work (heard (record w { down = ds }) a.0 a.1) + 1 ≤ work w
+  move_lowers : (a : Answer) → Move w.session.core x a → work (after_reply (record w { down = ds }) a.0 a.1) + 1 ≤ work w
   move_lowers a (Still r t s f keeps) = gone r t [] w.session.core.waiting s f (let a = some_down x in omega (arith, a))
   move_lowers a (LetsGo p r t s was is) =
       gone r t (packets.Publish p ∷ []) None s is
@@ -87,7 +87,7 @@ module _ (w : World) (x : Packet) (ds : List Packet) (e : w.down ≡ x ∷ ds) w
 
 down_lowers : (w : World) (ds : List Packet) → w.down ≡ ds → work (returns w ds) + found ds ≤ work w
 down_lowers w [] e = omega arith
-down_lowers w (x ∷ ds) e = move_lowers w x ds e (inc w.session x 0) (moves w.session x)
+down_lowers w (x ∷ ds) e = move_lowers w x ds e (on_packet w.session x 0) (moves w.session x)
 
 -- ---- runs
 

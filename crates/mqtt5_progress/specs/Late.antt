@@ -4,11 +4,11 @@ use Rattle.std.specs.List.{list_any}
 use Rattle.std.specs.Option.{option_to_list}
 use Rattle.mqtt5_base.specs.declared.quality.QoS.{QoS}
 use Rattle.mqtt5_base.specs.declared.quality.QoS.TheVariants.{AtMostOnce, AtLeastOnce, ExactlyOnce}
-use Rattle.mqtt5_flow.specs.declared.publish.Publish.{Publish}
+use Rattle.mqtt5_publish.specs.declared.publish.Publish.{Publish}
 use Rattle.mqtt5_codec.specs.declared.packet.Packet.{Packet}
 use Rattle.mqtt5_codec.specs.declared.packet.Packet.TheVariants as packets
-use Rattle.mqtt5_held.specs.Held.{awaiting_ack}
-use Rattle.mqtt5_held.specs.Unacked.{by_id}
+use Rattle.mqtt5_inflight.specs.InUse.{awaiting_ack}
+use Rattle.mqtt5_inflight.specs.Unacked.{by_id}
 use Rattle.mqtt5_session.specs.Session.{Core}
 use Rattle.mqtt5_session.specs.Packets.{puback_of, pubrec_of, pubcomp_of}
 use Rattle.mqtt5_world.specs.declared.event.WorldEvent.{WorldEvent}
@@ -108,4 +108,4 @@ settle_late (suc n) l = settle_late n (downward_late (upward_late l))
 abbrev pub stored_without_late : LateWorld → List Publish
 stored_without_late l =
     let c = l.around.session.core in
-    by_id (λ id slot. if has_id id l.broker.stored then [] else option_to_list (awaiting_ack slot)) c.limit c.held
+    by_id (λ id slot. if has_id id l.broker.stored then [] else option_to_list (awaiting_ack slot)) c.limit c.in_use

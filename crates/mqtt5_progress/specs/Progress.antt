@@ -5,7 +5,7 @@ use Rattle.std.specs.FinMap.{get}
 use Rattle.std.specs.FinSet as set
 use Rattle.mqtt5_base.specs.declared.quality.QoS.{QoS}
 use Rattle.mqtt5_base.specs.declared.quality.QoS.TheVariants.{AtMostOnce, AtLeastOnce, ExactlyOnce}
-use Rattle.mqtt5_flow.specs.declared.publish.Publish.{Publish}
+use Rattle.mqtt5_publish.specs.declared.publish.Publish.{Publish}
 use Rattle.mqtt5_codec.specs.declared.packet.Packet.{Packet}
 use Rattle.mqtt5_codec.specs.declared.packet.Packet.TheVariants as packets
 use Rattle.mqtt5_session.specs.Session.{Core}
@@ -55,7 +55,7 @@ Deliveries (e ∷ es) = ⊥
 
 -- no id is in use, and no publish waits for one (2.2.1)
 pub record IsIdle (c : Core) : Type 0 where
-  pub held : (id : ℕ) → get c.held id ≡ None
+  pub in_use : (id : ℕ) → get c.in_use id ≡ None
   pub waiting : c.waiting ≡ None
 
 -- nothing is on its way, the session keeps nothing to send, the broker waits for no release, and nothing was refused

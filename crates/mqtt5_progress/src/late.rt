@@ -4,7 +4,7 @@ ghost use Rattle.std.specs.Prelude.{◌≡◌, ◌≢◌, ◌≤◌, ◌+◌, �
 ghost use Rattle.std.specs.FinSet as set;
 ghost use Rattle.mqtt5_base.specs.declared.quality.QoS.{QoS};
 ghost use Rattle.mqtt5_base.specs.declared.quality.QoS.TheVariants.{AtMostOnce, AtLeastOnce, ExactlyOnce};
-ghost use Rattle.mqtt5_flow.specs.declared.publish.Publish.{Publish};
+ghost use Rattle.mqtt5_publish.specs.declared.publish.Publish.{Publish};
 ghost use Rattle.mqtt5_codec.specs.declared.packet.Packet.{Packet};
 ghost use Rattle.mqtt5_world.specs.declared.event.WorldEvent.{WorldEvent};
 ghost use Rattle.mqtt5_world.specs.Broker.{idle, serve};
@@ -15,7 +15,7 @@ ghost use Rattle.mqtt5_progress.specs.Late.{idle_late, has_id, with_id, without_
 
 use mqtt5_base::{QoS, copied};
 use mqtt5_codec::Packet;
-use mqtt5_flow::Publish;
+use mqtt5_publish::Publish;
 use mqtt5_world::{puback, pubcomp, pubrec};
 use std::alloc::{AllocError, Global};
 use std::marker::Model;
@@ -29,7 +29,7 @@ pub struct LateBroker {
 
 impl Model for LateBroker {
     ghost use Rattle.std.specs.Coded.{codes};
-    ghost use Rattle.mqtt5_flow.specs.contracts.publish.Publish as publish;
+    ghost use Rattle.mqtt5_publish.specs.contracts.publish.Publish as publish;
     ghost use Rattle.mqtt5_progress.specs.Late as model;
 
     ghost Value = { model.Late };
@@ -71,8 +71,10 @@ impl LateBroker {
     }
 
     fn serve_publish(&mut self, publish: &Publish) -> Result<Option<Packet>, AllocError>
-        ensures reply { IfOk result (λ reply. reply ≡ (serve_publish_late publish.now.qos self.old publish.now).0) }
-        ensures broker { OnOk result (self.new ≡ (serve_publish_late publish.now.qos self.old publish.now).1) }
+        ensures reply { IfOk result (λ reply. reply
+            ≡ (serve_publish_late publish.now.qos self.old publish.now).0) }
+        ensures broker { OnOk result
+            (self.new ≡ (serve_publish_late publish.now.qos self.old publish.now).1) }
     {
         let id = publish.pkid;
         match publish.qos {
@@ -95,7 +97,8 @@ impl LateBroker {
 
     /// Hands a publish on.
     fn hand_on(&mut self, publish: &Publish) -> Result<(), AllocError>
-        ensures { OnOk result (self.new ≡ record self.old { handed = self.old.handed ++ publish.now ∷ [] }) }
+        ensures { OnOk result
+            (self.new ≡ record self.old { handed = self.old.handed ++ publish.now ∷ [] }) }
     {
         let publish = copied(publish)?;
         self.handed.push(publish)?;
@@ -104,7 +107,8 @@ impl LateBroker {
 
     /// Stores a publish until its release.
     fn store(&mut self, publish: &Publish) -> Result<(), AllocError>
-        ensures { OnOk result (self.new ≡ record self.old { stored = self.old.stored ++ publish.now ∷ [] }) }
+        ensures { OnOk result
+            (self.new ≡ record self.old { stored = self.old.stored ++ publish.now ∷ [] }) }
     {
         let publish = copied(publish)?;
         self.stored.push(publish)?;
@@ -152,26 +156,47 @@ fn drop_released(id: u16, stored: &mut Vec<Publish>)
 /// A law, which does nothing when it is called: a client can't tell such a broker from one that hands on at once.
 pub fn late_law()
     // All but the broker is the same.
-    ensures same_world { (limit : ℕ) (events : List WorldEvent) → (run_late events (start_late limit)).around ≡ record (run events (start limit)) { broker = idle } }
+    ensures same_world { (limit : ℕ) (events : List WorldEvent)
+        → (run_late events (start_late limit)).around
+        ≡ record (run events (start limit)) { broker = idle } }
     // The same ids are there, and each packet has the same reply.
-    ensures same_ids { (limit : ℕ) (events : List WorldEvent) (id : ℕ) → has_id id (run_late events (start_late limit)).broker.stored ≡ set.contains (run events (start limit)).broker.ids id }
-    ensures same_replies { (limit : ℕ) (events : List WorldEvent) (packet : Packet) → (serve_late (run_late events (start_late limit)).broker packet).0 ≡ (serve (run events (start limit)).broker packet).0 }
+    ensures same_ids { (limit : ℕ) (events : List WorldEvent) (id : ℕ)
+        → has_id id (run_late events (start_late limit)).broker.stored
+        ≡ set.contains (run events (start limit)).broker.ids id }
+    ensures same_replies { (limit : ℕ) (events : List WorldEvent) (packet : Packet)
+        → (serve_late (run_late events (start_late limit)).broker packet).0
+        ≡ (serve (run events (start limit)).broker packet).0 }
     // What it handed on and what it stores is what the other handed on; below QoS 2 it stores nothing.
     ensures moved { (limit : ℕ) (events : List WorldEvent) (test : Publish → Bool)
-        → count_by test (run_late events (start_late limit)).broker.handed + count_by test (run_late events (start_late limit)).broker.stored ≡ count_by test (run events (start limit)).broker.handed }
-    ensures same_below { (limit : ℕ) (events : List WorldEvent) (qos : QoS) (test : Publish → Bool) → IsClass qos test → qos ≢ ExactlyOnce
-        → count_by test (run_late events (start_late limit)).broker.handed ≡ count_by test (run events (start limit)).broker.handed }
+        → count_by test (run_late events (start_late limit)).broker.handed + count_by test
+        (run_late events (start_late limit)).broker.stored
+        ≡ count_by test (run events (start limit)).broker.handed }
+    ensures same_below { (limit : ℕ) (events : List WorldEvent) (qos : QoS) (test : Publish → Bool)
+        → IsClass qos test → qos ≢ ExactlyOnce
+        → count_by test (run_late events (start_late limit)).broker.handed
+        ≡ count_by test (run events (start limit)).broker.handed }
 {}
 
 /// A law, which does nothing when it is called: how often such a broker hands on the publishes of a class, in every world
 /// that a run reaches.
 pub fn late_delivery_law()
-    ensures at_most_once { (limit : ℕ) (events : List WorldEvent) (qos : QoS) (test : Publish → Bool) → IsClass qos test → qos ≢ AtLeastOnce
-        → count_by test (run_late events (start_late limit)).broker.handed ≤ count_by test (run_late events (start_late limit)).around.accepted }
-    ensures at_least_once { (limit : ℕ) (events : List WorldEvent) (qos : QoS) (test : Publish → Bool) → IsClass qos test → qos ≢ AtMostOnce
-        → count_by test (run_late events (start_late limit)).around.accepted ≤ count_by test (run_late events (start_late limit)).broker.handed + count_by test (run_late events (start_late limit)).broker.stored + count_by test (stored_in (run_late events (start_late limit)).around.session.core) + count_by test (waiting_in (run_late events (start_late limit)).around.session.core) }
-    ensures ledger { (limit : ℕ) (events : List WorldEvent) (test : Publish → Bool) → IsClass ExactlyOnce test
-        → count_by test (run_late events (start_late limit)).broker.handed + count_by test (run_late events (start_late limit)).broker.stored + count_by test (waiting_in (run_late events (start_late limit)).around.session.core) + count_by test (stored_without_late (run_late events (start_late limit)))
+    ensures at_most_once { (limit : ℕ) (events : List WorldEvent) (qos : QoS)
+        (test : Publish → Bool) → IsClass qos test → qos ≢ AtLeastOnce
+        → count_by test (run_late events (start_late limit)).broker.handed
+        ≤ count_by test (run_late events (start_late limit)).around.accepted }
+    ensures at_least_once { (limit : ℕ) (events : List WorldEvent) (qos : QoS)
+        (test : Publish → Bool) → IsClass qos test → qos ≢ AtMostOnce
+        → count_by test (run_late events (start_late limit)).around.accepted
+        ≤ count_by test (run_late events (start_late limit)).broker.handed + count_by test
+        (run_late events (start_late limit)).broker.stored + count_by test
+        (stored_in (run_late events (start_late limit)).around.session.core) + count_by test
+        (waiting_in (run_late events (start_late limit)).around.session.core) }
+    ensures ledger { (limit : ℕ) (events : List WorldEvent) (test : Publish → Bool)
+        → IsClass ExactlyOnce test
+        → count_by test (run_late events (start_late limit)).broker.handed + count_by test
+        (run_late events (start_late limit)).broker.stored + count_by test
+        (waiting_in (run_late events (start_late limit)).around.session.core) + count_by test
+        (stored_without_late (run_late events (start_late limit)))
         ≡ count_by test (run_late events (start_late limit)).around.accepted }
 {}
 
@@ -179,11 +204,17 @@ pub fn late_delivery_law()
 /// to its end.
 pub fn late_progress_law()
     // Nothing is on its way or waiting, and the broker stores nothing.
-    ensures settled { (limit : ℕ) (events : List WorldEvent) → Settled (settle_late 4 (run_late events (start_late limit))).around }
-    ensures none_stored { (limit : ℕ) (events : List WorldEvent) → (settle_late 4 (run_late events (start_late limit))).broker.stored ≡ [] }
+    ensures settled { (limit : ℕ) (events : List WorldEvent)
+        → Settled (settle_late 4 (run_late events (start_late limit))).around }
+    ensures none_stored { (limit : ℕ) (events : List WorldEvent)
+        → (settle_late 4 (run_late events (start_late limit))).broker.stored ≡ [] }
     // A class of QoS 2 was handed on exactly as often as it was accepted, and one of QoS 1 at least as often.
-    ensures exactly_once { (limit : ℕ) (events : List WorldEvent) (test : Publish → Bool) → IsClass ExactlyOnce test
-        → count_by test (settle_late 4 (run_late events (start_late limit))).broker.handed ≡ count_by test (run_late events (start_late limit)).around.accepted }
-    ensures at_least_once { (limit : ℕ) (events : List WorldEvent) (test : Publish → Bool) → IsClass AtLeastOnce test
-        → count_by test (run_late events (start_late limit)).around.accepted ≤ count_by test (settle_late 4 (run_late events (start_late limit))).broker.handed }
+    ensures exactly_once { (limit : ℕ) (events : List WorldEvent) (test : Publish → Bool)
+        → IsClass ExactlyOnce test
+        → count_by test (settle_late 4 (run_late events (start_late limit))).broker.handed
+        ≡ count_by test (run_late events (start_late limit)).around.accepted }
+    ensures at_least_once { (limit : ℕ) (events : List WorldEvent) (test : Publish → Bool)
+        → IsClass AtLeastOnce test
+        → count_by test (run_late events (start_late limit)).around.accepted
+        ≤ count_by test (settle_late 4 (run_late events (start_late limit))).broker.handed }
 {}

@@ -2,7 +2,7 @@
 
 ghost use Rattle.std.specs.Prelude.{◌≡◌, ◌<◌, ◌≤◌, ◌+◌, ◌*◌, IfOk, IfErr, OnOk, drop};
 ghost use Rattle.mqtt5_base.specs.declared.quality.QoS.TheVariants.{AtMostOnce, AtLeastOnce, ExactlyOnce};
-ghost use Rattle.mqtt5_flow.specs.declared.publish.Publish.{Publish};
+ghost use Rattle.mqtt5_publish.specs.declared.publish.Publish.{Publish};
 ghost use Rattle.mqtt5_world.specs.World.{start, run, losses};
 ghost use Rattle.mqtt5_world.specs.Delivery.{times};
 ghost use Rattle.mqtt5_world.specs.Happens.{Happens, IsReport};
@@ -17,8 +17,10 @@ use std::alloc::Global;
 pub fn play_out(alloc: Global, limit: u16, events: &[WorldEvent]) -> Result<Report, StateError>
     requires { 0 < limit }
     // All is the world's after the events and the rounds; nothing is accepted or refused in these.
-    ensures handed { IfOk result (λ r. r.handed.items ≡ (settle 4 (run events.now (start limit))).broker.handed) }
-    ensures accepted { IfOk result (λ r. r.accepted.items ≡ (run events.now (start limit)).accepted) }
+    ensures handed { IfOk result (λ r. r.handed.items
+        ≡ (settle 4 (run events.now (start limit))).broker.handed) }
+    ensures accepted { IfOk result (λ r. r.accepted.items
+        ≡ (run events.now (start limit)).accepted) }
     ensures refused { IfOk result (λ r. r.refused.items ≡ (run events.now (start limit)).refused) }
     ensures state { IfOk result (λ r. r.state ≡ (settle 4 (run events.now (start limit))).session) }
     ensures memory { IfErr result (λ e. e ≡ StateError.OutOfMemory) }
@@ -27,14 +29,19 @@ pub fn play_out(alloc: Global, limit: u16, events: &[WorldEvent]) -> Result<Repo
     // No id is in use, and nothing waits.
     ensures settled { IfOk result (λ r. IsIdle r.state.core) }
     // A content of QoS 2 was handed on exactly as often as it was accepted.
-    ensures exactly_once { IfOk result (λ r. (c : Publish) → c.qos ≡ ExactlyOnce → times c r.handed.items ≡ times c r.accepted.items) }
+    ensures exactly_once { IfOk result (λ r. (c : Publish) → c.qos ≡ ExactlyOnce
+        → times c r.handed.items ≡ times c r.accepted.items) }
     // One of QoS 1 at least as often, and at most once more for each loss.
-    ensures at_least_once { IfOk result (λ r. (c : Publish) → c.qos ≡ AtLeastOnce → times c r.accepted.items ≤ times c r.handed.items) }
-    ensures for_each_loss { IfOk result (λ r. (c : Publish) → c.qos ≡ AtLeastOnce → times c r.handed.items ≤ (losses events.now + 1) * times c r.accepted.items) }
+    ensures at_least_once { IfOk result (λ r. (c : Publish) → c.qos ≡ AtLeastOnce
+        → times c r.accepted.items ≤ times c r.handed.items) }
+    ensures for_each_loss { IfOk result (λ r. (c : Publish) → c.qos ≡ AtLeastOnce
+        → times c r.handed.items ≤ (losses events.now + 1) * times c r.accepted.items) }
     // One of QoS 0 at most as often.
-    ensures at_most_once { IfOk result (λ r. (c : Publish) → c.qos ≡ AtMostOnce → times c r.handed.items ≤ times c r.accepted.items) }
+    ensures at_most_once { IfOk result (λ r. (c : Publish) → c.qos ≡ AtMostOnce
+        → times c r.handed.items ≤ times c r.accepted.items) }
     // Without a loss each exactly as often.
-    ensures without_loss { IfOk result (λ r. (c : Publish) → losses events.now ≡ 0 → times c r.handed.items ≡ times c r.accepted.items) }
+    ensures without_loss { IfOk result (λ r. (c : Publish) → losses events.now ≡ 0
+        → times c r.handed.items ≡ times c r.accepted.items) }
 {
     played_out(alloc, limit, events)
 }

@@ -8,9 +8,9 @@ use bytes::Bytes;
 use clap::ArgMatches;
 use mqtt5_base::{QoS, valid_topic};
 use mqtt5_codec::Packet;
-use mqtt5_flow::Publish;
 use mqtt5_pipe::Pipe;
-use mqtt5_talk::{Trouble, close, connect_of, new_pipe, open, publish, quality_of, refuse, tell};
+use mqtt5_publish::Publish;
+use mqtt5_talk::{TalkError, close, connect_of, new_pipe, open, publish, quality_of, refuse, tell};
 use std::alloc::Global;
 use std::io::{Read, Write};
 use std::rt::Files;
@@ -90,7 +90,7 @@ fn talk<R: Read, W: Write>(
     content: &[u8],
     reader: &mut R,
     writer: &mut W,
-) -> Result<(), Trouble> {
+) -> Result<(), TalkError> {
     let connect = connect_of(task.alloc, matches)?;
     let mut pipe = new_pipe(task.alloc, false);
     talk_over(&mut pipe, &connect, task, content, reader, writer)
@@ -103,7 +103,7 @@ fn talk_over<R: Read, W: Write>(
     content: &[u8],
     reader: &mut R,
     writer: &mut W,
-) -> Result<(), Trouble>
+) -> Result<(), TalkError>
     requires { IsReady pipe.old }
 {
     open(pipe, connect, reader, writer)?;
@@ -117,7 +117,7 @@ fn publish_all<R: Read, W: Write>(
     content: &[u8],
     reader: &mut R,
     writer: &mut W,
-) -> Result<(), Trouble>
+) -> Result<(), TalkError>
     requires { IsReady pipe.old }
     ensures { OnOk result (IsReady pipe.new) }
 {
@@ -135,7 +135,7 @@ fn publish_lines<R: Read, W: Write>(
     content: &[u8],
     reader: &mut R,
     writer: &mut W,
-) -> Result<(), Trouble>
+) -> Result<(), TalkError>
     requires { IsReady pipe.old }
     ensures { OnOk result (IsReady pipe.new) }
 {
@@ -165,7 +165,7 @@ fn publish_one<R: Read, W: Write>(
     payload: &[u8],
     reader: &mut R,
     writer: &mut W,
-) -> Result<(), Trouble>
+) -> Result<(), TalkError>
     requires { IsReady pipe.old }
     ensures { OnOk result (IsReady pipe.new) }
 {

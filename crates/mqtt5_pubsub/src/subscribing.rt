@@ -8,9 +8,9 @@ use clap::ArgMatches;
 use mqtt5_base::{Error, Sequence, valid_filter};
 use mqtt5_codec::Packet;
 use mqtt5_pipe::Pipe;
-use mqtt5_subs::{Filter, Subscribe};
+use mqtt5_subscribe::{Filter, Subscribe};
 use mqtt5_talk::{
-    Lines, Raw, Screen, Trouble, close, connect_of, new_pipe, open, quality_of, receive, refuse,
+    Lines, Raw, Screen, TalkError, close, connect_of, new_pipe, open, quality_of, receive, refuse,
     subscribe, tell,
 };
 use std::alloc::Global;
@@ -117,7 +117,7 @@ fn talk<R: Read, W: Write, S: Screen>(
     screen: &mut S,
     reader: &mut R,
     writer: &mut W,
-) -> Result<(), Trouble> {
+) -> Result<(), TalkError> {
     let connect = connect_of(alloc, matches)?;
     let wanted = subscribe_of(alloc, matches)?;
     let count = matches.get_one::<u64>("count").unwrap_or(u64::MAX);
@@ -134,7 +134,7 @@ fn talk_over<R: Read, W: Write, S: Screen>(
     screen: &mut S,
     reader: &mut R,
     writer: &mut W,
-) -> Result<(), Trouble>
+) -> Result<(), TalkError>
     requires { IsReady pipe.old }
 {
     open(pipe, connect, reader, writer)?;

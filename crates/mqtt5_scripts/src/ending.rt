@@ -5,7 +5,7 @@ ghost use Rattle.mqtt5_scripts.specs.declared.ending.Status.TheVariants.{Done, F
 
 use crate::printing::write_fault;
 use crate::script::ScriptError;
-use mqtt5_held::StateError;
+use mqtt5_inflight::StateError;
 use std::io;
 use std::io::{ErrorKind, Write};
 

@@ -8,7 +8,7 @@ ghost use Rattle.mqtt5_scripts.specs.declared.fields.LineError.TheVariants as li
 use bytes::Bytes;
 use hex::FromHexError;
 use mqtt5_base::{Error, QoS, qos};
-use mqtt5_flow::Publish;
+use mqtt5_publish::Publish;
 use std::alloc::{AllocFailed, Global};
 use std::num::NonZeroU16;
 

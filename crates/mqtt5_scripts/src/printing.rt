@@ -2,8 +2,8 @@
 
 ghost use Rattle.std.specs.Prelude.{◌≤◌, length};
 
-use mqtt5_flow::Publish;
-use mqtt5_held::StateError;
+use mqtt5_inflight::StateError;
+use mqtt5_publish::Publish;
 use std::io;
 use std::io::Write;
 

@@ -10,34 +10,34 @@ use Rattle.std.specs.FinSet as set
 use Rattle.std.specs.FinSet.{contains-insert, contains-remove}
 use Rattle.mqtt5_base.specs.declared.quality.QoS.{QoS}
 use Rattle.mqtt5_base.specs.declared.quality.QoS.TheVariants.{AtMostOnce, AtLeastOnce, ExactlyOnce}
-use Rattle.mqtt5_flow.specs.declared.publish.Publish.{Publish}
-use Rattle.mqtt5_flow.specs.declared.puback.PubAckReason.{PubAckReason}
-use Rattle.mqtt5_flow.specs.declared.pubrel.PubRel.{PubRel}
-use Rattle.mqtt5_flow.specs.declared.pubrel.PubRelReason.{PubRelReason}
-use Rattle.mqtt5_flow.specs.declared.pubrel.PubRelReason.TheVariants as pubrel_reasons
-use Rattle.mqtt5_link.specs.declared.connack.ConnectReturnCode.{ConnectReturnCode}
-use Rattle.mqtt5_link.specs.declared.connack.ConnectReturnCode.TheVariants as return_codes
-use Rattle.mqtt5_link.specs.declared.connack.ConnAckProperties.{ConnAckProperties}
-use Rattle.mqtt5_link.specs.declared.disconnect.DisconnectReasonCode.TheVariants.{ProtocolError}
+use Rattle.mqtt5_publish.specs.declared.publish.Publish.{Publish}
+use Rattle.mqtt5_publish.specs.declared.puback.PubAckReason.{PubAckReason}
+use Rattle.mqtt5_publish.specs.declared.pubrel.PubRel.{PubRel}
+use Rattle.mqtt5_publish.specs.declared.pubrel.PubRelReason.{PubRelReason}
+use Rattle.mqtt5_publish.specs.declared.pubrel.PubRelReason.TheVariants as pubrel_reasons
+use Rattle.mqtt5_control.specs.declared.connack.ConnectReturnCode.{ConnectReturnCode}
+use Rattle.mqtt5_control.specs.declared.connack.ConnectReturnCode.TheVariants as return_codes
+use Rattle.mqtt5_control.specs.declared.connack.ConnAckProperties.{ConnAckProperties}
+use Rattle.mqtt5_control.specs.declared.disconnect.DisconnectReasonCode.TheVariants.{ProtocolError}
 use Rattle.mqtt5_codec.specs.declared.packet.Packet.{Packet}
 use Rattle.mqtt5_codec.specs.declared.packet.Packet.TheVariants as packets
-use Rattle.mqtt5_held.specs.declared.slot.Slot.{Slot}
-use Rattle.mqtt5_held.specs.declared.slot.Slot.TheVariants.{Sent, Released}
-use Rattle.mqtt5_held.specs.declared.event.Request.{Request}
-use Rattle.mqtt5_held.specs.declared.event.Request.TheVariants as requests
-use Rattle.mqtt5_held.specs.declared.event.Event.{Event}
-use Rattle.mqtt5_held.specs.declared.event.Event.TheVariants as events
-use Rattle.mqtt5_held.specs.declared.event.Outgoing.{Outgoing}
-use Rattle.mqtt5_held.specs.declared.event.Outgoing.TheVariants as outgoing
-use Rattle.mqtt5_held.specs.declared.error.StateError.{StateError}
-use Rattle.mqtt5_held.specs.declared.error.StateError.TheVariants as errors
-use Rattle.mqtt5_held.specs.Aliases.{alias_of}
-use Rattle.mqtt5_session.specs.Session.{Session, Answer, Hears, Sends, tells}
-use Rattle.mqtt5_session.specs.Requests.{out, unless, over_maximum, Verdict, Refuse, Wait, Store, out_acked, out_publish, out_known, id_for, last_after, counts_ping, ping_fault, disconnect_of}
-use Rattle.mqtt5_session.specs.Packets.{inc, heard, hears, notes, told, is_exactly_once, pubrec_of, pubcomp_of, topics_with, freed_for, on_puback, on_received, on_pubrec, on_pubcomp, on_pubrel, on_released, on_publish, on_qos, answers, on_connack, is_taken, topic_of, ids_with}
-use Rattle.mqtt5_session.specs.Cleaning.{cleaned, Sendings, with_reply, send_all, resume_of}
+use Rattle.mqtt5_inflight.specs.declared.slot.Slot.{Slot}
+use Rattle.mqtt5_inflight.specs.declared.slot.Slot.TheVariants.{Sent, Released}
+use Rattle.mqtt5_inflight.specs.declared.event.Request.{Request}
+use Rattle.mqtt5_inflight.specs.declared.event.Request.TheVariants as requests
+use Rattle.mqtt5_inflight.specs.declared.event.Event.{Event}
+use Rattle.mqtt5_inflight.specs.declared.event.Event.TheVariants as events
+use Rattle.mqtt5_inflight.specs.declared.event.Outgoing.{Outgoing}
+use Rattle.mqtt5_inflight.specs.declared.event.Outgoing.TheVariants as outgoing
+use Rattle.mqtt5_inflight.specs.declared.error.StateError.{StateError}
+use Rattle.mqtt5_inflight.specs.declared.error.StateError.TheVariants as errors
+use Rattle.mqtt5_inflight.specs.Aliases.{alias_of}
+use Rattle.mqtt5_session.specs.Session.{Session, Answer, Receives, Sends, with_event}
+use Rattle.mqtt5_session.specs.Requests.{on_request, unless, over_maximum, Verdict, Refuse, Wait, Store, out_acked, out_publish, out_known, id_for, last_after, counts_ping, ping_fault, disconnect_of}
+use Rattle.mqtt5_session.specs.Packets.{on_packet, answer_to, with_incoming, with_notice, event_of, is_exactly_once, pubrec_of, pubcomp_of, topics_with, freed_for, on_puback, on_received, on_pubrec, on_pubcomp, on_pubrel, on_released, on_publish, on_qos, answers, on_connack, is_taken, topic_of, ids_with}
+use Rattle.mqtt5_session.specs.Resuming.{cleaned, Sendings, with_reply, send_all, resume_of}
 use Rattle.mqtt5_session.specs.Ledger.{Call, Ask, Hear, Error, Clean, Resume, Pop, SetAcks, kept_by, accepted, after, after_all}
-use Rattle.mqtt5_session.specs.Once.{one_if, kept_id, is_notice, notices, notified, released, notified_in, released_in, notified_by, released_by}
+use Rattle.mqtt5_session.specs.Once.{one_if, kept_id, is_notice, notices, notified, releases, notified_in, released_in, notified_by, released_by}
 use Rattle.mqtt5_session.proofs.Owed.{choose}
 use Rattle.mqtt5_session.proofs.Sets.{insert-again}
 
@@ -66,10 +66,10 @@ known_keeps None s id last at = refl
 known_keeps (Some Released) s id last at = refl
 known_keeps (Some (Sent p)) s id last at = refl
 
-pub out_keeps : (s : Session) (r : Request) (at : ℕ) → Keeps s (out s r at)
-unfolding out
+pub out_keeps : (s : Session) (r : Request) (at : ℕ) → Keeps s (on_request s r at)
+unfolding on_request
 out_keeps s (requests.Publish p) at = publish_keeps p.qos s p at
-out_keeps s (requests.PubRel p) at = choose (Keeps s) (nat_lt s.core.limit (id_for s.core p.pkid)) _ _ (λ _. refl) (λ _. known_keeps (get s.core.held (id_for s.core p.pkid)) s (id_for s.core p.pkid) (last_after s.core p.pkid) at)
+out_keeps s (requests.PubRel p) at = choose (Keeps s) (nat_lt s.core.limit (id_for s.core p.pkid)) _ _ (λ _. refl) (λ _. known_keeps (get s.core.in_use (id_for s.core p.pkid)) s (id_for s.core p.pkid) (last_after s.core p.pkid) at)
 out_keeps s (requests.Subscribe p) at = choose (Keeps s) (length p.filters == 0) _ _ (λ _. refl) (λ _. refl)
 out_keeps s (requests.Unsubscribe p) at = refl
 out_keeps s requests.PingReq at = unless_keeps (counts_ping s) (ping_fault s.core.waiting (counts_ping s).collision_pings s.awaits_ping) _ refl
@@ -94,7 +94,7 @@ reply_keeps ids (Ok reply) (Ok r) h = h
 
 all_keep : (rs : List Request) (s : Session) (at : ℕ) → KeepsIds s.core.incoming (send_all rs s at)
 all_keep [] s at = refl
-all_keep (r ∷ rest) s at = reply_keeps s.core.incoming (out s r at).0 _ (subst (λ ids. KeepsIds ids (send_all rest (out s r at).1 at)) (out_keeps s r at) (all_keep rest (out s r at).1 at))
+all_keep (r ∷ rest) s at = reply_keeps s.core.incoming (on_request s r at).0 _ (subst (λ ids. KeepsIds ids (send_all rest (on_request s r at).1 at)) (out_keeps s r at) (all_keep rest (on_request s r at).1 at))
 
 pub resume_keeps : (s : Session) (at : ℕ) → (kept_by s (resume_of s at)).core.incoming ≡ s.core.incoming
 unfolding resume_of
@@ -168,7 +168,7 @@ module _ (id : ℕ) where
 
   -- a packet counts
   abbrev Counts : Packet → Session → Answer → Type 0
-  Counts packet s a = kept_id id a.1.core + accepted a.0 (released id s.core packet) ≡ kept_id id s.core + notified id s a.0 a.1
+  Counts packet s a = kept_id id a.1.core + accepted a.0 (releases id s.core packet) ≡ kept_id id s.core + notified id s a.0 a.1
 
   none_notified : (r : Result (Option Packet) StateError) (s t : Session) → notices id t.events ≡ notices id s.events → notified id s r t ≡ 0
   none_notified (Ok (Some (packets.Disconnect p))) s t e = refl
@@ -179,11 +179,11 @@ module _ (id : ℕ) where
   none_accepted (Err e) = refl
 
   -- a packet that releases nothing, and whose event is no notice
-  other_counts : (packet : Packet) (s t : Session) (a : Answer) → released id s.core packet ≡ 0 → t.core.incoming ≡ s.core.incoming → notices id t.events ≡ notices id s.events → Quiet t a → Counts packet s a
+  other_counts : (packet : Packet) (s t : Session) (a : Answer) → releases id s.core packet ≡ 0 → t.core.incoming ≡ s.core.incoming → notices id t.events ≡ notices id s.events → Quiet t a → Counts packet s a
   other_counts packet s t a none ids same q =
       let k : kept_id id a.1.core ≡ kept_id id s.core = ap (λ x. one_if (set.contains x id)) (q.ids ∙ ids) in
       let n = none_notified a.0 s a.1 (q.count ∙ same) in
-      let z : accepted a.0 (released id s.core packet) ≡ 0 = ap (accepted a.0) none ∙ none_accepted a.0 in
+      let z : accepted a.0 (releases id s.core packet) ≡ 0 = ap (accepted a.0) none ∙ none_accepted a.0 in
       omega (arith, k, n, z)
 
   -- ---- releases
@@ -208,15 +208,15 @@ module _ (id : ℕ) where
     | inr n ↦ ap (λ b. one_if (b && set.contains ids id)) (ne_eqb k id (λ e. n (sym e)))
   ]
 
-  pubrel_counts : (b : Bool) (s : Session) (p : PubRel) (at : ℕ) → set.contains s.core.incoming p.pkid ≡ b → Counts (packets.PubRel p) s (on_pubrel b (hears s (packets.PubRel p)) p.reason p.pkid at)
+  pubrel_counts : (b : Bool) (s : Session) (p : PubRel) (at : ℕ) → set.contains s.core.incoming p.pkid ≡ b → Counts (packets.PubRel p) s (on_pubrel b (with_incoming s (packets.PubRel p)) p.reason p.pkid at)
   pubrel_counts false s p at h =
-      let n = none_notified (Ok (Some (pubcomp_of p.pkid pubrel_reasons.PacketIdentifierNotFound))) s (tells (hears s (packets.PubRel p)) (outgoing.PubComp p.pkid)) (quiet (s.events ++ events.Incoming (packets.PubRel p) ∷ []) (events.Outgoing (outgoing.PubComp p.pkid)) refl ∙ quiet s.events (events.Incoming (packets.PubRel p)) refl) in
+      let n = none_notified (Ok (Some (pubcomp_of p.pkid pubrel_reasons.PacketIdentifierNotFound))) s (with_event (with_incoming s (packets.PubRel p)) (outgoing.PubComp p.pkid)) (quiet (s.events ++ events.Incoming (packets.PubRel p) ∷ []) (events.Outgoing (outgoing.PubComp p.pkid)) refl ∙ quiet s.events (events.Incoming (packets.PubRel p)) refl) in
       let z = not_there s.core.incoming p.pkid h in
       omega (arith, n, z)
   pubrel_counts true s p at h = by p.reason
     where
       t : Session
-      t = record (hears s (packets.PubRel p)) { core = record s.core { incoming = set.remove s.core.incoming p.pkid } }
+      t = record (with_incoming s (packets.PubRel p)) { core = record s.core { incoming = set.remove s.core.incoming p.pkid } }
 
       heard_of : notices id t.events ≡ notices id s.events
       heard_of = quiet s.events (events.Incoming (packets.PubRel p)) refl
@@ -240,12 +240,12 @@ module _ (id : ℕ) where
 
     -- what is told of it
     abbrev noted : QoS → Bool → Session
-    noted q has = notes s (cond (is_exactly_once q && has) None (Some x))
+    noted q has = with_notice s (cond (is_exactly_once q && has) None (Some x))
 
     noted_core : (q : QoS) (has : Bool) → (noted q has).core ≡ s.core
     noted_core q has = by (is_exactly_once q && has)
       where
-        by : (b : Bool) → (notes s (cond b None (Some x))).core ≡ s.core
+        by : (b : Bool) → (with_notice s (cond b None (Some x))).core ≡ s.core
         by true = refl
         by false = refl
 
@@ -255,12 +255,12 @@ module _ (id : ℕ) where
     -- the answer by its QoS, by whether it is a duplicate, and by whether its topic is known
     abbrev answer : QoS → Session → Bool → Answer
     answer q t true = on_qos q (kept_in q t) p.pkid at
-    answer q t false = (Ok (Some (disconnect_of ProtocolError)), record (tells t outgoing.Disconnect) { last_incoming = at })
+    answer q t false = (Ok (Some (disconnect_of ProtocolError)), record (with_event t outgoing.Disconnect) { last_incoming = at })
 
     refused_counts : (q : QoS) (has : Bool) → Counts (packets.Publish p) s (answer q (noted q has) false)
     refused_counts q has = let k = ap (λ c. kept_id id c) (noted_core q has) in omega (arith, k)
 
-    first_counts : (b : Bool) → p.qos ≡ ExactlyOnce → set.contains s.core.incoming p.pkid ≡ false → Counts (packets.Publish p) s (answers b (pubrec_of p.pkid) (outgoing.PubRec p.pkid) (kept_in ExactlyOnce (hears s x)) at)
+    first_counts : (b : Bool) → p.qos ≡ ExactlyOnce → set.contains s.core.incoming p.pkid ≡ false → Counts (packets.Publish p) s (answers b (pubrec_of p.pkid) (outgoing.PubRec p.pkid) (kept_in ExactlyOnce (with_incoming s x)) at)
     first_counts b e lacks = by b
       where
         told_of : notices id (s.events ++ events.Incoming x ∷ []) ≡ notices id s.events + one_if (p.pkid == id)
@@ -281,13 +281,13 @@ module _ (id : ℕ) where
               omega (arith, a, c)
         ]
 
-        by : (b : Bool) → Counts (packets.Publish p) s (answers b (pubrec_of p.pkid) (outgoing.PubRec p.pkid) (kept_in ExactlyOnce (hears s x)) at)
+        by : (b : Bool) → Counts (packets.Publish p) s (answers b (pubrec_of p.pkid) (outgoing.PubRec p.pkid) (kept_in ExactlyOnce (with_incoming s x)) at)
         by true = omega (arith, told_of, kept)
         by false = let z = quiet (s.events ++ events.Incoming x ∷ []) (events.Outgoing (outgoing.PubRec p.pkid)) refl in omega (arith, told_of, kept, z)
 
     known_counts : (q : QoS) (has : Bool) → p.qos ≡ q → set.contains s.core.incoming p.pkid ≡ has → Counts (packets.Publish p) s (answer q (noted q has) true)
-    known_counts AtMostOnce has e h = other_counts (packets.Publish p) s (kept_in AtMostOnce (hears s x)) _ refl refl (quiet s.events (events.Incoming x) (ap (λ q. is_exactly_once q && (p.pkid == id)) e)) (qos_quiet AtMostOnce (kept_in AtMostOnce (hears s x)) p.pkid at)
-    known_counts AtLeastOnce has e h = other_counts (packets.Publish p) s (kept_in AtLeastOnce (hears s x)) _ refl refl (quiet s.events (events.Incoming x) (ap (λ q. is_exactly_once q && (p.pkid == id)) e)) (qos_quiet AtLeastOnce (kept_in AtLeastOnce (hears s x)) p.pkid at)
+    known_counts AtMostOnce has e h = other_counts (packets.Publish p) s (kept_in AtMostOnce (with_incoming s x)) _ refl refl (quiet s.events (events.Incoming x) (ap (λ q. is_exactly_once q && (p.pkid == id)) e)) (qos_quiet AtMostOnce (kept_in AtMostOnce (with_incoming s x)) p.pkid at)
+    known_counts AtLeastOnce has e h = other_counts (packets.Publish p) s (kept_in AtLeastOnce (with_incoming s x)) _ refl refl (quiet s.events (events.Incoming x) (ap (λ q. is_exactly_once q && (p.pkid == id)) e)) (qos_quiet AtLeastOnce (kept_in AtLeastOnce (with_incoming s x)) p.pkid at)
     known_counts ExactlyOnce true e h = other_counts (packets.Publish p) s (kept_in ExactlyOnce s) _ refl (insert-again s.core.incoming p.pkid h) refl (qos_quiet ExactlyOnce (kept_in ExactlyOnce s) p.pkid at)
     known_counts ExactlyOnce false e h = first_counts s.core.manual_acks e h
 
@@ -299,47 +299,47 @@ module _ (id : ℕ) where
     same_answer true t = refl
     same_answer false t = refl
 
-    heard_is : (o : Option Packet) → heard (notes s o) (packets.Publish p) at ≡ answer p.qos (notes s o) (is_some (topic_of s p))
+    heard_is : (o : Option Packet) → answer_to (with_notice s o) (packets.Publish p) at ≡ answer p.qos (with_notice s o) (is_some (topic_of s p))
     heard_is None = same_answer (is_some (topic_of s p)) s
-    heard_is (Some y) = same_answer (is_some (topic_of s p)) (hears s y)
+    heard_is (Some y) = same_answer (is_some (topic_of s p)) (with_incoming s y)
 
-    publish_counts : Counts (packets.Publish p) s (heard (notes s (told s (packets.Publish p))) (packets.Publish p) at)
-    publish_counts = subst (Counts (packets.Publish p) s) (sym (heard_is (told s (packets.Publish p)))) (any_counts (is_some (topic_of s p)))
+    publish_counts : Counts (packets.Publish p) s (answer_to (with_notice s (event_of s (packets.Publish p))) (packets.Publish p) at)
+    publish_counts = subst (Counts (packets.Publish p) s) (sym (heard_is (event_of s (packets.Publish p)))) (any_counts (is_some (topic_of s p)))
 
-    notes_core : (o : Option Packet) → (notes s o).core ≡ s.core
+    notes_core : (o : Option Packet) → (with_notice s o).core ≡ s.core
     notes_core None = refl
     notes_core (Some y) = refl
 
     -- where its topic is known, its id is kept then
-    pub kept_after : p.qos ≡ ExactlyOnce → is_some (topic_of s p) ≡ true → kept_id p.pkid (inc s (packets.Publish p) at).1.core ≡ 1
-    unfolding inc
+    pub kept_after : p.qos ≡ ExactlyOnce → is_some (topic_of s p) ≡ true → kept_id p.pkid (on_packet s (packets.Publish p) at).1.core ≡ 1
+    unfolding on_packet
     kept_after e known =
-        let t : Session = notes s (told s (packets.Publish p)) in
+        let t : Session = with_notice s (event_of s (packets.Publish p)) in
         let tied : eq_by_cmp nat_cmp p.pkid p.pkid ≡ true = unsigned_tied p.pkid p.pkid ∙ grind (arith, rules) in
-        ap (λ a. kept_id p.pkid a.1.core) (heard_is (told s (packets.Publish p)) ∙ (λ i. answer (e i) t (known i)))
-        ∙ ap (λ ids. one_if (set.contains ids p.pkid)) ((qos_quiet ExactlyOnce (kept_in ExactlyOnce t) p.pkid at).ids ∙ ap (λ c. set.insert c.incoming p.pkid) (notes_core (told s (packets.Publish p))))
+        ap (λ a. kept_id p.pkid a.1.core) (heard_is (event_of s (packets.Publish p)) ∙ (λ i. answer (e i) t (known i)))
+        ∙ ap (λ ids. one_if (set.contains ids p.pkid)) ((qos_quiet ExactlyOnce (kept_in ExactlyOnce t) p.pkid at).ids ∙ ap (λ c. set.insert c.incoming p.pkid) (notes_core (event_of s (packets.Publish p))))
         ∙ ap one_if (contains-insert nat_cmp_total s.core.incoming p.pkid p.pkid ∙ ap (λ b. b || set.contains s.core.incoming p.pkid) tied)
 
   -- ---- any packet
 
-  told_quiet : (packet : Packet) (s : Session) → is_notice id (events.Incoming packet) ≡ false → notices id (hears s packet).events ≡ notices id s.events
+  told_quiet : (packet : Packet) (s : Session) → is_notice id (events.Incoming packet) ≡ false → notices id (with_incoming s packet).events ≡ notices id s.events
   told_quiet packet s none = quiet s.events (events.Incoming packet) none
 
-  pub inc_counts : (s : Session) (packet : Packet) (at : ℕ) → Counts packet s (inc s packet at)
-  unfolding inc
-  inc_counts s (packets.PubAck p) at = other_counts (packets.PubAck p) s (hears s (packets.PubAck p)) _ refl refl (told_quiet (packets.PubAck p) s refl) (puback_quiet (get s.core.held p.pkid) (hears s (packets.PubAck p)) p.pkid at)
-  inc_counts s (packets.PubRec p) at = other_counts (packets.PubRec p) s (hears s (packets.PubRec p)) _ refl refl (told_quiet (packets.PubRec p) s refl) (pubrec_quiet (get s.core.held p.pkid) (hears s (packets.PubRec p)) p.reason p.pkid at)
-  inc_counts s (packets.PubComp p) at = other_counts (packets.PubComp p) s (hears s (packets.PubComp p)) _ refl refl (told_quiet (packets.PubComp p) s refl) (pubcomp_quiet (get s.core.held p.pkid) (hears s (packets.PubComp p)) p.pkid at)
+  pub inc_counts : (s : Session) (packet : Packet) (at : ℕ) → Counts packet s (on_packet s packet at)
+  unfolding on_packet
+  inc_counts s (packets.PubAck p) at = other_counts (packets.PubAck p) s (with_incoming s (packets.PubAck p)) _ refl refl (told_quiet (packets.PubAck p) s refl) (puback_quiet (get s.core.in_use p.pkid) (with_incoming s (packets.PubAck p)) p.pkid at)
+  inc_counts s (packets.PubRec p) at = other_counts (packets.PubRec p) s (with_incoming s (packets.PubRec p)) _ refl refl (told_quiet (packets.PubRec p) s refl) (pubrec_quiet (get s.core.in_use p.pkid) (with_incoming s (packets.PubRec p)) p.reason p.pkid at)
+  inc_counts s (packets.PubComp p) at = other_counts (packets.PubComp p) s (with_incoming s (packets.PubComp p)) _ refl refl (told_quiet (packets.PubComp p) s refl) (pubcomp_quiet (get s.core.in_use p.pkid) (with_incoming s (packets.PubComp p)) p.pkid at)
   inc_counts s (packets.PubRel p) at = pubrel_counts (set.contains s.core.incoming p.pkid) s p at refl
   inc_counts s (packets.Publish p) at = publish_counts s p at
-  inc_counts s (packets.ConnAck p) at = other_counts (packets.ConnAck p) s (hears s (packets.ConnAck p)) _ refl refl (told_quiet (packets.ConnAck p) s refl) (connack_quiet p.code p.properties (hears s (packets.ConnAck p)) at)
-  inc_counts s packet at = other_counts packet s (hears s packet) (heard (hears s packet) packet at) refl refl (told_quiet packet s refl) (still (hears s packet) (heard (hears s packet) packet at) refl refl)
+  inc_counts s (packets.ConnAck p) at = other_counts (packets.ConnAck p) s (with_incoming s (packets.ConnAck p)) _ refl refl (told_quiet (packets.ConnAck p) s refl) (connack_quiet p.code p.properties (with_incoming s (packets.ConnAck p)) at)
+  inc_counts s packet at = other_counts packet s (with_incoming s packet) (answer_to (with_incoming s packet) packet at) refl refl (told_quiet packet s refl) (still (with_incoming s packet) (answer_to (with_incoming s packet) packet at) refl refl)
 
   -- ---- the clauses of calls, and any calls
 
-  pub once_of : (result : Result (Option Packet) StateError) (old new : Session) (packet : Packet) (a : Answer) → Counts packet old a → Hears result old new a → kept_id id new.core + accepted result (released id old.core packet) ≡ kept_id id old.core + notified id old result new
+  pub once_of : (result : Result (Option Packet) StateError) (old new : Session) (packet : Packet) (a : Answer) → Counts packet old a → Receives result old new a → kept_id id new.core + accepted result (releases id old.core packet) ≡ kept_id id old.core + notified id old result new
   once_of (Err errors.OutOfMemory) old new packet a law h = let k = ap (λ s. kept_id id s.core) h in let n = none_notified (Err errors.OutOfMemory) old new (ap (λ s. notices id s.events) h) in omega (arith, k, n)
-  once_of result old new packet a law h = ap (λ s. kept_id id s.core + accepted result (released id old.core packet)) h.1 ∙ ap (λ r. kept_id id a.1.core + accepted r (released id old.core packet)) h.0 ∙ law ∙ (λ i. kept_id id old.core + notified id old (sym h.0 i) (sym h.1 i))
+  once_of result old new packet a law h = ap (λ s. kept_id id s.core + accepted result (releases id old.core packet)) h.1 ∙ ap (λ r. kept_id id a.1.core + accepted r (releases id old.core packet)) h.0 ∙ law ∙ (λ i. kept_id id old.core + notified id old (sym h.0 i) (sym h.1 i))
 
   pub sends_keeps : (result : Result (Option Packet) StateError) (old new : Session) (a : Answer) → Keeps old a → Sends result old new a → kept_id id new.core ≡ kept_id id old.core
   sends_keeps (Err errors.OutOfMemory) old new a law h = ap (λ s. kept_id id s.core) h.0
@@ -368,6 +368,6 @@ handed_on_once s p at calls e known none =
     let kept = kept_after p.pkid s p at e known in
     let all = adds_up p.pkid s (Hear (packets.Publish p) at ∷ calls) in
     let rest = adds_up p.pkid t calls in
-    let z = none_accepted p.pkid (inc s (packets.Publish p) at).0 in
+    let z = none_accepted p.pkid (on_packet s (packets.Publish p) at).0 in
     let most = at_most_one (set.contains (after_all t calls).core.incoming p.pkid) in
     omega (arith, kept, all, rest, z, most, none)

@@ -6,26 +6,26 @@ use Rattle.std.specs.FinMap.{get, len, insert, remove, contains_key}
 use Rattle.std.specs.FinSet as set
 use Rattle.mqtt5_base.specs.declared.quality.QoS.{QoS}
 use Rattle.mqtt5_base.specs.declared.quality.QoS.TheVariants.{AtMostOnce, AtLeastOnce, ExactlyOnce}
-use Rattle.mqtt5_flow.specs.declared.publish.Publish.{Publish}
-use Rattle.mqtt5_flow.specs.declared.puback.PubAckReason.{PubAckReason}
-use Rattle.mqtt5_flow.specs.declared.pubrel.PubRelReason.{PubRelReason}
-use Rattle.mqtt5_flow.specs.declared.pubrel.PubRelReason.TheVariants as pubrel_reasons
-use Rattle.mqtt5_link.specs.declared.connack.ConnectReturnCode.{ConnectReturnCode}
-use Rattle.mqtt5_link.specs.declared.connack.ConnectReturnCode.TheVariants as return_codes
-use Rattle.mqtt5_link.specs.declared.connack.ConnAckProperties.{ConnAckProperties}
+use Rattle.mqtt5_publish.specs.declared.publish.Publish.{Publish}
+use Rattle.mqtt5_publish.specs.declared.puback.PubAckReason.{PubAckReason}
+use Rattle.mqtt5_publish.specs.declared.pubrel.PubRelReason.{PubRelReason}
+use Rattle.mqtt5_publish.specs.declared.pubrel.PubRelReason.TheVariants as pubrel_reasons
+use Rattle.mqtt5_control.specs.declared.connack.ConnectReturnCode.{ConnectReturnCode}
+use Rattle.mqtt5_control.specs.declared.connack.ConnectReturnCode.TheVariants as return_codes
+use Rattle.mqtt5_control.specs.declared.connack.ConnAckProperties.{ConnAckProperties}
 use Rattle.mqtt5_codec.specs.declared.packet.Packet.{Packet}
 use Rattle.mqtt5_codec.specs.declared.packet.Packet.TheVariants as packets
-use Rattle.mqtt5_held.specs.declared.slot.Slot.{Slot}
-use Rattle.mqtt5_held.specs.declared.slot.Slot.TheVariants.{Sent, Released}
-use Rattle.mqtt5_held.specs.declared.event.Request.{Request}
-use Rattle.mqtt5_held.specs.declared.event.Request.TheVariants as requests
-use Rattle.mqtt5_held.specs.declared.event.Outgoing.{Outgoing}
-use Rattle.mqtt5_held.specs.declared.error.StateError.{StateError}
-use Rattle.mqtt5_held.specs.declared.error.StateError.TheVariants as errors
-use Rattle.mqtt5_held.proofs.Counts.{len_used, len_free, len_removed}
-use Rattle.mqtt5_session.specs.Session.{Core, Session, Answer, Sends, Hears}
-use Rattle.mqtt5_session.specs.Requests.{out, unless, over_maximum, judged, by_alias, by_use, Verdict, Refuse, Wait, Store, out_acked, out_publish, out_release, out_known, id_for, last_after, counts_ping, ping_fault}
-use Rattle.mqtt5_session.specs.Packets.{inc, heard, hears, notes, told, freed_for, on_puback, on_received, on_pubrec, on_pubcomp, on_pubrel, on_publish, on_qos, answers, on_connack, is_taken, topic_of}
+use Rattle.mqtt5_inflight.specs.declared.slot.Slot.{Slot}
+use Rattle.mqtt5_inflight.specs.declared.slot.Slot.TheVariants.{Sent, Released}
+use Rattle.mqtt5_inflight.specs.declared.event.Request.{Request}
+use Rattle.mqtt5_inflight.specs.declared.event.Request.TheVariants as requests
+use Rattle.mqtt5_inflight.specs.declared.event.Outgoing.{Outgoing}
+use Rattle.mqtt5_inflight.specs.declared.error.StateError.{StateError}
+use Rattle.mqtt5_inflight.specs.declared.error.StateError.TheVariants as errors
+use Rattle.mqtt5_inflight.proofs.Counts.{len_used, len_free, len_removed}
+use Rattle.mqtt5_session.specs.Session.{Core, Session, Answer, Sends, Receives}
+use Rattle.mqtt5_session.specs.Requests.{on_request, unless, over_maximum, judged, by_alias, by_use, Verdict, Refuse, Wait, Store, out_acked, out_publish, out_release, out_known, id_for, last_after, counts_ping, ping_fault}
+use Rattle.mqtt5_session.specs.Packets.{on_packet, answer_to, with_incoming, with_notice, event_of, freed_for, on_puback, on_received, on_pubrec, on_pubcomp, on_pubrel, on_publish, on_qos, answers, on_connack, is_taken, topic_of}
 use Rattle.mqtt5_session.specs.Ledger.{one_of, owed, owed_at, adds, ends, accepted}
 
 -- what an answer owes, where n is added on success
@@ -50,9 +50,9 @@ unless_adds s n (Some e) a h = omega arith
 abbrev pub Judges : Core → Publish → Verdict → Type 0
 Judges c p (Refuse e) = Unit {0}
 Judges c p Wait = (c.waiting ≡ None) × (over_maximum c p ≡ None)
-Judges c p Store = (get c.held p.pkid ≡ None) × (p.pkid ≤ c.limit) × (over_maximum c p ≡ None)
+Judges c p Store = (get c.in_use p.pkid ≡ None) × (p.pkid ≤ c.limit) × (over_maximum c p ≡ None)
 
-judges_use : (c : Core) (p : Publish) (x : Option Slot) (w : Option Publish) → p.pkid ≤ c.limit → get c.held p.pkid ≡ x → c.waiting ≡ w → over_maximum c p ≡ None → Judges c p (by_use x w)
+judges_use : (c : Core) (p : Publish) (x : Option Slot) (w : Option Publish) → p.pkid ≤ c.limit → get c.in_use p.pkid ≡ x → c.waiting ≡ w → over_maximum c p ≡ None → Judges c p (by_use x w)
 judges_use c p None w h e f o = (e, h, o)
 judges_use c p (Some x) None h e f o = (f, o)
 judges_use c p (Some x) (Some q) h e f o = tt {0}
@@ -64,30 +64,30 @@ judges_alias c p (Some e) v o h = tt {0}
 pub judges : (c : Core) (p : Publish) → Judges c p (judged c p)
 judges c p = by (nat_lt c.limit p.pkid) refl
   where
-    by : (b : Bool) → nat_lt c.limit p.pkid ≡ b → Judges c p (cond b (Refuse (errors.Unsolicited p.pkid)) (by_alias (over_maximum c p) (by_use (get c.held p.pkid) c.waiting)))
+    by : (b : Bool) → nat_lt c.limit p.pkid ≡ b → Judges c p (cond b (Refuse (errors.Unsolicited p.pkid)) (by_alias (over_maximum c p) (by_use (get c.in_use p.pkid) c.waiting)))
     by true e = tt {0}
-    by false e = judges_alias c p (over_maximum c p) (by_use (get c.held p.pkid) c.waiting) refl (judges_use c p (get c.held p.pkid) c.waiting (ltb-false c.limit p.pkid e) refl refl)
+    by false e = judges_alias c p (over_maximum c p) (by_use (get c.in_use p.pkid) c.waiting) refl (judges_use c p (get c.in_use p.pkid) c.waiting (ltb-false c.limit p.pkid e) refl refl)
 
 acked_adds : (v : Verdict) (s : Session) (p : Publish) (last at : ℕ) → Judges s.core p v → Adds s 1 (out_acked v s p last at)
 acked_adds (Refuse e) s p last at h = omega arith
 acked_adds Wait s p last at h = let w : one_of s.core.waiting ≡ 0 = ap one_of h.0 in omega arith
-acked_adds Store s p last at h = let n : len (insert s.core.held p.pkid (Sent p)) ≡ len s.core.held + 1 = len_free s.core.held p.pkid (Sent p) h.0 in omega arith
+acked_adds Store s p last at h = let n : len (insert s.core.in_use p.pkid (Sent p)) ≡ len s.core.in_use + 1 = len_free s.core.in_use p.pkid (Sent p) h.0 in omega arith
 
 publish_adds : (q : QoS) (s : Session) (p : Publish) (at : ℕ) → Adds s (owed_at q) (out_publish q s p at)
 publish_adds AtMostOnce s p at = unless_adds s 0 (over_maximum s.core p) _ (omega arith)
 publish_adds AtLeastOnce s p at = acked_adds _ s (record p { pkid = id_for s.core p.pkid }) (last_after s.core p.pkid) at (judges s.core (record p { pkid = id_for s.core p.pkid }))
 publish_adds ExactlyOnce s p at = acked_adds _ s (record p { pkid = id_for s.core p.pkid }) (last_after s.core p.pkid) at (judges s.core (record p { pkid = id_for s.core p.pkid }))
 
-known_adds : (x : Option Slot) (s : Session) (id last at : ℕ) → get s.core.held id ≡ x → Adds s (cond (is_some x) 0 1) (out_known x s id last at)
-known_adds None s id last at e = let n : len (insert s.core.held id Released) ≡ len s.core.held + 1 = len_free s.core.held id Released e in omega arith
-known_adds (Some Released) s id last at e = let n : len (insert s.core.held id Released) ≡ len s.core.held = len_used s.core.held id Released Released e in omega arith
+known_adds : (x : Option Slot) (s : Session) (id last at : ℕ) → get s.core.in_use id ≡ x → Adds s (cond (is_some x) 0 1) (out_known x s id last at)
+known_adds None s id last at e = let n : len (insert s.core.in_use id Released) ≡ len s.core.in_use + 1 = len_free s.core.in_use id Released e in omega arith
+known_adds (Some Released) s id last at e = let n : len (insert s.core.in_use id Released) ≡ len s.core.in_use = len_used s.core.in_use id Released Released e in omega arith
 known_adds (Some (Sent p)) s id last at e = omega arith
 
-release_adds : (s : Session) (id last at : ℕ) → Adds s (cond (contains_key s.core.held id) 0 1) (out_release s id last at)
-release_adds s id last at = choose (Adds s (cond (contains_key s.core.held id) 0 1)) (nat_lt s.core.limit id) _ _ (λ _. omega arith) (λ _. known_adds (get s.core.held id) s id last at refl)
+release_adds : (s : Session) (id last at : ℕ) → Adds s (cond (contains_key s.core.in_use id) 0 1) (out_release s id last at)
+release_adds s id last at = choose (Adds s (cond (contains_key s.core.in_use id) 0 1)) (nat_lt s.core.limit id) _ _ (λ _. omega arith) (λ _. known_adds (get s.core.in_use id) s id last at refl)
 
-pub out_adds : (s : Session) (r : Request) (at : ℕ) → Adds s (adds s.core r) (out s r at)
-unfolding out
+pub out_adds : (s : Session) (r : Request) (at : ℕ) → Adds s (adds s.core r) (on_request s r at)
+unfolding on_request
 out_adds s (requests.Publish p) at = publish_adds p.qos s p at
 out_adds s (requests.PubRel p) at = release_adds s (id_for s.core p.pkid) (last_after s.core p.pkid) at
 out_adds s (requests.Subscribe p) at = choose (Adds s 0) (length p.filters == 0) _ _ (λ _. omega arith) (λ _. omega arith)
@@ -104,29 +104,29 @@ out_adds s (requests.UnsubAck p) at = omega arith
 -- ---- packets
 
 -- an id that was in use is ended
-freed_takes : (w : Option Publish) (s : Session) (id at : ℕ) (x : Slot) → s.core.waiting ≡ w → get s.core.held id ≡ Some x → Takes s 1 (freed_for w s id at)
+freed_takes : (w : Option Publish) (s : Session) (id at : ℕ) (x : Slot) → s.core.waiting ≡ w → get s.core.in_use id ≡ Some x → Takes s 1 (freed_for w s id at)
 freed_takes None s id at x e f =
-    let n : len (remove s.core.held id) + 1 ≡ len s.core.held = len_removed s.core.held id x f in
+    let n : len (remove s.core.in_use id) + 1 ≡ len s.core.in_use = len_removed s.core.in_use id x f in
     omega arith
 freed_takes (Some p) s id at x e f = choose (Takes s 1) (p.pkid == id) _ _
-    (λ _. let n : len (insert s.core.held id (Sent p)) ≡ len s.core.held = len_used s.core.held id x (Sent p) f in let w : one_of s.core.waiting ≡ 1 = ap one_of e in omega arith)
-    (λ _. let n : len (remove s.core.held id) + 1 ≡ len s.core.held = len_removed s.core.held id x f in omega arith)
+    (λ _. let n : len (insert s.core.in_use id (Sent p)) ≡ len s.core.in_use = len_used s.core.in_use id x (Sent p) f in let w : one_of s.core.waiting ≡ 1 = ap one_of e in omega arith)
+    (λ _. let n : len (remove s.core.in_use id) + 1 ≡ len s.core.in_use = len_removed s.core.in_use id x f in omega arith)
 
-puback_takes : (x : Option Slot) (s : Session) (id at : ℕ) → get s.core.held id ≡ x → Takes s 1 (on_puback x s id at)
+puback_takes : (x : Option Slot) (s : Session) (id at : ℕ) → get s.core.in_use id ≡ x → Takes s 1 (on_puback x s id at)
 puback_takes None s id at e = omega arith
 puback_takes (Some Released) s id at e = omega arith
 puback_takes (Some (Sent p)) s id at e = freed_takes s.core.waiting s id at (Sent p) refl e
 
-pubcomp_takes : (x : Option Slot) (s : Session) (id at : ℕ) → get s.core.held id ≡ x → Takes s 1 (on_pubcomp x s id at)
+pubcomp_takes : (x : Option Slot) (s : Session) (id at : ℕ) → get s.core.in_use id ≡ x → Takes s 1 (on_pubcomp x s id at)
 pubcomp_takes None s id at e = omega arith
 pubcomp_takes (Some (Sent p)) s id at e = omega arith
 pubcomp_takes (Some Released) s id at e = freed_takes s.core.waiting s id at Released refl e
 
-received_takes : (b : Bool) (s : Session) (id at : ℕ) (x : Slot) → get s.core.held id ≡ Some x → Takes s (cond b 0 1) (on_received b s id at)
-received_takes true s id at x e = let n : len (insert s.core.held id Released) ≡ len s.core.held = len_used s.core.held id x Released e in omega arith
+received_takes : (b : Bool) (s : Session) (id at : ℕ) (x : Slot) → get s.core.in_use id ≡ Some x → Takes s (cond b 0 1) (on_received b s id at)
+received_takes true s id at x e = let n : len (insert s.core.in_use id Released) ≡ len s.core.in_use = len_used s.core.in_use id x Released e in omega arith
 received_takes false s id at x e = freed_takes s.core.waiting s id at x refl e
 
-pubrec_takes : (x : Option Slot) (s : Session) (reason : PubAckReason) (id at : ℕ) → get s.core.held id ≡ x → Takes s (cond (is_taken reason) 0 1) (on_pubrec x s reason id at)
+pubrec_takes : (x : Option Slot) (s : Session) (reason : PubAckReason) (id at : ℕ) → get s.core.in_use id ≡ x → Takes s (cond (is_taken reason) 0 1) (on_pubrec x s reason id at)
 pubrec_takes None s reason id at e = omega arith
 pubrec_takes (Some Released) s reason id at e = omega arith
 pubrec_takes (Some (Sent p)) s reason id at e = received_takes (is_taken reason) s id at (Sent p) e
@@ -153,22 +153,22 @@ connack_takes : (code : ConnectReturnCode) (properties : Option ConnAckPropertie
 connack_takes return_codes.Success properties s at = omega arith
 connack_takes code properties s at = omega arith
 
-heard_takes : (s : Session) (packet : Packet) (at : ℕ) → Takes s (ends packet) (heard s packet at)
-heard_takes s (packets.PubAck p) at = puback_takes (get s.core.held p.pkid) s p.pkid at refl
-heard_takes s (packets.PubRec p) at = pubrec_takes (get s.core.held p.pkid) s p.reason p.pkid at refl
-heard_takes s (packets.PubComp p) at = pubcomp_takes (get s.core.held p.pkid) s p.pkid at refl
+heard_takes : (s : Session) (packet : Packet) (at : ℕ) → Takes s (ends packet) (answer_to s packet at)
+heard_takes s (packets.PubAck p) at = puback_takes (get s.core.in_use p.pkid) s p.pkid at refl
+heard_takes s (packets.PubRec p) at = pubrec_takes (get s.core.in_use p.pkid) s p.reason p.pkid at refl
+heard_takes s (packets.PubComp p) at = pubcomp_takes (get s.core.in_use p.pkid) s p.pkid at refl
 heard_takes s (packets.PubRel p) at = pubrel_takes (set.contains s.core.incoming p.pkid) s p.reason p.pkid at
 heard_takes s (packets.Publish p) at = publish_takes (is_some (topic_of s p)) s p at
 heard_takes s (packets.ConnAck p) at = connack_takes p.code p.properties s at
 heard_takes s packet at = omega arith
 
-pub inc_takes : (s : Session) (packet : Packet) (at : ℕ) → Takes s (ends packet) (inc s packet at)
-unfolding inc
-inc_takes s packet at = noted (told s packet)
+pub inc_takes : (s : Session) (packet : Packet) (at : ℕ) → Takes s (ends packet) (on_packet s packet at)
+unfolding on_packet
+inc_takes s packet at = noted (event_of s packet)
   where
-    noted : (o : Option Packet) → Takes s (ends packet) (heard (notes s o) packet at)
+    noted : (o : Option Packet) → Takes s (ends packet) (answer_to (with_notice s o) packet at)
     noted None = heard_takes s packet at
-    noted (Some x) = heard_takes (hears s x) packet at
+    noted (Some x) = heard_takes (with_incoming s x) packet at
 
 -- ---- the clauses of calls
 
@@ -176,6 +176,6 @@ pub adds_of : (result : Result (Option Packet) StateError) (old new : Session) (
 adds_of (Err errors.OutOfMemory) old new n a law h = let e = ap (λ s. owed s.core) h.0 in omega arith
 adds_of result old new n a law h = ap (λ s. owed s.core) h.1 ∙ law ∙ ap (λ x. owed old.core + accepted x n) (sym h.0)
 
-pub takes_of : (result : Result (Option Packet) StateError) (old new : Session) (n : ℕ) (a : Answer) → Takes old n a → Hears result old new a → owed new.core + accepted result n ≡ owed old.core
+pub takes_of : (result : Result (Option Packet) StateError) (old new : Session) (n : ℕ) (a : Answer) → Takes old n a → Receives result old new a → owed new.core + accepted result n ≡ owed old.core
 takes_of (Err errors.OutOfMemory) old new n a law h = let e = ap (λ s. owed s.core) h in omega arith
 takes_of result old new n a law h = ap (λ s. owed s.core + accepted result n) h.1 ∙ ap (λ x. owed a.1.core + accepted x n) h.0 ∙ law

@@ -6,24 +6,24 @@ use Rattle.std.proofs.lemmas.List.Elements.{filter_map-append}
 use Rattle.std.specs.FinMap.{get, insert, empty}
 use Rattle.mqtt5_base.specs.declared.quality.QoS.{QoS}
 use Rattle.mqtt5_base.specs.declared.quality.QoS.TheVariants.{AtMostOnce, AtLeastOnce, ExactlyOnce}
-use Rattle.mqtt5_flow.specs.declared.publish.Publish.{Publish}
+use Rattle.mqtt5_publish.specs.declared.publish.Publish.{Publish}
 use Rattle.mqtt5_codec.specs.declared.packet.Packet.{Packet}
 use Rattle.mqtt5_codec.specs.declared.packet.Packet.TheVariants as packets
-use Rattle.mqtt5_held.specs.declared.slot.Slot.{Slot}
-use Rattle.mqtt5_held.specs.declared.slot.Slot.TheVariants.{Sent, Released}
-use Rattle.mqtt5_held.specs.declared.event.Request.{Request}
-use Rattle.mqtt5_held.specs.declared.event.Request.TheVariants as requests
-use Rattle.mqtt5_held.specs.declared.error.StateError.{StateError}
-use Rattle.mqtt5_held.specs.declared.error.StateError.TheVariants as errors
-use Rattle.mqtt5_held.specs.Held.{Held, IsWithin}
-use Rattle.mqtt5_held.specs.Aliases.{alias_of, alias_over}
-use Rattle.mqtt5_held.specs.Unacked.{again, alias_again, by_id, publish_again, release_again}
-use Rattle.mqtt5_held.specs.Resent.{packet_for, packets_of}
-use Rattle.mqtt5_held.proofs.Within.{Fits, fits}
-use Rattle.mqtt5_held.proofs.Parts.{is_sent, is_kept, with_slot, map_to, above, FreeFor, free_first, free_then, whole_map}
+use Rattle.mqtt5_inflight.specs.declared.slot.Slot.{Slot}
+use Rattle.mqtt5_inflight.specs.declared.slot.Slot.TheVariants.{Sent, Released}
+use Rattle.mqtt5_inflight.specs.declared.event.Request.{Request}
+use Rattle.mqtt5_inflight.specs.declared.event.Request.TheVariants as requests
+use Rattle.mqtt5_inflight.specs.declared.error.StateError.{StateError}
+use Rattle.mqtt5_inflight.specs.declared.error.StateError.TheVariants as errors
+use Rattle.mqtt5_inflight.specs.InUse.{InUse, IsWithin}
+use Rattle.mqtt5_inflight.specs.Aliases.{alias_of, alias_over}
+use Rattle.mqtt5_inflight.specs.Unacked.{again, alias_again, by_id, publish_again, release_again}
+use Rattle.mqtt5_inflight.specs.Resent.{packet_for, packets_of}
+use Rattle.mqtt5_inflight.proofs.Within.{Fits, fits}
+use Rattle.mqtt5_inflight.proofs.Parts.{is_sent, is_kept, with_slot, map_to, above, FreeFor, free_first, free_then, whole_map}
 use Rattle.mqtt5_session.specs.Session.{Session, Answer}
-use Rattle.mqtt5_session.specs.Requests.{out, alias_fault, id_for, last_after, by_alias, by_use, over_maximum, Refuse, Store, out_acked, out_identified, out_publish, out_release, out_known, stored}
-use Rattle.mqtt5_session.specs.Cleaning.{cleaned, Sendings, with_reply, send_all, resume_of}
+use Rattle.mqtt5_session.specs.Requests.{on_request, alias_fault, id_for, last_after, by_alias, by_use, over_maximum, Refuse, Store, out_acked, out_identified, out_publish, out_release, out_known, stored}
+use Rattle.mqtt5_session.specs.Resuming.{cleaned, Sendings, with_reply, send_all, resume_of}
 use Rattle.mqtt5_session.specs.Again.{event_for, moment_after, after_sent, sent_unless, resumed}
 
 -- ---- one list of requests after another
@@ -52,8 +52,8 @@ reply_and_then (Ok reply) (Ok r) f = reply_before reply r.0 (f r.1)
 send_append : (xs ys : List Request) (s : Session) (at : ℕ) → send_all (xs ++ ys) s at ≡ and_then (send_all xs s at) (λ t. send_all ys t at)
 send_append [] ys s at = none_before (send_all ys s at)
 send_append (x ∷ xs) ys s at =
-    ap (with_reply (out s x at).0) (send_append xs ys (out s x at).1 at)
-    ∙ reply_and_then (out s x at).0 (send_all xs (out s x at).1 at) (λ t. send_all ys t at)
+    ap (with_reply (on_request s x at).0) (send_append xs ys (on_request s x at).1 at)
+    ∙ reply_and_then (on_request s x at).0 (send_all xs (on_request s x at).1 at) (λ t. send_all ys t at)
 
 -- ---- one sending after another
 
@@ -62,22 +62,22 @@ moment_twice [] qs last at = refl
 moment_twice (p ∷ ps) [] last at = refl
 moment_twice (p ∷ ps) (q ∷ qs) last at = refl
 
-after_twice : (ps qs : List Packet) (m k : Held) (s : Session) (at : ℕ) → after_sent qs k (after_sent ps m s at) at ≡ after_sent (ps ++ qs) k s at
+after_twice : (ps qs : List Packet) (m k : InUse) (s : Session) (at : ℕ) → after_sent qs k (after_sent ps m s at) at ≡ after_sent (ps ++ qs) k s at
 after_twice ps qs m k s at i = record s {
-  core = record s.core { held = k };
+  core = record s.core { in_use = k };
   events = (append_assoc s.events (filter_map event_for ps) (filter_map event_for qs) ∙ ap (λ l. s.events ++ l) (sym (filter_map-append event_for ps qs))) i;
   last_outgoing = moment_twice ps qs s.last_outgoing at i;
 }
 
-none_after : (s : Session) (at : ℕ) → after_sent [] s.core.held s at ≡ s
+none_after : (s : Session) (at : ℕ) → after_sent [] s.core.in_use s at ≡ s
 none_after s at i = record s { events = append-nil s.events i }
 
-both_sent : (xs ys : List ℕ) (ps qs : List Packet) (m k : Held) (s : Session) (at : ℕ) → and_then (sent_unless xs ps m s at) (λ t. sent_unless ys qs k t at) ≡ sent_unless (xs ++ ys) (ps ++ qs) k s at
+both_sent : (xs ys : List ℕ) (ps qs : List Packet) (m k : InUse) (s : Session) (at : ℕ) → and_then (sent_unless xs ps m s at) (λ t. sent_unless ys qs k t at) ≡ sent_unless (xs ++ ys) (ps ++ qs) k s at
 both_sent (x ∷ xs) ys ps qs m k s at = refl
 both_sent [] (y ∷ ys) ps qs m k s at = refl
 both_sent [] [] ps qs m k s at = ap (λ t. Ok (ps ++ qs, t)) (after_twice ps qs m k s at)
 
-sent_then : (xs ys : List ℕ) (ps qs : List Packet) (m k : Held) (s : Session) (f : Session → Sendings) (at : ℕ) → f (after_sent ps m s at) ≡ sent_unless ys qs k (after_sent ps m s at) at → and_then (sent_unless xs ps m s at) f ≡ sent_unless (xs ++ ys) (ps ++ qs) k s at
+sent_then : (xs ys : List ℕ) (ps qs : List Packet) (m k : InUse) (s : Session) (f : Session → Sendings) (at : ℕ) → f (after_sent ps m s at) ≡ sent_unless ys qs k (after_sent ps m s at) at → and_then (sent_unless xs ps m s at) f ≡ sent_unless (xs ++ ys) (ps ++ qs) k s at
 sent_then (x ∷ xs) ys ps qs m k s f at e = refl
 sent_then [] ys ps qs m k s f at e = ap (sent_before ps) e ∙ both_sent [] ys ps qs m k s at
 
@@ -85,16 +85,16 @@ sent_then [] ys ps qs m k s f at e = ap (sent_before ps) e ∙ both_sent [] ys p
 
 -- what is chosen of an id is sent, and put into the map
 abbrev Steps : (Slot → Bool) → (ℕ → Option Slot → List Request) → (ℕ → Option Slot → List ℕ) → Session → ℕ → Type 0
-Steps ok f g s at = (ps : List Packet) (m : Held) (id : ℕ) (x : Option Slot) → Fits s.core.limit id x → FreeFor ok x (get m id) → send_all (f id x) (after_sent ps m s at) at ≡ sent_unless (g id x) (filter_map packet_for (f id x)) (with_slot ok id x m) (after_sent ps m s at) at
+Steps ok f g s at = (ps : List Packet) (m : InUse) (id : ℕ) (x : Option Slot) → Fits s.core.limit id x → FreeFor ok x (get m id) → send_all (f id x) (after_sent ps m s at) at ≡ sent_unless (g id x) (filter_map packet_for (f id x)) (with_slot ok id x m) (after_sent ps m s at) at
 
-all_sent : (ok : Slot → Bool) (f : ℕ → Option Slot → List Request) (g : ℕ → Option Slot → List ℕ) (s : Session) (at : ℕ) → Steps ok f g s at → (h : Held) → ((k : ℕ) → Fits s.core.limit k (get h k)) → ((k : ℕ) → FreeFor ok (get h k) (get s.core.held k)) → (n : ℕ) → send_all (by_id f n h) s at ≡ sent_unless (by_id g n h) (filter_map packet_for (by_id f n h)) (map_to ok n h s.core.held) s at
+all_sent : (ok : Slot → Bool) (f : ℕ → Option Slot → List Request) (g : ℕ → Option Slot → List ℕ) (s : Session) (at : ℕ) → Steps ok f g s at → (h : InUse) → ((k : ℕ) → Fits s.core.limit k (get h k)) → ((k : ℕ) → FreeFor ok (get h k) (get s.core.in_use k)) → (n : ℕ) → send_all (by_id f n h) s at ≡ sent_unless (by_id g n h) (filter_map packet_for (by_id f n h)) (map_to ok n h s.core.in_use) s at
 all_sent ok f g s at step h fit free zero = ap (λ t. Ok ([], t)) (sym (none_after s at))
 all_sent ok f g s at step h fit free (suc n) =
     send_append (by_id f n h) (f (suc n) (get h (suc n))) s at
     ∙ ap (λ r. and_then r (λ t. send_all (f (suc n) (get h (suc n))) t at)) (all_sent ok f g s at step h fit free n)
-    ∙ sent_then (by_id g n h) (g (suc n) (get h (suc n))) (filter_map packet_for (by_id f n h)) (filter_map packet_for (f (suc n) (get h (suc n)))) (map_to ok n h s.core.held) (map_to ok (suc n) h s.core.held) s (λ t. send_all (f (suc n) (get h (suc n))) t at) at
-    (step (filter_map packet_for (by_id f n h)) (map_to ok n h s.core.held) (suc n) (get h (suc n)) (fit (suc n)) (subst (FreeFor ok (get h (suc n))) (sym (above ok h s.core.held n (suc n) (omega arith))) (free (suc n))))
-    ∙ ap (λ ps. sent_unless (by_id g (suc n) h) ps (map_to ok (suc n) h s.core.held) s at) (sym (filter_map-append packet_for (by_id f n h) (f (suc n) (get h (suc n)))))
+    ∙ sent_then (by_id g n h) (g (suc n) (get h (suc n))) (filter_map packet_for (by_id f n h)) (filter_map packet_for (f (suc n) (get h (suc n)))) (map_to ok n h s.core.in_use) (map_to ok (suc n) h s.core.in_use) s (λ t. send_all (f (suc n) (get h (suc n))) t at) at
+    (step (filter_map packet_for (by_id f n h)) (map_to ok n h s.core.in_use) (suc n) (get h (suc n)) (fit (suc n)) (subst (FreeFor ok (get h (suc n))) (sym (above ok h s.core.in_use n (suc n) (omega arith))) (free (suc n))))
+    ∙ ap (λ ps. sent_unless (by_id g (suc n) h) ps (map_to ok (suc n) h s.core.in_use) s at) (sym (filter_map-append packet_for (by_id f n h) (f (suc n) (get h (suc n)))))
 
 -- ---- one request
 
@@ -113,31 +113,31 @@ by_over : (o : Option ℕ) (s : Session) (p : Publish) (at : ℕ) → out_acked 
 by_over None s p at = refl
 by_over (Some alias) s p at = refl
 
-identified : (s : Session) (p : Publish) (at : ℕ) → p.pkid ≤ s.core.limit → get s.core.held p.pkid ≡ None → out_identified s p s.core.last at ≡ sent_by (alias_over s.core.alias_max (alias_of p)) s p at
+identified : (s : Session) (p : Publish) (at : ℕ) → p.pkid ≤ s.core.limit → get s.core.in_use p.pkid ≡ None → out_identified s p s.core.last at ≡ sent_by (alias_over s.core.alias_max (alias_of p)) s p at
 identified s p at within free =
-    ap (λ b. out_acked (cond b (Refuse (errors.Unsolicited p.pkid)) (by_alias (over_maximum s.core p) (by_use (get s.core.held p.pkid) s.core.waiting))) s p s.core.last at) (le-ltb s.core.limit p.pkid within)
+    ap (λ b. out_acked (cond b (Refuse (errors.Unsolicited p.pkid)) (by_alias (over_maximum s.core p) (by_use (get s.core.in_use p.pkid) s.core.waiting))) s p s.core.last at) (le-ltb s.core.limit p.pkid within)
     ∙ ap (λ x. out_acked (by_alias (over_maximum s.core p) (by_use x s.core.waiting)) s p s.core.last at) free
     ∙ by_over (alias_over s.core.alias_max (alias_of p)) s p at
 
-resent_as : (s : Session) (p : Publish) (at : ℕ) → 0 < p.pkid → p.pkid ≤ s.core.limit → get s.core.held p.pkid ≡ None → out_identified s (record p { pkid = id_for s.core p.pkid }) (last_after s.core p.pkid) at ≡ sent_by (alias_over s.core.alias_max (alias_of p)) s p at
+resent_as : (s : Session) (p : Publish) (at : ℕ) → 0 < p.pkid → p.pkid ≤ s.core.limit → get s.core.in_use p.pkid ≡ None → out_identified s (record p { pkid = id_for s.core p.pkid }) (last_after s.core p.pkid) at ≡ sent_by (alias_over s.core.alias_max (alias_of p)) s p at
 resent_as s p at pos within free =
     ap (λ i. out_identified s (record p { pkid = i }) (last_after s.core p.pkid) at) (same_id s p.pkid pos)
     ∙ ap (λ l. out_identified s p l at) (same_last s p.pkid pos)
     ∙ identified s p at within free
 
-resent_by : (q : QoS) (s : Session) (p : Publish) (at : ℕ) → q ≢ AtMostOnce → 0 < p.pkid → p.pkid ≤ s.core.limit → get s.core.held p.pkid ≡ None → out_publish q s p at ≡ sent_by (alias_over s.core.alias_max (alias_of p)) s p at
+resent_by : (q : QoS) (s : Session) (p : Publish) (at : ℕ) → q ≢ AtMostOnce → 0 < p.pkid → p.pkid ≤ s.core.limit → get s.core.in_use p.pkid ≡ None → out_publish q s p at ≡ sent_by (alias_over s.core.alias_max (alias_of p)) s p at
 resent_by AtMostOnce s p at counted pos within free = absurd (counted refl)
 resent_by AtLeastOnce s p at counted pos within free = resent_as s p at pos within free
 resent_by ExactlyOnce s p at counted pos within free = resent_as s p at pos within free
 
 -- nothing is sent of an id that has nothing to send
-nothing : (ps : List Packet) (m : Held) (s : Session) (at : ℕ) → ◌≡◌ {A = Sendings} (Ok ([], after_sent ps m s at)) (Ok ([], after_sent [] m (after_sent ps m s at) at))
+nothing : (ps : List Packet) (m : InUse) (s : Session) (at : ℕ) → ◌≡◌ {A = Sendings} (Ok ([], after_sent ps m s at)) (Ok ([], after_sent [] m (after_sent ps m s at) at))
 nothing ps m s at = ap (λ t. Ok ([], t)) (sym (none_after (after_sent ps m s at) at))
 
-resent : (s : Session) (p : Publish) (id at : ℕ) → Fits s.core.limit id (Some (Sent p)) → get s.core.held id ≡ None → out s (requests.Publish (again p)) at ≡ sent_by (alias_over s.core.alias_max (alias_of p)) s (again p) at
-unfolding out
+resent : (s : Session) (p : Publish) (id at : ℕ) → Fits s.core.limit id (Some (Sent p)) → get s.core.in_use id ≡ None → on_request s (requests.Publish (again p)) at ≡ sent_by (alias_over s.core.alias_max (alias_of p)) s (again p) at
+unfolding on_request
 resent s p id at f free =
-    resent_by p.qos s (again p) at f.own.1 (subst (λ i. 0 < i) (sym f.own.0) f.low) (subst (λ i. i ≤ s.core.limit) (sym f.own.0) f.high) (ap (get s.core.held) f.own.0 ∙ free)
+    resent_by p.qos s (again p) at f.own.1 (subst (λ i. 0 < i) (sym f.own.0) f.low) (subst (λ i. i ≤ s.core.limit) (sym f.own.0) f.high) (ap (get s.core.in_use) f.own.0 ∙ free)
 
 sent_step : (s : Session) (at : ℕ) → Steps is_sent publish_again (alias_again s.core.alias_max) s at
 sent_step s at ps m id None f free = nothing ps m s at
@@ -150,28 +150,28 @@ sent_step s at ps m id (Some (Sent p)) f free =
     by None = ap (λ i. Ok (packets.Publish (again p) ∷ [], after_sent (packets.Publish (again p) ∷ []) (insert m i (Sent (again p))) (after_sent ps m s at) at)) f.own.0
 
 -- an id that is released again
-rereleased : (s : Session) (id at : ℕ) → 0 < id → id ≤ s.core.limit → get s.core.held id ≡ None → out_release s (id_for s.core id) (last_after s.core id) at ≡ out_known None s id s.core.last at
+rereleased : (s : Session) (id at : ℕ) → 0 < id → id ≤ s.core.limit → get s.core.in_use id ≡ None → out_release s (id_for s.core id) (last_after s.core id) at ≡ out_known None s id s.core.last at
 rereleased s id at pos within free =
     ap (λ i. out_release s i (last_after s.core id) at) (same_id s id pos)
     ∙ ap (λ l. out_release s id l at) (same_last s id pos)
-    ∙ ap (λ b. cond b (Err (errors.Unsolicited id), s) (out_known (get s.core.held id) s id s.core.last at)) (le-ltb s.core.limit id within)
+    ∙ ap (λ b. cond b (Err (errors.Unsolicited id), s) (out_known (get s.core.in_use id) s id s.core.last at)) (le-ltb s.core.limit id within)
     ∙ ap (λ x. out_known x s id s.core.last at) free
 
 abbrev no_alias : ℕ → Option Slot → List ℕ
 no_alias id x = []
 
 kept_step : (s : Session) (at : ℕ) → Steps is_kept release_again no_alias s at
-unfolding out
+unfolding on_request
 kept_step s at ps m id None f free = nothing ps m s at
 kept_step s at ps m id (Some (Sent p)) f free = nothing ps m s at
 kept_step s at ps m id (Some Released) f free = ap (λ a. with_reply a.0 (Ok ([], a.1))) (rereleased (after_sent ps m s at) id at f.low f.high (free refl))
 
-no_aliases : (n : ℕ) (h : Held) → by_id no_alias n h ≡ []
+no_aliases : (n : ℕ) (h : InUse) → by_id no_alias n h ≡ []
 no_aliases zero h = refl
 no_aliases (suc n) h = append-nil (by_id no_alias n h) ∙ no_aliases n h
 
 -- to resume sends all in one piece, and keeps the ids in use, with dup of their publishes
-pub resumes : (s : Session) (at : ℕ) → IsWithin s.core.limit s.core.held → resume_of s at ≡ resumed s at
+pub resumes : (s : Session) (at : ℕ) → IsWithin s.core.limit s.core.in_use → resume_of s at ≡ resumed s at
 unfolding resume_of
 resumes s at is =
     send_append (by_id publish_again n h) (by_id release_again n h) (cleaned s) at
@@ -184,13 +184,13 @@ resumes s at is =
     n : ℕ
     n = s.core.limit
 
-    h : Held
-    h = s.core.held
+    h : InUse
+    h = s.core.in_use
 
     fit : (k : ℕ) → Fits n k (get h k)
     fit = fits n h is
 
-    m : Held
+    m : InUse
     m = map_to is_sent n h empty
 
     ps : List Packet

@@ -6,26 +6,26 @@ use Rattle.std.specs.FinMap.{get, insert}
 use Rattle.std.specs.FinSet as set
 use Rattle.mqtt5_base.specs.declared.quality.QoS.{QoS}
 use Rattle.mqtt5_base.specs.declared.quality.QoS.TheVariants.{AtMostOnce, AtLeastOnce, ExactlyOnce}
-use Rattle.mqtt5_flow.specs.declared.publish.Publish.{Publish}
-use Rattle.mqtt5_flow.specs.declared.puback.PubAckReason.{PubAckReason}
-use Rattle.mqtt5_flow.specs.declared.pubrel.PubRelReason.{PubRelReason}
-use Rattle.mqtt5_flow.specs.declared.pubrel.PubRelReason.TheVariants as pubrel_reasons
-use Rattle.mqtt5_link.specs.declared.connack.ConnectReturnCode.{ConnectReturnCode}
-use Rattle.mqtt5_link.specs.declared.connack.ConnectReturnCode.TheVariants as return_codes
-use Rattle.mqtt5_link.specs.declared.connack.ConnAckProperties.{ConnAckProperties}
+use Rattle.mqtt5_publish.specs.declared.publish.Publish.{Publish}
+use Rattle.mqtt5_publish.specs.declared.puback.PubAckReason.{PubAckReason}
+use Rattle.mqtt5_publish.specs.declared.pubrel.PubRelReason.{PubRelReason}
+use Rattle.mqtt5_publish.specs.declared.pubrel.PubRelReason.TheVariants as pubrel_reasons
+use Rattle.mqtt5_control.specs.declared.connack.ConnectReturnCode.{ConnectReturnCode}
+use Rattle.mqtt5_control.specs.declared.connack.ConnectReturnCode.TheVariants as return_codes
+use Rattle.mqtt5_control.specs.declared.connack.ConnAckProperties.{ConnAckProperties}
 use Rattle.mqtt5_codec.specs.declared.packet.Packet.{Packet}
 use Rattle.mqtt5_codec.specs.declared.packet.Packet.TheVariants as packets
-use Rattle.mqtt5_held.specs.declared.slot.Slot.{Slot}
-use Rattle.mqtt5_held.specs.declared.slot.Slot.TheVariants.{Sent, Released}
-use Rattle.mqtt5_held.specs.declared.event.Outgoing.{Outgoing}
-use Rattle.mqtt5_held.specs.declared.error.StateError.{StateError}
-use Rattle.mqtt5_held.specs.Held.{Held, awaiting_ack}
-use Rattle.mqtt5_held.proofs.Within.{get_insert_same}
+use Rattle.mqtt5_inflight.specs.declared.slot.Slot.{Slot}
+use Rattle.mqtt5_inflight.specs.declared.slot.Slot.TheVariants.{Sent, Released}
+use Rattle.mqtt5_inflight.specs.declared.event.Outgoing.{Outgoing}
+use Rattle.mqtt5_inflight.specs.declared.error.StateError.{StateError}
+use Rattle.mqtt5_inflight.specs.InUse.{InUse, awaiting_ack}
+use Rattle.mqtt5_inflight.proofs.Within.{get_insert_same}
 use Rattle.mqtt5_session.specs.declared.reply.Reply.{Reply}
 use Rattle.mqtt5_session.specs.declared.reply.Reply.TheVariants as replies
-use Rattle.mqtt5_session.specs.Session.{Session, Answer, Hears, Sends}
+use Rattle.mqtt5_session.specs.Session.{Session, Answer, Receives, Sends}
 use Rattle.mqtt5_session.specs.Requests.{Verdict, Wait, judged, awaits, out_acked, out_identified}
-use Rattle.mqtt5_session.specs.Packets.{inc, heard, notes, told, freed_for, on_puback, on_received, on_pubrec, on_pubcomp, on_pubrel, on_publish, on_qos, answers, on_connack, is_taken, topic_of}
+use Rattle.mqtt5_session.specs.Packets.{on_packet, answer_to, with_notice, event_of, freed_for, on_puback, on_received, on_pubrec, on_pubcomp, on_pubrel, on_publish, on_qos, answers, on_connack, is_taken, topic_of}
 use Rattle.mqtt5_session.specs.Replies.{packet_of, in_full}
 use Rattle.mqtt5_session.specs.Short.{in_short}
 use Rattle.mqtt5_session.specs.Planned.{Stores}
@@ -33,10 +33,10 @@ use Rattle.mqtt5_session.specs.Ledger.{accepted}
 use Rattle.mqtt5_session.proofs.Owed.{choose}
 
 -- a publish that was stored is the reply of its id
-pub stands : (held : Held) (p : Publish) (id : ℕ) → p.pkid ≡ id → option_map packets.Publish (awaiting_ack (get (insert held id (Sent p)) p.pkid)) ≡ Some (packets.Publish p)
-stands held p id e =
-    ap (λ (k : ℕ). option_map packets.Publish (awaiting_ack (get (insert held id (Sent p)) k))) e
-    ∙ ap (λ (x : Option Slot). option_map packets.Publish (awaiting_ack x)) (get_insert_same held id (Sent p))
+pub stands : (in_use : InUse) (p : Publish) (id : ℕ) → p.pkid ≡ id → option_map packets.Publish (awaiting_ack (get (insert in_use id (Sent p)) p.pkid)) ≡ Some (packets.Publish p)
+stands in_use p id e =
+    ap (λ (k : ℕ). option_map packets.Publish (awaiting_ack (get (insert in_use id (Sent p)) k))) e
+    ∙ ap (λ (x : Option Slot). option_map packets.Publish (awaiting_ack x)) (get_insert_same in_use id (Sent p))
 
 -- an answer is said in short
 abbrev IsSaid : Result (Option Packet) StateError → Session → Type 0
@@ -48,7 +48,7 @@ Said a = IsSaid a.0 a.1
 
 freed_said : (w : Option Publish) (s : Session) (id at : ℕ) → Said (freed_for w s id at)
 freed_said None s id at = refl
-freed_said (Some p) s id at = choose Said (p.pkid == id) _ _ (λ e. stands s.core.held p id (eqb-true p.pkid id e)) (λ _. refl)
+freed_said (Some p) s id at = choose Said (p.pkid == id) _ _ (λ e. stands s.core.in_use p id (eqb-true p.pkid id e)) (λ _. refl)
 
 puback_said : (x : Option Slot) (s : Session) (id at : ℕ) → Said (on_puback x s id at)
 puback_said None s id at = tt {0}
@@ -92,10 +92,10 @@ publish_said : (b : Bool) (s : Session) (p : Publish) (at : ℕ) → Said (on_pu
 publish_said true s p at = qos_said p.qos _ p.pkid at
 publish_said false s p at = refl
 
-heard_said : (s : Session) (packet : Packet) (at : ℕ) → Said (heard s packet at)
-heard_said s (packets.PubAck p) at = puback_said (get s.core.held p.pkid) s p.pkid at
-heard_said s (packets.PubRec p) at = pubrec_said (get s.core.held p.pkid) s p.reason p.pkid at
-heard_said s (packets.PubComp p) at = pubcomp_said (get s.core.held p.pkid) s p.pkid at
+heard_said : (s : Session) (packet : Packet) (at : ℕ) → Said (answer_to s packet at)
+heard_said s (packets.PubAck p) at = puback_said (get s.core.in_use p.pkid) s p.pkid at
+heard_said s (packets.PubRec p) at = pubrec_said (get s.core.in_use p.pkid) s p.reason p.pkid at
+heard_said s (packets.PubComp p) at = pubcomp_said (get s.core.in_use p.pkid) s p.pkid at
 heard_said s (packets.PubRel p) at = pubrel_said (set.contains s.core.incoming p.pkid) s p.reason p.pkid at
 heard_said s (packets.Publish p) at = publish_said (is_some (topic_of s p)) s p at
 heard_said s (packets.ConnAck p) at = connack_said p.code p.properties s at
@@ -104,14 +104,14 @@ heard_said s (packets.SubAck p) at = refl
 heard_said s (packets.UnsubAck p) at = refl
 heard_said s packet at = tt {0}
 
-pub inc_said : (s : Session) (packet : Packet) (at : ℕ) → IsSaid (inc s packet at).0 (inc s packet at).1
-unfolding inc
-inc_said s packet at = heard_said (notes s (told s packet)) packet at
+pub inc_said : (s : Session) (packet : Packet) (at : ℕ) → IsSaid (on_packet s packet at).0 (on_packet s packet at).1
+unfolding on_packet
+inc_said s packet at = heard_said (with_notice s (event_of s packet)) packet at
 
 -- what is said in short of an answer is that answer
-pub hears_short : (answer : Option Packet) (old new : Session) (packet : Packet) (at : ℕ) → Hears (Ok answer) old new (inc old packet at) → Hears (in_full (Ok (in_short answer)) new) old new (inc old packet at)
+pub hears_short : (answer : Option Packet) (old new : Session) (packet : Packet) (at : ℕ) → Receives (Ok answer) old new (on_packet old packet at) → Receives (in_full (Ok (in_short answer)) new) old new (on_packet old packet at)
 hears_short answer old new packet at h =
-    let said : IsSaid (Ok answer) new = subst (λ (r : Result (Option Packet) StateError). IsSaid r new) (sym h.0) (subst (λ (t : Session). IsSaid (inc old packet at).0 t) (sym h.1) (inc_said old packet at)) in
+    let said : IsSaid (Ok answer) new = subst (λ (r : Result (Option Packet) StateError). IsSaid r new) (sym h.0) (subst (λ (t : Session). IsSaid (on_packet old packet at).0 t) (sym h.1) (inc_said old packet at)) in
     (ap Ok said ∙ h.0, h.1)
 
 -- ---- a copy of a publish
@@ -120,7 +120,7 @@ hears_short answer old new packet at h =
 pub stored_is : (id : ℕ) (old new : Session) (p : Publish) (last at : ℕ) → Stores (Ok (Some id)) old new p last at → Sends (in_full (Ok (replies.Publish id)) new) old new (out_identified old p last at)
 stored_is id old new p last at h =
     let said : packet_of (replies.Publish id) new ≡ Some (packets.Publish p) =
-    ap (λ (k : ℕ). packet_of (replies.Publish k) new) h.0 ∙ ap (λ (t : Session). packet_of (replies.Publish p.pkid) t) h.2 ∙ stands old.core.held p p.pkid refl in
+    ap (λ (k : ℕ). packet_of (replies.Publish k) new) h.0 ∙ ap (λ (t : Session). packet_of (replies.Publish p.pkid) t) h.2 ∙ stands old.core.in_use p p.pkid refl in
     subst (λ (v : Verdict). Sends (Ok (packet_of (replies.Publish id) new)) old new (out_acked v old p last at)) (sym h.1) (ap Ok said, h.2)
 
 -- one that has to wait waits

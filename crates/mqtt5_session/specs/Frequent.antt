@@ -4,26 +4,26 @@ use Rattle.std.specs.Ordering.{nat_cmp}
 use Rattle.std.specs.FinMap as map
 use Rattle.std.specs.FinSet as set
 use Rattle.mqtt5_codec.specs.declared.packet.Packet.{Packet}
-use Rattle.mqtt5_held.specs.declared.event.Event.{Event}
-use Rattle.mqtt5_held.specs.declared.event.Event.TheVariants as events
-use Rattle.mqtt5_held.specs.declared.event.Outgoing.{Outgoing}
-use Rattle.mqtt5_held.specs.declared.event.Outgoing.TheVariants as outgoing
-use Rattle.mqtt5_held.specs.declared.slot.Slot.TheVariants.{Released}
-use Rattle.mqtt5_held.specs.Held.{Held}
+use Rattle.mqtt5_inflight.specs.declared.event.Event.{Event}
+use Rattle.mqtt5_inflight.specs.declared.event.Event.TheVariants as events
+use Rattle.mqtt5_inflight.specs.declared.event.Outgoing.{Outgoing}
+use Rattle.mqtt5_inflight.specs.declared.event.Outgoing.TheVariants as outgoing
+use Rattle.mqtt5_inflight.specs.declared.slot.Slot.TheVariants.{Released}
+use Rattle.mqtt5_inflight.specs.InUse.{InUse}
 use Rattle.mqtt5_session.specs.declared.reply.Reply.{Reply}
 use Rattle.mqtt5_session.specs.declared.reply.Reply.TheVariants.{PubAck, PubRec, PubRel, PubComp}
 use Rattle.mqtt5_session.specs.declared.state.frequent.Change.{Change}
 use Rattle.mqtt5_session.specs.declared.state.frequent.Change.TheVariants.{Pong, Free, Release, Keep, Complete}
 use Rattle.mqtt5_session.specs.declared.state.frequent.Effect.{Effect}
 use Rattle.mqtt5_session.specs.Session.{Session}
-use Rattle.mqtt5_session.specs.Packets.{hears, inc}
+use Rattle.mqtt5_session.specs.Packets.{with_incoming, on_packet}
 use Rattle.mqtt5_session.specs.Replies.{made_of, packet_of}
 
 -- the ids in use after it
-abbrev pub held_by : Change → Held → Held
-held_by (Free id) held = map.remove held id
-held_by (Release id) held = map.insert held id Released
-held_by change held = held
+abbrev pub in_use_by : Change → InUse → InUse
+in_use_by (Free id) in_use = map.remove in_use id
+in_use_by (Release id) in_use = map.insert in_use id Released
+in_use_by change in_use = in_use
 
 -- the ids of the broker after it
 abbrev pub ids_by : Change → set.FinSet nat_cmp → set.FinSet nat_cmp
@@ -37,12 +37,12 @@ awaits_by Pong awaits = false
 awaits_by change awaits = awaits
 
 -- what is told of an ack
-abbrev pub told_of : Reply → Option Outgoing
-told_of (PubAck id) = Some (outgoing.PubAck id)
-told_of (PubRec id) = Some (outgoing.PubRec id)
-told_of (PubRel id) = Some (outgoing.PubRel id)
-told_of (PubComp id reason) = Some (outgoing.PubComp id)
-told_of reply = None
+abbrev pub outgoing_of : Reply → Option Outgoing
+outgoing_of (PubAck id) = Some (outgoing.PubAck id)
+outgoing_of (PubRec id) = Some (outgoing.PubRec id)
+outgoing_of (PubRel id) = Some (outgoing.PubRel id)
+outgoing_of (PubComp id reason) = Some (outgoing.PubComp id)
+outgoing_of reply = None
 
 -- it is told
 abbrev pub events_by : Option Outgoing → List Event → List Event
@@ -52,9 +52,9 @@ events_by (Some event) es = es ++ events.Outgoing event ∷ []
 -- the session after a packet that was told
 abbrev pub does : Effect → Session → ℕ → Session
 does e s at = record s {
-  core = record s.core { held = held_by e.change s.core.held; incoming = ids_by e.change s.core.incoming };
+  core = record s.core { in_use = in_use_by e.change s.core.in_use; incoming = ids_by e.change s.core.incoming };
   awaits_ping = awaits_by e.change s.awaits_ping;
-  events = events_by (told_of e.reply) s.events;
+  events = events_by (outgoing_of e.reply) s.events;
   last_incoming = at;
 }
 
@@ -66,4 +66,4 @@ FitsIn limit change = Unit {0}
 -- this is all that a packet does
 abbrev pub IsAll : Session → Packet → ℕ → Effect → Type 0
 IsAll s packet at e =
-    (inc s packet at ≡ (Ok (made_of e.reply), does e (hears s packet) at)) × (packet_of e.reply (does e (hears s packet) at) ≡ made_of e.reply) × FitsIn s.core.limit e.change
+    (on_packet s packet at ≡ (Ok (made_of e.reply), does e (with_incoming s packet) at)) × (packet_of e.reply (does e (with_incoming s packet) at) ≡ made_of e.reply) × FitsIn s.core.limit e.change

@@ -3,17 +3,17 @@ use Rattle.std.specs.Prelude.{◌≡◌, ℕ, ◌+◌, Bool, List, [], ◌∷◌
 use Rattle.std.specs.FinMap as map
 use Rattle.mqtt5_base.specs.declared.quality.QoS.{QoS}
 use Rattle.mqtt5_base.specs.declared.quality.QoS.TheVariants.{AtMostOnce}
-use Rattle.mqtt5_flow.specs.declared.publish.Publish.{Publish}
+use Rattle.mqtt5_publish.specs.declared.publish.Publish.{Publish}
 use Rattle.mqtt5_codec.specs.declared.packet.Packet.{Packet}
 use Rattle.mqtt5_codec.specs.declared.packet.Packet.TheVariants as packets
-use Rattle.mqtt5_held.specs.declared.event.Request.{Request}
-use Rattle.mqtt5_held.specs.declared.event.Request.TheVariants as requests
-use Rattle.mqtt5_held.specs.declared.error.StateError.{StateError}
-use Rattle.mqtt5_held.specs.Unacked.{requests_of}
+use Rattle.mqtt5_inflight.specs.declared.event.Request.{Request}
+use Rattle.mqtt5_inflight.specs.declared.event.Request.TheVariants as requests
+use Rattle.mqtt5_inflight.specs.declared.error.StateError.{StateError}
+use Rattle.mqtt5_inflight.specs.Unacked.{requests_of}
 use Rattle.mqtt5_session.specs.Session.{Core, Session, fresh}
-use Rattle.mqtt5_session.specs.Requests.{id_for, out, protocol_error}
-use Rattle.mqtt5_session.specs.Packets.{is_taken, inc}
-use Rattle.mqtt5_session.specs.Cleaning.{cleaned, Sendings, resume_of}
+use Rattle.mqtt5_session.specs.Requests.{id_for, on_request, protocol_error}
+use Rattle.mqtt5_session.specs.Packets.{is_taken, on_packet}
+use Rattle.mqtt5_session.specs.Resuming.{cleaned, Sendings, resume_of}
 
 -- one where there is one
 abbrev pub one_of : Option Publish → ℕ
@@ -22,7 +22,7 @@ one_of (Some p) = 1
 
 -- what is owed: the ids in use, and the publish that waits (4.3)
 abbrev pub owed : Core → ℕ
-owed c = map.len c.held + one_of c.waiting
+owed c = map.len c.in_use + one_of c.waiting
 
 -- a publish is owed, unless it is of QoS 0 (4.3.1)
 abbrev pub owed_at : QoS → ℕ
@@ -32,7 +32,7 @@ owed_at qos = 1
 -- what a request adds: a publish of QoS 1 or 2, or a PubRel of a free id, one
 abbrev pub adds : Core → Request → ℕ
 adds c (requests.Publish p) = owed_at p.qos
-adds c (requests.PubRel p) = if map.contains_key c.held (id_for c p.pkid) then 0 else 1
+adds c (requests.PubRel p) = if map.contains_key c.in_use (id_for c p.pkid) then 0 else 1
 adds c request = 0
 
 -- what a packet ends: a PubAck, a PubRec by which a publish isn't taken, or a PubComp, one (4.3.2, 4.3.3)
@@ -67,8 +67,8 @@ kept_by s (Err e) = s
 
 -- the session after a call
 abbrev pub after : Session → Call → Session
-after s (Ask request at) = (out s request at).1
-after s (Hear packet at) = (inc s packet at).1
+after s (Ask request at) = (on_request s request at).1
+after s (Hear packet at) = (on_packet s packet at).1
 after s Error = (protocol_error s).1
 after s Clean = cleaned s
 after s (Resume at) = kept_by s (resume_of s at)
@@ -77,13 +77,13 @@ after s (SetAcks manual) = record s { core = record s.core { manual_acks = manua
 
 -- what a call adds
 abbrev pub added : Session → Call → ℕ
-added s (Ask request at) = accepted (out s request at).0 (adds s.core request)
+added s (Ask request at) = accepted (on_request s request at).0 (adds s.core request)
 added s call = 0
 
 -- what a call takes: what a packet ends, or what a clean gives back
 abbrev pub taken : Session → Call → ℕ
-taken s (Hear packet at) = accepted (inc s packet at).0 (ends packet)
-taken s Clean = length (requests_of s.core.limit s.core.held)
+taken s (Hear packet at) = accepted (on_packet s packet at).0 (ends packet)
+taken s Clean = length (requests_of s.core.limit s.core.in_use)
 taken s call = 0
 
 -- the session after calls

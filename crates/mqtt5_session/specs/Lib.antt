@@ -5,8 +5,8 @@ pub mod Replies
 pub mod Short
 pub mod Frequent
 pub mod Planned
-pub mod Cleaning
+pub mod Resuming
 pub mod Again
 pub mod Ledger
 pub mod Once
-pub mod Release
+pub mod Freeing

@@ -4,11 +4,11 @@ use Rattle.std.specs.List.{count_by}
 use Rattle.std.specs.FinSet as set
 use Rattle.mqtt5_codec.specs.declared.packet.Packet.{Packet}
 use Rattle.mqtt5_codec.specs.declared.packet.Packet.TheVariants as packets
-use Rattle.mqtt5_held.specs.declared.event.Event.{Event}
-use Rattle.mqtt5_held.specs.declared.event.Event.TheVariants as events
-use Rattle.mqtt5_held.specs.declared.error.StateError.{StateError}
+use Rattle.mqtt5_inflight.specs.declared.event.Event.{Event}
+use Rattle.mqtt5_inflight.specs.declared.event.Event.TheVariants as events
+use Rattle.mqtt5_inflight.specs.declared.error.StateError.{StateError}
 use Rattle.mqtt5_session.specs.Session.{Core, Session}
-use Rattle.mqtt5_session.specs.Packets.{inc, is_exactly_once}
+use Rattle.mqtt5_session.specs.Packets.{on_packet, is_exactly_once}
 use Rattle.mqtt5_session.specs.Ledger.{Call, Hear, accepted, after, after_all}
 
 -- 1 where it is so, else 0
@@ -34,20 +34,20 @@ notified id old (Ok (Some (packets.Disconnect p))) new = 0
 notified id old answer new = notices id new.events - notices id old.events
 
 -- 1 where a packet is a PubRel that takes the id out (4.3.3)
-abbrev pub released : ℕ → Core → Packet → ℕ
-released id c (packets.PubRel p) = one_if ((p.pkid == id) && set.contains c.incoming id)
-released id c packet = 0
+abbrev pub releases : ℕ → Core → Packet → ℕ
+releases id c (packets.PubRel p) = one_if ((p.pkid == id) && set.contains c.incoming id)
+releases id c packet = 0
 
 -- ---- any list of calls
 
 -- what a call hands on
 abbrev pub notified_in : ℕ → Session → Call → ℕ
-notified_in id s (Hear packet at) = notified id s (inc s packet at).0 (inc s packet at).1
+notified_in id s (Hear packet at) = notified id s (on_packet s packet at).0 (on_packet s packet at).1
 notified_in id s call = 0
 
 -- what it releases
 abbrev pub released_in : ℕ → Session → Call → ℕ
-released_in id s (Hear packet at) = accepted (inc s packet at).0 (released id s.core packet)
+released_in id s (Hear packet at) = accepted (on_packet s packet at).0 (releases id s.core packet)
 released_in id s call = 0
 
 -- what calls hand on

@@ -7,31 +7,31 @@ use Rattle.std.specs.FinSet as set
 use Rattle.mqtt5_base.specs.declared.text.Text.{Text}
 use Rattle.mqtt5_base.specs.declared.quality.QoS.{QoS}
 use Rattle.mqtt5_base.specs.declared.quality.QoS.TheVariants.{AtMostOnce, AtLeastOnce, ExactlyOnce}
-use Rattle.mqtt5_flow.specs.declared.publish.Publish.{Publish}
-use Rattle.mqtt5_flow.specs.declared.puback.PubAckReason.{PubAckReason}
-use Rattle.mqtt5_flow.specs.declared.puback.PubAckReason.TheVariants.{Success, NoMatchingSubscribers}
-use Rattle.mqtt5_flow.specs.declared.pubrel.PubRelReason.{PubRelReason}
-use Rattle.mqtt5_flow.specs.declared.pubrel.PubRelReason.TheVariants as pubrel_reasons
-use Rattle.mqtt5_link.specs.declared.connack.ConnectReturnCode.{ConnectReturnCode}
-use Rattle.mqtt5_link.specs.declared.connack.ConnectReturnCode.TheVariants as return_codes
-use Rattle.mqtt5_link.specs.declared.connack.ConnAckProperties.{ConnAckProperties}
-use Rattle.mqtt5_link.specs.declared.disconnect.DisconnectReasonCode.TheVariants.{ProtocolError}
-use Rattle.mqtt5_link.specs.declared.disconnect.DisconnectProperties.{DisconnectProperties}
+use Rattle.mqtt5_publish.specs.declared.publish.Publish.{Publish}
+use Rattle.mqtt5_publish.specs.declared.puback.PubAckReason.{PubAckReason}
+use Rattle.mqtt5_publish.specs.declared.puback.PubAckReason.TheVariants.{Success, NoMatchingSubscribers}
+use Rattle.mqtt5_publish.specs.declared.pubrel.PubRelReason.{PubRelReason}
+use Rattle.mqtt5_publish.specs.declared.pubrel.PubRelReason.TheVariants as pubrel_reasons
+use Rattle.mqtt5_control.specs.declared.connack.ConnectReturnCode.{ConnectReturnCode}
+use Rattle.mqtt5_control.specs.declared.connack.ConnectReturnCode.TheVariants as return_codes
+use Rattle.mqtt5_control.specs.declared.connack.ConnAckProperties.{ConnAckProperties}
+use Rattle.mqtt5_control.specs.declared.disconnect.DisconnectReasonCode.TheVariants.{ProtocolError}
+use Rattle.mqtt5_control.specs.declared.disconnect.DisconnectProperties.{DisconnectProperties}
 use Rattle.mqtt5_codec.specs.declared.packet.Packet.{Packet}
 use Rattle.mqtt5_codec.specs.declared.packet.Packet.TheVariants as packets
-use Rattle.mqtt5_held.specs.declared.slot.Slot.{Slot}
-use Rattle.mqtt5_held.specs.declared.slot.Slot.TheVariants.{Sent, Released}
-use Rattle.mqtt5_held.specs.declared.event.Event.TheVariants as events
-use Rattle.mqtt5_held.specs.declared.event.Outgoing.{Outgoing}
-use Rattle.mqtt5_held.specs.declared.event.Outgoing.TheVariants as outgoing
-use Rattle.mqtt5_held.specs.declared.error.StateError.TheVariants as errors
-use Rattle.mqtt5_held.specs.Aliases.{alias_of}
-use Rattle.mqtt5_session.specs.Session.{Topics, Session, Answer, tells}
+use Rattle.mqtt5_inflight.specs.declared.slot.Slot.{Slot}
+use Rattle.mqtt5_inflight.specs.declared.slot.Slot.TheVariants.{Sent, Released}
+use Rattle.mqtt5_inflight.specs.declared.event.Event.TheVariants as events
+use Rattle.mqtt5_inflight.specs.declared.event.Outgoing.{Outgoing}
+use Rattle.mqtt5_inflight.specs.declared.event.Outgoing.TheVariants as outgoing
+use Rattle.mqtt5_inflight.specs.declared.error.StateError.TheVariants as errors
+use Rattle.mqtt5_inflight.specs.Aliases.{alias_of}
+use Rattle.mqtt5_session.specs.Session.{Topics, Session, Answer, with_event}
 use Rattle.mqtt5_session.specs.Requests.{release_of, disconnect_of}
 
 -- an event of the broker is told
-abbrev pub hears : Session → Packet → Session
-hears s packet = record s { events = s.events ++ events.Incoming packet ∷ [] }
+abbrev pub with_incoming : Session → Packet → Session
+with_incoming s packet = record s { events = s.events ++ events.Incoming packet ∷ [] }
 
 -- a packet was taken at this moment, with nothing to send
 abbrev pub takes : Session → ℕ → Answer
@@ -41,17 +41,17 @@ takes s at = (Ok None, record s { last_incoming = at })
 
 -- let go: an id is made free, and the publish that waits for that id is stored and sent (2.2.1)
 abbrev pub freed_for : Option Publish → Session → ℕ → ℕ → Answer
-freed_for None s id at = takes (record s { core = record s.core { held = map.remove s.core.held id } }) at
+freed_for None s id at = takes (record s { core = record s.core { in_use = map.remove s.core.in_use id } }) at
 freed_for (Some p) s id at =
     if p.pkid == id then (
       Ok (Some (packets.Publish p)),
-      record (tells s (outgoing.Publish id)) {
-        core = record s.core { held = map.insert s.core.held id (Sent p); waiting = None };
+      record (with_event s (outgoing.Publish id)) {
+        core = record s.core { in_use = map.insert s.core.in_use id (Sent p); waiting = None };
         collision_pings = 0;
         last_incoming = at;
       },
     )
-    else takes (record s { core = record s.core { held = map.remove s.core.held id } }) at
+    else takes (record s { core = record s.core { in_use = map.remove s.core.in_use id } }) at
 
 -- a PubAck ends the publish that awaits it, whatever its reason (4.3.2)
 abbrev pub on_puback : Option Slot → Session → ℕ → ℕ → Answer
@@ -67,7 +67,7 @@ is_taken other = false
 -- a publish that was taken is released; one that wasn't is ended (4.3.3)
 abbrev pub on_received : Bool → Session → ℕ → ℕ → Answer
 on_received true s id at =
-    (Ok (Some (release_of id)), record (tells s (outgoing.PubRel id)) { core = record s.core { held = map.insert s.core.held id Released }; last_incoming = at })
+    (Ok (Some (release_of id)), record (with_event s (outgoing.PubRel id)) { core = record s.core { in_use = map.insert s.core.in_use id Released }; last_incoming = at })
 on_received false s id at = freed_for s.core.waiting s id at
 
 -- a PubRec answers the publish that awaits it (4.3.3)
@@ -89,14 +89,14 @@ pubcomp_of id reason = packets.PubComp (record { pkid = id; reason = reason; pro
 -- a release of success of an id that was there is answered (4.3.3)
 abbrev pub on_released : PubRelReason → Session → ℕ → ℕ → Answer
 on_released pubrel_reasons.Success s id at =
-    (Ok (Some (pubcomp_of id pubrel_reasons.Success)), record (tells s (outgoing.PubComp id)) { last_incoming = at })
+    (Ok (Some (pubcomp_of id pubrel_reasons.Success)), record (with_event s (outgoing.PubComp id)) { last_incoming = at })
 on_released other s id at = takes s at
 
 -- a PubRel takes out the id of a publish that came; of another id it is answered that it isn't there (4.3.3, 3.7.2.1)
 abbrev pub on_pubrel : Bool → Session → PubRelReason → ℕ → ℕ → Answer
 on_pubrel true s reason id at = on_released reason (record s { core = record s.core { incoming = set.remove s.core.incoming id } }) id at
 on_pubrel false s reason id at =
-    (Ok (Some (pubcomp_of id pubrel_reasons.PacketIdentifierNotFound)), record (tells s (outgoing.PubComp id)) { last_incoming = at })
+    (Ok (Some (pubcomp_of id pubrel_reasons.PacketIdentifierNotFound)), record (with_event s (outgoing.PubComp id)) { last_incoming = at })
 
 -- the topic of a publish: its own, or where that is empty the one that its alias stands for; None where the alias isn't
 -- known (3.3.2.3.4)
@@ -116,7 +116,7 @@ topics_with (Some alias) topic topics = if length topic == 0 then topics else ma
 -- an ack is sent, unless the user does it (4.3.2, 4.3.3)
 abbrev pub answers : Bool → Packet → Outgoing → Session → ℕ → Answer
 answers true ack event s at = takes s at
-answers false ack event s at = (Ok (Some ack), record (tells s event) { last_incoming = at })
+answers false ack event s at = (Ok (Some ack), record (with_event s event) { last_incoming = at })
 
 -- the ids of publishes that aren't released: one of QoS 2 adds its own, also where it is among them (4.3.3)
 abbrev pub ids_with : QoS → set.FinSet nat_cmp → ℕ → set.FinSet nat_cmp
@@ -142,7 +142,7 @@ on_qos ExactlyOnce s id at = answers s.core.manual_acks (pubrec_of id) (outgoing
 abbrev pub on_publish : Bool → Session → Publish → ℕ → Answer
 on_publish true s p at =
     on_qos p.qos (record s { core = record s.core { aliases = topics_with (alias_of p) p.topic s.core.aliases; incoming = ids_with p.qos s.core.incoming p.pkid } }) p.pkid at
-on_publish false s p at = (Ok (Some (disconnect_of ProtocolError)), record (tells s outgoing.Disconnect) { last_incoming = at })
+on_publish false s p at = (Ok (Some (disconnect_of ProtocolError)), record (with_event s outgoing.Disconnect) { last_incoming = at })
 
 -- ---- the connection
 
@@ -170,18 +170,18 @@ reason_in (Some set) = set.reason_string
 -- ---- packets
 
 -- a packet that was told of
-abbrev pub heard : Session → Packet → ℕ → Answer
-heard s (packets.PubAck p) at = on_puback (map.get s.core.held p.pkid) s p.pkid at
-heard s (packets.PubRec p) at = on_pubrec (map.get s.core.held p.pkid) s p.reason p.pkid at
-heard s (packets.PubComp p) at = on_pubcomp (map.get s.core.held p.pkid) s p.pkid at
-heard s (packets.PubRel p) at = on_pubrel (set.contains s.core.incoming p.pkid) s p.reason p.pkid at
-heard s (packets.Publish p) at = on_publish (is_some (topic_of s p)) s p at
-heard s (packets.ConnAck p) at = on_connack p.code p.properties s at
-heard s (packets.PingResp p) at = takes (record s { awaits_ping = false }) at
-heard s (packets.SubAck p) at = takes s at
-heard s (packets.UnsubAck p) at = takes s at
-heard s (packets.Disconnect p) at = (Err (errors.ServerDisconnect p.reason_code (reason_in p.properties)), s)
-heard s other at = (Err errors.WrongPacket, s)
+abbrev pub answer_to : Session → Packet → ℕ → Answer
+answer_to s (packets.PubAck p) at = on_puback (map.get s.core.in_use p.pkid) s p.pkid at
+answer_to s (packets.PubRec p) at = on_pubrec (map.get s.core.in_use p.pkid) s p.reason p.pkid at
+answer_to s (packets.PubComp p) at = on_pubcomp (map.get s.core.in_use p.pkid) s p.pkid at
+answer_to s (packets.PubRel p) at = on_pubrel (set.contains s.core.incoming p.pkid) s p.reason p.pkid at
+answer_to s (packets.Publish p) at = on_publish (is_some (topic_of s p)) s p at
+answer_to s (packets.ConnAck p) at = on_connack p.code p.properties s at
+answer_to s (packets.PingResp p) at = takes (record s { awaits_ping = false }) at
+answer_to s (packets.SubAck p) at = takes s at
+answer_to s (packets.UnsubAck p) at = takes s at
+answer_to s (packets.Disconnect p) at = (Err (errors.ServerDisconnect p.reason_code (reason_in p.properties)), s)
+answer_to s other at = (Err errors.WrongPacket, s)
 
 -- whether a publish is of QoS 2 (4.3.3)
 abbrev pub is_exactly_once : QoS → Bool
@@ -190,17 +190,17 @@ is_exactly_once qos = false
 
 -- what is told of a packet: itself, a publish with the topic that its alias stands for (3.3.2.3.4); nothing of a publish of
 -- QoS 2 under an id of one that the broker hasn't released, which is a duplicate (4.3.3)
-abbrev pub told : Session → Packet → Option Packet
-told s (packets.Publish p) =
+abbrev pub event_of : Session → Packet → Option Packet
+event_of s (packets.Publish p) =
     if is_exactly_once p.qos && set.contains s.core.incoming p.pkid then None
     else Some (packets.Publish (record p { topic = unwrap_or (topic_of s p) p.topic }))
-told s packet = Some packet
+event_of s packet = Some packet
 
 -- it is told
-abbrev pub notes : Session → Option Packet → Session
-notes s None = s
-notes s (Some packet) = hears s packet
+abbrev pub with_notice : Session → Option Packet → Session
+with_notice s None = s
+with_notice s (Some packet) = with_incoming s packet
 
 -- a packet: its reply or its refusal, and the session after it, which has its event in both cases, unless it is a duplicate
-unfoldable pub inc : Session → Packet → ℕ → Answer
-inc s packet at = heard (notes s (told s packet)) packet at
+unfoldable pub on_packet : Session → Packet → ℕ → Answer
+on_packet s packet at = answer_to (with_notice s (event_of s packet)) packet at

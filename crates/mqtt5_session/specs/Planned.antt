@@ -1,14 +1,14 @@
 -- This file serves the logic alone: what a request does is done while it is lent, all but its packet.
 use Rattle.std.specs.Prelude.{◌≡◌, ◌≢◌, ℕ, Option, Some, None, Result, Ok, Err}
 use Rattle.mqtt5_base.specs.declared.quality.QoS.TheVariants.{AtMostOnce}
-use Rattle.mqtt5_flow.specs.declared.publish.Publish.{Publish}
+use Rattle.mqtt5_publish.specs.declared.publish.Publish.{Publish}
 use Rattle.mqtt5_codec.specs.declared.packet.Packet.{Packet}
 use Rattle.mqtt5_codec.specs.declared.packet.Packet.TheVariants as packets
-use Rattle.mqtt5_held.specs.declared.event.Request.{Request}
-use Rattle.mqtt5_held.specs.declared.event.Request.TheVariants as requests
-use Rattle.mqtt5_held.specs.declared.error.StateError.{StateError}
+use Rattle.mqtt5_inflight.specs.declared.event.Request.{Request}
+use Rattle.mqtt5_inflight.specs.declared.event.Request.TheVariants as requests
+use Rattle.mqtt5_inflight.specs.declared.error.StateError.{StateError}
 use Rattle.mqtt5_session.specs.Session.{Session, Sends}
-use Rattle.mqtt5_session.specs.Requests.{id_for, judged, Wait, Store, stored, out, out_identified}
+use Rattle.mqtt5_session.specs.Requests.{id_for, judged, Wait, Store, stored, on_request, out_identified}
 
 -- a publish with the id that it is sent under
 abbrev pub named : Session → Publish → Publish
@@ -33,6 +33,6 @@ sent_as request id = packets.PingReq (record {})
 
 -- a request is done, and this is the id of its packet; or it is refused; or nothing was done
 abbrev pub Plans : Result (Option ℕ) StateError → Session → Session → Request → ℕ → Type 0
-Plans (Ok (Some id)) old new request at = out old request at ≡ (Ok (Some (sent_as request id)), new)
+Plans (Ok (Some id)) old new request at = on_request old request at ≡ (Ok (Some (sent_as request id)), new)
 Plans (Ok None) old new request at = (new ≡ old) × IsLeft request old
-Plans (Err e) old new request at = Sends (Err e) old new (out old request at)
+Plans (Err e) old new request at = Sends (Err e) old new (on_request old request at)

@@ -3,8 +3,8 @@ use Rattle.std.specs.Prelude.{Option, Some, None, Result, Ok, Err, option_map}
 use Rattle.std.specs.FinMap as map
 use Rattle.mqtt5_codec.specs.declared.packet.Packet.{Packet}
 use Rattle.mqtt5_codec.specs.declared.packet.Packet.TheVariants as packets
-use Rattle.mqtt5_held.specs.declared.error.StateError.{StateError}
-use Rattle.mqtt5_held.specs.Held.{awaiting_ack}
+use Rattle.mqtt5_inflight.specs.declared.error.StateError.{StateError}
+use Rattle.mqtt5_inflight.specs.InUse.{awaiting_ack}
 use Rattle.mqtt5_session.specs.declared.reply.Reply.{Reply}
 use Rattle.mqtt5_session.specs.declared.reply.Reply.TheVariants.{Publish, PubAck, PubRec, PubRel, PubComp, Disconnect}
 use Rattle.mqtt5_session.specs.Session.{Session}
@@ -22,7 +22,7 @@ made_of reply = None
 
 -- the packet of a reply: a publish is the one that awaits its ack under that id
 abbrev pub packet_of : Reply → Session → Option Packet
-packet_of (Publish id) s = option_map packets.Publish (awaiting_ack (map.get s.core.held id))
+packet_of (Publish id) s = option_map packets.Publish (awaiting_ack (map.get s.core.in_use id))
 packet_of reply s = made_of reply
 
 -- an answer in short, as that of the packet

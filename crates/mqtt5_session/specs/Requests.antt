@@ -3,24 +3,24 @@ use Rattle.std.specs.Prelude.{ℕ, ◌+◌, ◌-◌, ◌^◌, Bool, true, false,
 use Rattle.std.specs.FinMap as map
 use Rattle.mqtt5_base.specs.declared.quality.QoS.{QoS}
 use Rattle.mqtt5_base.specs.declared.quality.QoS.TheVariants.{AtMostOnce, AtLeastOnce, ExactlyOnce}
-use Rattle.mqtt5_flow.specs.declared.publish.Publish.{Publish}
-use Rattle.mqtt5_flow.specs.declared.pubrel.PubRelReason.TheVariants as pubrel_reasons
-use Rattle.mqtt5_subs.specs.declared.subscribe.Subscribe.{Subscribe}
-use Rattle.mqtt5_subs.specs.declared.unsubscribe.Unsubscribe.{Unsubscribe}
-use Rattle.mqtt5_link.specs.declared.disconnect.DisconnectReasonCode.{DisconnectReasonCode}
-use Rattle.mqtt5_link.specs.declared.disconnect.DisconnectReasonCode.TheVariants.{NormalDisconnection, ProtocolError}
+use Rattle.mqtt5_publish.specs.declared.publish.Publish.{Publish}
+use Rattle.mqtt5_publish.specs.declared.pubrel.PubRelReason.TheVariants as pubrel_reasons
+use Rattle.mqtt5_subscribe.specs.declared.subscribe.Subscribe.{Subscribe}
+use Rattle.mqtt5_subscribe.specs.declared.unsubscribe.Unsubscribe.{Unsubscribe}
+use Rattle.mqtt5_control.specs.declared.disconnect.DisconnectReasonCode.{DisconnectReasonCode}
+use Rattle.mqtt5_control.specs.declared.disconnect.DisconnectReasonCode.TheVariants.{NormalDisconnection, ProtocolError}
 use Rattle.mqtt5_codec.specs.declared.packet.Packet.{Packet}
 use Rattle.mqtt5_codec.specs.declared.packet.Packet.TheVariants as packets
-use Rattle.mqtt5_held.specs.declared.slot.Slot.{Slot}
-use Rattle.mqtt5_held.specs.declared.slot.Slot.TheVariants.{Sent, Released}
-use Rattle.mqtt5_held.specs.declared.event.Request.{Request}
-use Rattle.mqtt5_held.specs.declared.event.Request.TheVariants as requests
-use Rattle.mqtt5_held.specs.declared.event.Outgoing.{Outgoing}
-use Rattle.mqtt5_held.specs.declared.event.Outgoing.TheVariants as outgoing
-use Rattle.mqtt5_held.specs.declared.error.StateError.{StateError}
-use Rattle.mqtt5_held.specs.declared.error.StateError.TheVariants as errors
-use Rattle.mqtt5_held.specs.Aliases.{alias_of, alias_over}
-use Rattle.mqtt5_session.specs.Session.{Core, Session, Answer, tells}
+use Rattle.mqtt5_inflight.specs.declared.slot.Slot.{Slot}
+use Rattle.mqtt5_inflight.specs.declared.slot.Slot.TheVariants.{Sent, Released}
+use Rattle.mqtt5_inflight.specs.declared.event.Request.{Request}
+use Rattle.mqtt5_inflight.specs.declared.event.Request.TheVariants as requests
+use Rattle.mqtt5_inflight.specs.declared.event.Outgoing.{Outgoing}
+use Rattle.mqtt5_inflight.specs.declared.event.Outgoing.TheVariants as outgoing
+use Rattle.mqtt5_inflight.specs.declared.error.StateError.{StateError}
+use Rattle.mqtt5_inflight.specs.declared.error.StateError.TheVariants as errors
+use Rattle.mqtt5_inflight.specs.Aliases.{alias_of, alias_over}
+use Rattle.mqtt5_session.specs.Session.{Core, Session, Answer, with_event}
 
 -- ---- identifiers
 
@@ -41,8 +41,8 @@ abbrev pub last_after : Core → ℕ → ℕ
 last_after c id = if id == 0 then last_given c else c.last
 
 -- what is sent is told, at this moment
-abbrev pub tells_at : Session → Outgoing → ℕ → Session
-tells_at s event at = record (tells s event) { last_outgoing = at }
+abbrev pub with_event_at : Session → Outgoing → ℕ → Session
+with_event_at s event at = record (with_event s event) { last_outgoing = at }
 
 -- ---- a publish
 
@@ -62,7 +62,7 @@ unless None s answer = answer
 
 -- a publish of QoS 0 is sent and forgotten (4.3.1)
 abbrev pub out_once : Session → Publish → ℕ → Answer
-out_once s p at = unless (over_maximum s.core p) s (Ok (Some (packets.Publish p)), tells_at s (outgoing.Publish p.pkid) at)
+out_once s p at = unless (over_maximum s.core p) s (Ok (Some (packets.Publish p)), with_event_at s (outgoing.Publish p.pkid) at)
 
 -- what becomes of a publish of QoS 1 or 2: it is refused, it waits until its id is free, or it is stored and sent
 pub data Verdict : Type 0 where
@@ -85,15 +85,15 @@ by_alias None verdict = verdict
 abbrev pub judged : Core → Publish → Verdict
 judged c p =
     if nat_lt c.limit p.pkid then Refuse (errors.Unsolicited p.pkid)
-    else by_alias (over_maximum c p) (by_use (map.get c.held p.pkid) c.waiting)
+    else by_alias (over_maximum c p) (by_use (map.get c.in_use p.pkid) c.waiting)
 
 -- a publish is stored under its id until its ack comes, and the last id is set (4.3.2, 4.3.3)
 abbrev pub stored : Session → Publish → ℕ → ℕ → Session
-stored s p last at = record (tells_at s (outgoing.Publish p.pkid) at) { core = record s.core { held = map.insert s.core.held p.pkid (Sent p); last = last } }
+stored s p last at = record (with_event_at s (outgoing.Publish p.pkid) at) { core = record s.core { in_use = map.insert s.core.in_use p.pkid (Sent p); last = last } }
 
 -- a publish waits until its id is free, and the last id is set (2.2.1)
 abbrev pub awaits : Session → Publish → ℕ → ℕ → Session
-awaits s p last at = record (tells_at s (outgoing.AwaitAck p.pkid) at) { core = record s.core { waiting = Some p; last = last } }
+awaits s p last at = record (with_event_at s (outgoing.AwaitAck p.pkid) at) { core = record s.core { waiting = Some p; last = last } }
 
 -- a publish of QoS 1 or 2, as it was judged
 abbrev pub out_acked : Verdict → Session → Publish → ℕ → ℕ → Answer
@@ -121,13 +121,13 @@ release_of id = packets.PubRel (record { pkid = id; reason = pubrel_reasons.Succ
 abbrev pub out_known : Option Slot → Session → ℕ → ℕ → ℕ → Answer
 out_known (Some (Sent p)) s id last at = (Err errors.InvalidState, s)
 out_known other s id last at =
-    (Ok (Some (release_of id)), record (tells_at s (outgoing.PubRel id) at) { core = record s.core { held = map.insert s.core.held id Released; last = last } })
+    (Ok (Some (release_of id)), record (with_event_at s (outgoing.PubRel id) at) { core = record s.core { in_use = map.insert s.core.in_use id Released; last = last } })
 
 -- a PubRel with its id given (4.3.3)
 abbrev pub out_release : Session → ℕ → ℕ → ℕ → Answer
 out_release s id last at =
     if nat_lt s.core.limit id then (Err (errors.Unsolicited id), s)
-    else out_known (map.get s.core.held id) s id last at
+    else out_known (map.get s.core.in_use id) s id last at
 
 -- the next id was given
 abbrev pub gives_id : Session → Session
@@ -137,12 +137,12 @@ gives_id s = record s { core = record s.core { last = last_given s.core } }
 abbrev pub out_subscribe : Session → Subscribe → ℕ → Answer
 out_subscribe s p at =
     if length p.filters == 0 then (Err errors.EmptySubscription, s)
-    else (Ok (Some (packets.Subscribe (record p { pkid = next_id s.core }))), tells_at (gives_id s) (outgoing.Subscribe (next_id s.core)) at)
+    else (Ok (Some (packets.Subscribe (record p { pkid = next_id s.core }))), with_event_at (gives_id s) (outgoing.Subscribe (next_id s.core)) at)
 
 -- so does an Unsubscribe (3.10)
 abbrev pub out_unsubscribe : Session → Unsubscribe → ℕ → Answer
 out_unsubscribe s p at =
-    (Ok (Some (packets.Unsubscribe (record p { pkid = next_id s.core }))), tells_at (gives_id s) (outgoing.Unsubscribe (next_id s.core)) at)
+    (Ok (Some (packets.Unsubscribe (record p { pkid = next_id s.core }))), with_event_at (gives_id s) (outgoing.Unsubscribe (next_id s.core)) at)
 
 -- how many pings were asked for while a publish waits, with one more; it stays at the greatest number of 64 bits
 abbrev pub pings_with : Option Publish → ℕ → ℕ
@@ -166,24 +166,24 @@ counts_ping s = record s { collision_pings = pings_with s.core.waiting s.collisi
 -- a ping that was counted is sent, unless it is refused (3.12)
 abbrev pub out_ping : Session → ℕ → Answer
 out_ping s at =
-    unless (ping_fault s.core.waiting s.collision_pings s.awaits_ping) s (Ok (Some (packets.PingReq (record {}))), record (tells_at s outgoing.PingReq at) { awaits_ping = true })
+    unless (ping_fault s.core.waiting s.collision_pings s.awaits_ping) s (Ok (Some (packets.PingReq (record {}))), record (with_event_at s outgoing.PingReq at) { awaits_ping = true })
 
 -- a Disconnect without properties (3.14)
 abbrev pub disconnect_of : DisconnectReasonCode → Packet
 disconnect_of code = packets.Disconnect (record { reason_code = code; properties = None })
 
 -- a request: its reply or its refusal, and the session after it
-unfoldable pub out : Session → Request → ℕ → Answer
-out s (requests.Publish p) at = out_publish p.qos s p at
-out s (requests.PubRel p) at = out_release s (id_for s.core p.pkid) (last_after s.core p.pkid) at
-out s (requests.Subscribe p) at = out_subscribe s p at
-out s (requests.Unsubscribe p) at = out_unsubscribe s p at
-out s requests.PingReq at = out_ping (counts_ping s) at
-out s requests.Disconnect at = (Ok (Some (disconnect_of NormalDisconnection)), tells_at s outgoing.Disconnect at)
-out s (requests.PubAck p) at = (Ok (Some (packets.PubAck p)), tells_at s (outgoing.PubAck p.pkid) at)
-out s (requests.PubRec p) at = (Ok (Some (packets.PubRec p)), tells_at s (outgoing.PubRec p.pkid) at)
-out s other at = (Err errors.InvalidState, s)
+unfoldable pub on_request : Session → Request → ℕ → Answer
+on_request s (requests.Publish p) at = out_publish p.qos s p at
+on_request s (requests.PubRel p) at = out_release s (id_for s.core p.pkid) (last_after s.core p.pkid) at
+on_request s (requests.Subscribe p) at = out_subscribe s p at
+on_request s (requests.Unsubscribe p) at = out_unsubscribe s p at
+on_request s requests.PingReq at = out_ping (counts_ping s) at
+on_request s requests.Disconnect at = (Ok (Some (disconnect_of NormalDisconnection)), with_event_at s outgoing.Disconnect at)
+on_request s (requests.PubAck p) at = (Ok (Some (packets.PubAck p)), with_event_at s (outgoing.PubAck p.pkid) at)
+on_request s (requests.PubRec p) at = (Ok (Some (packets.PubRec p)), with_event_at s (outgoing.PubRec p.pkid) at)
+on_request s other at = (Err errors.InvalidState, s)
 
 -- a Disconnect with ProtocolError is sent, where the client finds such an error of the broker (4.13)
 abbrev pub protocol_error : Session → Answer
-protocol_error s = (Ok (Some (disconnect_of ProtocolError)), tells s outgoing.Disconnect)
+protocol_error s = (Ok (Some (disconnect_of ProtocolError)), with_event s outgoing.Disconnect)

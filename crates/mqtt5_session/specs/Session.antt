@@ -3,14 +3,14 @@ use Rattle.std.specs.Prelude.{◌≡◌, ℕ, Bool, false, List, [], ◌∷◌, 
 use Rattle.std.specs.Ordering.{nat_cmp}
 use Rattle.std.specs.FinMap as map
 use Rattle.std.specs.FinSet as set
-use Rattle.mqtt5_flow.specs.declared.publish.Publish.{Publish}
+use Rattle.mqtt5_publish.specs.declared.publish.Publish.{Publish}
 use Rattle.mqtt5_codec.specs.declared.packet.Packet.{Packet}
-use Rattle.mqtt5_held.specs.declared.event.Outgoing.{Outgoing}
-use Rattle.mqtt5_held.specs.declared.event.Event.{Event}
-use Rattle.mqtt5_held.specs.declared.event.Event.TheVariants as events
-use Rattle.mqtt5_held.specs.declared.error.StateError.{StateError}
-use Rattle.mqtt5_held.specs.declared.error.StateError.TheVariants as errors
-use Rattle.mqtt5_held.specs.Held.{Held}
+use Rattle.mqtt5_inflight.specs.declared.event.Outgoing.{Outgoing}
+use Rattle.mqtt5_inflight.specs.declared.event.Event.{Event}
+use Rattle.mqtt5_inflight.specs.declared.event.Event.TheVariants as events
+use Rattle.mqtt5_inflight.specs.declared.error.StateError.{StateError}
+use Rattle.mqtt5_inflight.specs.declared.error.StateError.TheVariants as errors
+use Rattle.mqtt5_inflight.specs.InUse.{InUse}
 
 -- the topics that the broker's aliases stand for (3.3.2.3.4)
 abbrev pub Topics : Type 0
@@ -23,7 +23,7 @@ pub record Core : Type 0 where
   pub limit : ℕ
   pub current : ℕ
   pub last : ℕ
-  pub held : Held
+  pub in_use : InUse
   pub waiting : Option Publish
   pub aliases : Topics
   pub alias_max : ℕ
@@ -43,7 +43,7 @@ pub record Session : Type 0 where
 -- the session of a client that has sent nothing (4.1)
 abbrev pub fresh : ℕ → Bool → Session
 fresh limit manual = record {
-  core = record { limit = limit; current = limit; last = 0; held = map.empty; waiting = None; aliases = map.empty; alias_max = 0; manual_acks = manual; incoming = set.empty };
+  core = record { limit = limit; current = limit; last = 0; in_use = map.empty; waiting = None; aliases = map.empty; alias_max = 0; manual_acks = manual; incoming = set.empty };
   awaits_ping = false;
   collision_pings = 0;
   events = [];
@@ -56,8 +56,8 @@ abbrev pub Answer : Type 0
 Answer = Result (Option Packet) StateError × Session
 
 -- what is answered to send is told
-abbrev pub tells : Session → Outgoing → Session
-tells s event = record s { events = s.events ++ events.Outgoing event ∷ [] }
+abbrev pub with_event : Session → Outgoing → Session
+with_event s event = record s { events = s.events ++ events.Outgoing event ∷ [] }
 
 -- a request has this answer; or memory was refused, nothing changed, and the answer is no fault
 abbrev pub Sends : Result (Option Packet) StateError → Session → Session → Answer → Type 0
@@ -65,6 +65,6 @@ Sends (Err errors.OutOfMemory) old new answer = (new ≡ old) × IsOk answer.0
 Sends result old new answer = (result ≡ answer.0) × (new ≡ answer.1)
 
 -- a packet has this answer; or memory was refused, and nothing changed
-abbrev pub Hears : Result (Option Packet) StateError → Session → Session → Answer → Type 0
-Hears (Err errors.OutOfMemory) old new answer = new ≡ old
-Hears result old new answer = (result ≡ answer.0) × (new ≡ answer.1)
+abbrev pub Receives : Result (Option Packet) StateError → Session → Session → Answer → Type 0
+Receives (Err errors.OutOfMemory) old new answer = new ≡ old
+Receives result old new answer = (result ≡ answer.0) × (new ≡ answer.1)

@@ -2,7 +2,7 @@
 
 ghost use Rattle.std.specs.Prelude.{◌≡◌, ◌+◌, ℕ, Bool, List, ◌∷◌, IsSome};
 ghost use Rattle.mqtt5_base.specs.declared.quality.QoS.TheVariants.{ExactlyOnce};
-ghost use Rattle.mqtt5_flow.specs.declared.publish.Publish.{Publish};
+ghost use Rattle.mqtt5_publish.specs.declared.publish.Publish.{Publish};
 ghost use Rattle.mqtt5_codec.specs.declared.packet.Packet.TheVariants as packets;
 ghost use Rattle.mqtt5_session.specs.Session.{Session};
 ghost use Rattle.mqtt5_session.specs.Packets.{topic_of};
@@ -23,7 +23,8 @@ pub fn once_law()
     ensures counts { (s : Session) (calls : List Call) → IsOnce s calls }
     // A publish of QoS 2 whose topic is known is handed on once, then or before, however often it comes
     // again before its PubRel, over resumes too.
-    ensures once { (s : Session) (p : Publish) (at : ℕ) (calls : List Call) → p.qos ≡ ExactlyOnce → IsSome (topic_of s p)
+    ensures once { (s : Session) (p : Publish) (at : ℕ) (calls : List Call) → p.qos ≡ ExactlyOnce
+        → IsSome (topic_of s p)
         → released_by p.pkid (after s (Hear (packets.Publish p) at)) calls ≡ 0
         → kept_id p.pkid s.core + notified_by p.pkid s (Hear (packets.Publish p) at ∷ calls) ≡ 1 }
 {}

@@ -7,6 +7,6 @@ mod reply;
 mod state;
 
 pub use laws::{ledger_law, once_law};
-pub use mqtt5_held::{Event, Ids, Incoming, Outgoing, Request, StateError};
+pub use mqtt5_inflight::{Event, Ids, Incoming, Outgoing, Request, StateError};
 pub use reply::Reply;
 pub use state::MqttState;

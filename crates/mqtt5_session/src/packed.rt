@@ -4,9 +4,9 @@ ghost use Rattle.std.specs.Prelude.{◌≡◌, None, option_map};
 ghost use Rattle.mqtt5_session.specs.Requests.{release_of, disconnect_of};
 
 use mqtt5_codec::Packet;
-use mqtt5_flow::{PingReq, PubAck, PubComp, PubRec, PubRel, Publish};
-use mqtt5_link::{ConnAck, Disconnect, DisconnectReasonCode};
-use mqtt5_subs::{Subscribe, Unsubscribe};
+use mqtt5_control::{ConnAck, Disconnect, DisconnectReasonCode};
+use mqtt5_publish::{PingReq, PubAck, PubComp, PubRec, PubRel, Publish};
+use mqtt5_subscribe::{Subscribe, Unsubscribe};
 
 /// A publish to send, as a packet.
 pub fn as_reply(sent: Option<Publish>) -> Option<Packet>

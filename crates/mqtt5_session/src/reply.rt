@@ -6,8 +6,8 @@ ghost use Rattle.mqtt5_session.specs.Short.{in_short};
 
 use crate::packed::{as_disconnect, as_puback, as_pubcomp, as_pubrec, as_release};
 use mqtt5_codec::Packet;
-use mqtt5_flow::{PubAck, PubComp, PubCompReason, PubRec};
-use mqtt5_link::DisconnectReasonCode;
+use mqtt5_control::DisconnectReasonCode;
+use mqtt5_publish::{PubAck, PubComp, PubCompReason, PubRec};
 
 /// What is to be sent, in short: an ack has no properties, and its reason is Success where none is said.
 #[derive(Clone, Copy, Debug, PartialEq, Eq)]

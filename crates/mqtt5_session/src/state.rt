@@ -4,18 +4,18 @@ ghost use Rattle.std.specs.Prelude.{◌≡◌, ◌≢◌, ◌+◌, ◌<◌, leng
 ghost use Rattle.std.specs.FinMap as map;
 ghost use Rattle.std.specs.FinSet as set;
 ghost use Rattle.std.specs.Option.{option_copied};
-ghost use Rattle.mqtt5_held.specs.Held.{IsWithin, awaiting_ack, is_released};
-ghost use Rattle.mqtt5_held.specs.Unacked.{requests_of};
-ghost use Rattle.mqtt5_session.specs.Session.{Sends, Hears, fresh, tells};
-ghost use Rattle.mqtt5_session.specs.Requests.{out, protocol_error};
+ghost use Rattle.mqtt5_inflight.specs.InUse.{IsWithin, awaiting_ack, is_released};
+ghost use Rattle.mqtt5_inflight.specs.Unacked.{requests_of};
+ghost use Rattle.mqtt5_session.specs.Session.{Sends, Receives, fresh, with_event};
+ghost use Rattle.mqtt5_session.specs.Requests.{on_request, protocol_error};
 ghost use Rattle.mqtt5_base.specs.declared.quality.QoS.TheVariants.{AtMostOnce};
-ghost use Rattle.mqtt5_session.specs.Packets.{inc};
+ghost use Rattle.mqtt5_session.specs.Packets.{on_packet};
 ghost use Rattle.mqtt5_session.specs.Replies.{in_full};
 ghost use Rattle.mqtt5_session.specs.Frequent.{IsAll};
 ghost use Rattle.mqtt5_session.specs.Planned.{IsLeft, sent_as};
-ghost use Rattle.mqtt5_session.specs.Cleaning.{cleaned, resume_of, Resumes};
+ghost use Rattle.mqtt5_session.specs.Resuming.{cleaned, resume_of, Resumes};
 ghost use Rattle.mqtt5_session.specs.Ledger.{owed, adds, ends, accepted};
-ghost use Rattle.mqtt5_session.specs.Once.{kept_id, notified, released};
+ghost use Rattle.mqtt5_session.specs.Once.{kept_id, notified, releases};
 
 /// The packets that come most.
 mod frequent;
@@ -32,9 +32,9 @@ use bytes::Bytes;
 use frequent::Effect;
 use mqtt5_base::{Exact, QoS, copied};
 use mqtt5_codec::Packet;
-use mqtt5_flow::Publish;
-use mqtt5_held::{Aliases, Event, Ids, Incoming, Outgoing, Request, Slots, StateError};
-use mqtt5_link::DisconnectReasonCode;
+use mqtt5_control::DisconnectReasonCode;
+use mqtt5_inflight::{Aliases, Event, Ids, Incoming, Outgoing, Request, Slots, StateError};
+use mqtt5_publish::Publish;
 use std::alloc::{AllocError, Global};
 use std::collections::VecDeque;
 use std::marker::Model;
@@ -62,22 +62,22 @@ impl Model for MqttState {
     ghost use Rattle.std.specs.Prelude.{◌<◌, ◌≤◌};
     ghost use Rattle.std.specs.Coded.{codes, coded_ℕ};
     ghost use Rattle.std.specs.FinSet as set;
-    ghost use Rattle.mqtt5_flow.specs.contracts.publish.Publish as publish;
-    ghost use Rattle.mqtt5_held.specs.contracts.event.Event as event;
-    ghost use Rattle.mqtt5_held.specs.Codes.{coded_held, coded_aliases, coded_incoming};
-    ghost use Rattle.mqtt5_session.specs.Release.{IsCounted};
+    ghost use Rattle.mqtt5_publish.specs.contracts.publish.Publish as publish;
+    ghost use Rattle.mqtt5_inflight.specs.contracts.event.Event as event;
+    ghost use Rattle.mqtt5_inflight.specs.Codes.{coded_in_use, coded_aliases, coded_incoming};
+    ghost use Rattle.mqtt5_session.specs.Freeing.{IsCounted};
     ghost use Rattle.mqtt5_session.specs.Session.{Session};
 
     ghost Value = { Session };
 
-    ghost coded = { Prim.hlevel (codes, coded_held, coded_aliases, coded_incoming, event.the_row.coded, publish.the_row.coded) };
+    ghost coded = { Prim.hlevel (codes, coded_in_use, coded_aliases, coded_incoming, event.the_row.coded, publish.the_row.coded) };
 
     ghost view = { λ a. record {
       core = record {
         limit = a.slots.limit;
         current = a.current;
         last = a.last_pkid;
-        held = a.slots.held;
+        in_use = a.slots.in_use;
         waiting = a.waiting;
         aliases = a.aliases;
         alias_max = a.alias_max;
@@ -120,8 +120,8 @@ impl MqttState {
 
     /// How many ids are in use. Each is in 1..=limit, and a publish stands under its own id. Takes no memory.
     pub fn inflight(&self) -> u16
-        ensures count { result ≡ map.len self.now.core.held }
-        ensures within { IsWithin self.now.core.limit self.now.core.held }
+        ensures count { result ≡ map.len self.now.core.in_use }
+        ensures within { IsWithin self.now.core.limit self.now.core.in_use }
     {
         self.slots.len()
     }
@@ -208,14 +208,14 @@ impl MqttState {
 
     /// The publish that awaits an ack under an id; None where there is none. Takes no memory.
     pub fn outgoing_pub(&self, id: u16) -> Option<&Publish>
-        ensures { option_copied result ≡ awaiting_ack (map.get self.now.core.held id) }
+        ensures { option_copied result ≡ awaiting_ack (map.get self.now.core.in_use id) }
     {
         self.slots.sent(id)
     }
 
     /// Whether an id is released and awaits its PubComp. Takes no memory.
     pub fn outgoing_rel(&self, id: u16) -> bool
-        ensures { result ≡ is_released (map.get self.now.core.held id) }
+        ensures { result ≡ is_released (map.get self.now.core.in_use id) }
     {
         self.slots.is_released(id)
     }
@@ -244,7 +244,8 @@ impl MqttState {
 
     /// Sets whether the user sends the acks. Takes no memory.
     pub fn set_manual_acks(&mut self, manual_acks: bool)
-        ensures { self.new ≡ record self.old { core = record self.old.core { manual_acks = manual_acks } } }
+        ensures { self.new
+            ≡ record self.old { core = record self.old.core { manual_acks = manual_acks } } }
     {
         self.manual_acks = manual_acks;
     }
@@ -262,8 +263,9 @@ impl MqttState {
         request: Request,
         at: u64,
     ) -> Result<Option<Packet>, StateError>
-        ensures step { Sends result self.old self.new (out self.old request at) }
-        ensures ledger { owed self.new.core ≡ owed self.old.core + accepted result (adds self.old.core request) }
+        ensures step { Sends result self.old self.new (on_request self.old request at) }
+        ensures ledger { owed self.new.core ≡ owed self.old.core + accepted result
+            (adds self.old.core request) }
         ensures once { (id : ℕ) → kept_id id self.new.core ≡ kept_id id self.old.core }
     {
         self.send(request, at)
@@ -271,7 +273,7 @@ impl MqttState {
 
     #[inline(always)]
     fn send(&mut self, request: Request, at: u64) -> Result<Option<Packet>, StateError>
-        ensures { Sends result self.old self.new (out self.old request at) }
+        ensures { Sends result self.old self.new (on_request self.old request at) }
     {
         match self.plan(&request, at) {
             Ok(Some(id)) => Ok(Some(as_sent(request, id))),
@@ -285,10 +287,10 @@ impl MqttState {
 
     /// A request that isn't done.
     #[inline(never)]
-    #[tactic(auto, unfolding(crate::specs::Requests::out))]
+    #[tactic(auto, unfolding(crate::specs::Requests::on_request))]
     fn send_rest(&mut self, request: Request, at: u64) -> Result<Option<Packet>, StateError>
         requires { IsLeft request self.old }
-        ensures { Sends result self.old self.new (out self.old request at) }
+        ensures { Sends result self.old self.new (on_request self.old request at) }
     {
         match request {
             Request::Publish(publish) => self.send_waiting(publish, at),
@@ -317,16 +319,18 @@ impl MqttState {
         packet: Incoming,
         at: u64,
     ) -> Result<Option<Packet>, StateError>
-        ensures step { Hears result self.old self.new (inc self.old packet at) }
+        ensures step { Receives result self.old self.new (on_packet self.old packet at) }
         ensures ledger { owed self.new.core + accepted result (ends packet) ≡ owed self.old.core }
-        ensures once { (id : ℕ) → kept_id id self.new.core + accepted result (released id self.old.core packet) ≡ kept_id id self.old.core + notified id self.old result self.new }
+        ensures once { (id : ℕ) → kept_id id self.new.core + accepted result
+            (releases id self.old.core packet)
+            ≡ kept_id id self.old.core + notified id self.old result self.new }
     {
-        self.hear(packet, at)
+        self.receive_packet(packet, at)
     }
 
     #[inline(always)]
-    fn hear(&mut self, packet: Incoming, at: u64) -> Result<Option<Packet>, StateError>
-        ensures { Hears result self.old self.new (inc self.old packet at) }
+    fn receive_packet(&mut self, packet: Incoming, at: u64) -> Result<Option<Packet>, StateError>
+        ensures { Receives result self.old self.new (on_packet self.old packet at) }
     {
         match self.prepare(&packet, at) {
             Some(effect) => self.hear_frequent(effect, packet, at),
@@ -343,7 +347,7 @@ impl MqttState {
         at: u64,
     ) -> Result<Option<Packet>, StateError>
         requires { IsAll self.old packet at effect }
-        ensures { Hears result self.old self.new (inc self.old packet at) }
+        ensures { Receives result self.old self.new (on_packet self.old packet at) }
     {
         self.carry_out(effect, packet, at)?;
         Ok(effect.reply.packet())
@@ -351,9 +355,9 @@ impl MqttState {
 
     /// A packet, whatever it does.
     #[inline(never)]
-    #[tactic(auto, unfolding(crate::specs::Packets::inc))]
+    #[tactic(auto, unfolding(crate::specs::Packets::on_packet))]
     fn hear_any(&mut self, packet: Incoming, at: u64) -> Result<Option<Packet>, StateError>
-        ensures { Hears result self.old self.new (inc self.old packet at) }
+        ensures { Receives result self.old self.new (on_packet self.old packet at) }
     {
         match packet {
             Packet::PubAck(ack) => self.hear_puback(ack, at),
@@ -363,8 +367,8 @@ impl MqttState {
             Packet::Publish(publish) => self.hear_publish(publish, at),
             Packet::ConnAck(ack) => self.hear_connack(ack, at),
             Packet::PingResp(answer) => self.hear_pingresp(Packet::PingResp(answer), at),
-            Packet::SubAck(ack) => self.take(Packet::SubAck(ack), at),
-            Packet::UnsubAck(ack) => self.take(Packet::UnsubAck(ack), at),
+            Packet::SubAck(ack) => self.accept_silently(Packet::SubAck(ack), at),
+            Packet::UnsubAck(ack) => self.accept_silently(Packet::UnsubAck(ack), at),
             Packet::Disconnect(disconnect) => self.hear_disconnect(disconnect),
             other => self.refuse(other),
         }
@@ -373,16 +377,20 @@ impl MqttState {
     /// As `handle_incoming_packet`, and answers what to send in short.
     #[inline(always)]
     pub fn hear_packet(&mut self, packet: Incoming, at: u64) -> Result<Reply, StateError>
-        ensures step { Hears (in_full result self.new) self.old self.new (inc self.old packet at) }
+        ensures step { Receives (in_full result self.new) self.old self.new
+            (on_packet self.old packet at) }
         ensures ledger { owed self.new.core + accepted result (ends packet) ≡ owed self.old.core }
-        ensures once { (id : ℕ) → kept_id id self.new.core + accepted result (released id self.old.core packet) ≡ kept_id id self.old.core + notified id self.old (in_full result self.new) self.new }
+        ensures once { (id : ℕ) → kept_id id self.new.core + accepted result
+            (releases id self.old.core packet) ≡ kept_id id self.old.core + notified id self.old
+            (in_full result self.new) self.new }
     {
         self.hear_in_short(packet, at)
     }
 
     #[inline(always)]
     fn hear_in_short(&mut self, packet: Incoming, at: u64) -> Result<Reply, StateError>
-        ensures { Hears (in_full result self.new) self.old self.new (inc self.old packet at) }
+        ensures { Receives (in_full result self.new) self.old self.new
+            (on_packet self.old packet at) }
     {
         match self.prepare(&packet, at) {
             Some(effect) => self.frequent_in_short(effect, packet, at),
@@ -399,7 +407,8 @@ impl MqttState {
         at: u64,
     ) -> Result<Reply, StateError>
         requires { IsAll self.old packet at effect }
-        ensures { Hears (in_full result self.new) self.old self.new (inc self.old packet at) }
+        ensures { Receives (in_full result self.new) self.old self.new
+            (on_packet self.old packet at) }
     {
         self.carry_out(effect, packet, at)?;
         Ok(effect.reply)
@@ -409,7 +418,8 @@ impl MqttState {
     #[inline(never)]
     #[tactic(auto, using(crate::proofs::Short::hears_short))]
     fn hear_rare(&mut self, packet: Incoming, at: u64) -> Result<Reply, StateError>
-        ensures { Hears (in_full result self.new) self.old self.new (inc self.old packet at) }
+        ensures { Receives (in_full result self.new) self.old self.new
+            (on_packet self.old packet at) }
     {
         match self.hear_any(packet, at) {
             Ok(answer) => {
@@ -424,10 +434,14 @@ impl MqttState {
     /// As `handle_outgoing_packet` of a publish of QoS 1 or 2, of which a copy is sent, and answers what to send in
     /// short. S1 of one of QoS 0, which no session stores; it is then unchanged.
     pub fn send_copy(&mut self, publish: &Publish, at: u64) -> Result<Reply, StateError>
-        ensures step { publish.now.qos ≢ AtMostOnce → Sends (in_full result self.new) self.old self.new (out self.old (Request.Publish publish.now) at) }
-        ensures ledger { owed self.new.core ≡ owed self.old.core + accepted result (adds self.old.core (Request.Publish publish.now)) }
+        ensures step { publish.now.qos ≢ AtMostOnce
+            → Sends (in_full result self.new) self.old self.new
+            (on_request self.old (Request.Publish publish.now) at) }
+        ensures ledger { owed self.new.core ≡ owed self.old.core + accepted result
+            (adds self.old.core (Request.Publish publish.now)) }
         ensures once { (id : ℕ) → kept_id id self.new.core ≡ kept_id id self.old.core }
-        ensures unstored { publish.now.qos ≡ AtMostOnce → (result ≡ Err StateError.InvalidState) × (self.new ≡ self.old) }
+        ensures unstored { publish.now.qos ≡ AtMostOnce → (result ≡ Err StateError.InvalidState)
+            × (self.new ≡ self.old) }
     {
         if publish.qos == QoS::AtMostOnce {
             return Err(StateError::InvalidState);
@@ -449,9 +463,11 @@ impl MqttState {
     /// rising id, and makes all ids free; no ping is awaited then. The ids of the broker's publishes stay. S12;
     /// the session is then unchanged.
     pub fn clean(&mut self) -> Result<Vec<Request>, StateError>
-        ensures ok { IfOk result (λ v. v.items ≡ requests_of self.old.core.limit self.old.core.held) }
+        ensures ok { IfOk result
+            (λ v. v.items ≡ requests_of self.old.core.limit self.old.core.in_use) }
         ensures cleaned { OnOk result (self.new ≡ cleaned self.old) }
-        ensures ledger { IfOk result (λ v. owed self.new.core + length v.items ≡ owed self.old.core) }
+        ensures ledger { IfOk result (λ v. owed self.new.core + length v.items
+            ≡ owed self.old.core) }
         ensures once { (id : ℕ) → kept_id id self.new.core ≡ kept_id id self.old.core }
         ensures err { IfErr result (λ e. e ≡ StateError.OutOfMemory) }
         ensures kept { OnErr result (self.new ≡ self.old) }
@@ -477,7 +493,7 @@ impl MqttState {
 
     /// Tells of what is answered to send.
     fn tell(&mut self, outgoing: Outgoing) -> Result<(), AllocError>
-        ensures ok { OnOk result (self.new ≡ tells self.old outgoing) }
+        ensures ok { OnOk result (self.new ≡ with_event self.old outgoing) }
         ensures err { OnErr result (self.new ≡ self.old) }
     {
         self.events.reserve(1)?;

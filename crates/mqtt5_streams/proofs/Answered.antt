@@ -5,27 +5,27 @@ use Rattle.std.specs.FinSet as set
 use Rattle.mqtt5_base.specs.Front.{Admits}
 use Rattle.mqtt5_base.specs.declared.quality.QoS.{QoS}
 use Rattle.mqtt5_base.specs.declared.quality.QoS.TheVariants.{AtMostOnce, AtLeastOnce, ExactlyOnce}
-use Rattle.mqtt5_flow.specs.declared.publish.Publish.{Publish}
+use Rattle.mqtt5_publish.specs.declared.publish.Publish.{Publish}
 use Rattle.mqtt5_codec.specs.declared.packet.Packet.{Packet}
 use Rattle.mqtt5_codec.specs.declared.packet.Packet.TheVariants as packets
 use Rattle.mqtt5_codec.specs.declared.codec.Codec.{Codec}
 use Rattle.mqtt5_codec.specs.PacketsIn.{packet_in}
 use Rattle.mqtt5_codec.specs.Norms.{norm}
-use Rattle.mqtt5_held.specs.declared.event.Request.TheVariants as requests
-use Rattle.mqtt5_held.specs.declared.error.StateError.{StateError}
+use Rattle.mqtt5_inflight.specs.declared.event.Request.TheVariants as requests
+use Rattle.mqtt5_inflight.specs.declared.error.StateError.{StateError}
 use Rattle.mqtt5_session.specs.Session.{Session}
-use Rattle.mqtt5_session.specs.Requests.{out, release_of}
-use Rattle.mqtt5_session.specs.Packets.{inc}
+use Rattle.mqtt5_session.specs.Requests.{on_request, release_of}
+use Rattle.mqtt5_session.specs.Packets.{on_packet}
 use Rattle.mqtt5_world.specs.declared.event.WorldEvent.TheVariants as plain
 use Rattle.mqtt5_world.specs.Broker.{Broker, serve, serve_publish, reason_for}
-use Rattle.mqtt5_world.specs.World.{World, start, heard, takes, returns, taken_back, run}
+use Rattle.mqtt5_world.specs.World.{World, start, after_reply, takes, returns, taken_back, run}
 use Rattle.mqtt5_world.proofs.Step.{Inv}
 use Rattle.mqtt5_world.proofs.Runs.{inv_start, inv_next, inv_run}
 use Rattle.mqtt5_streams.specs.declared.event.ByteEvent.{ByteEvent}
 use Rattle.mqtt5_streams.specs.declared.event.ByteEvent.TheVariants as events
-use Rattle.mqtt5_streams.specs.Wire.{frame_of, remaining, IsWritable, IsTyped, IsAck, OfPublish, OfFirst, OfRelease}
+use Rattle.mqtt5_streams.specs.Wire.{wire_of, remaining, IsWritable, IsTyped, IsAck, OfPublish, OfFirst, OfRelease}
 use Rattle.mqtt5_streams.specs.Buffers.{Frames, Waits, Breaks, Takes}
-use Rattle.mqtt5_streams.specs.ByteWorld.{moved, sent, reply_bytes, before, all_bytes, ByteWorld, Outcome, and_then, sends_up, sends_down, asked_bytes, arrived, go_up, heard_bytes, takes_bytes, returned, come_down, emptied, resumed_bytes, resumes_bytes, happens_bytes, run_bytes, start_bytes}
+use Rattle.mqtt5_streams.specs.ByteWorld.{with_bytes, sent, reply_bytes, before, all_bytes, ByteWorld, Outcome, and_then, sends_up, sends_down, asked_bytes, arrived, go_up, heard_bytes, takes_bytes, returned, come_down, emptied, resumed_bytes, resumes_bytes, happens_bytes, run_bytes, start_bytes}
 use Rattle.mqtt5_streams.specs.Reduction.{Every, as_events, unless_fault, IsTypedEvent, numbered, if_accepted, taken_on, all_taken_on, AllWritable, AdmitsAcks}
 use Rattle.mqtt5_streams.proofs.Wire.{wire}
 use Rattle.mqtt5_streams.proofs.Cuts.{AreCut, cuts}
@@ -61,7 +61,7 @@ serve_acks b other = tt {0}
 
 down_answers : (b : ByteWorld) (o : Option Packet) → Every IsAck (option_to_list o) → Answers (sends_down b (reply_bytes None o))
 down_answers b None h = (record b { down = sent b.down [] }, refl)
-down_answers b (Some x) h = (record b { down = sent b.down (frame_of x) }, ap (sends_down b) (wire.acks x h.0).0)
+down_answers b (Some x) h = (record b { down = sent b.down (wire_of x) }, ap (sends_down b) (wire.acks x h.0).0)
 
 broker_answers : (fs : Frames) (b : ByteWorld) (buffer later : List ℕ) (ps : List Packet) → AreCut None ⊥ fs buffer ps later → Answers (go_up fs b)
 broker_answers Waits b buffer later ps cut = (b, refl)
@@ -78,7 +78,7 @@ some_fault : {A : Type 0} (xs : List A) (x : A) → xs ++ x ∷ [] ≡ [] → �
 some_fault [] x e = cc
 some_fault (y ∷ ys) x e = cc
 
-heard_down : (w : World) (a : Result (Option Packet) StateError) (s : Session) → (heard w a s).down ≡ w.down
+heard_down : (w : World) (a : Result (Option Packet) StateError) (s : Session) → (after_reply w a s).down ≡ w.down
 heard_down w (Ok o) s = refl
 heard_down w (Err e) s = refl
 
@@ -109,11 +109,11 @@ module _ (codec : Codec) (limit : ℕ) (small : limit < 65536) where
   all_answers [] h = ([], refl)
   all_answers (p ∷ ps) h =
       let t = all_answers ps h.1 in
-      (frame_of p ++ t.0, ap (λ r. before r (all_bytes codec.max_outgoing_size ps)) (can_sent p h.0.1 h.0.0) ∙ ap (before (Ok (frame_of p))) t.1)
+      (wire_of p ++ t.0, ap (λ r. before r (all_bytes codec.max_outgoing_size ps)) (can_sent p h.0.1 h.0.0) ∙ ap (before (Ok (wire_of p))) t.1)
 
   reply_answers : (o : Option Packet) → Every (GoesUp Can) (option_to_list o) → (bytes : List ℕ) × (reply_bytes codec.max_outgoing_size o ≡ Ok bytes)
   reply_answers None h = ([], refl)
-  reply_answers (Some x) h = (frame_of x, can_sent x h.0.1 h.0.0)
+  reply_answers (Some x) h = (wire_of x, can_sent x h.0.1 h.0.0)
 
   -- ---- a request
 
@@ -127,7 +127,7 @@ module _ (codec : Codec) (limit : ℕ) (small : limit < 65536) where
   -- ---- to the client
 
   -- where the session of a world of packets takes a packet, so does that of bytes
-  heard_answers : (b : ByteWorld) (w : World) (a : Result (Option Packet) StateError) (s : Session) → (heard w a s).faults ≡ [] → HoldsReply Can a → (c : ByteWorld) × (heard_bytes codec b a s ≡ Ok c) × (c.session ≡ (heard w a s).session) × (c.down ≡ b.down)
+  heard_answers : (b : ByteWorld) (w : World) (a : Result (Option Packet) StateError) (s : Session) → (after_reply w a s).faults ≡ [] → HoldsReply Can a → (c : ByteWorld) × (heard_bytes codec b a s ≡ Ok c) × (c.session ≡ (after_reply w a s).session) × (c.down ≡ b.down)
   heard_answers b w (Err e) s i h = absurd (some_fault w.faults e i)
   heard_answers b w (Ok o) s i h =
       let r = reply_answers o h in
@@ -146,20 +146,20 @@ module _ (codec : Codec) (limit : ℕ) (small : limit < 65536) where
       let i1 : Inv w1 = subst Inv (ap (returns w) eq) (inv_next w plain.Down i) in
       let h1 : Holds Can limit w1 = subst (Holds Can limit) (ap (returns w) eq) (holds_next Can limit closed_can w plain.Down i h (tt {0})) in
       let k = keeps_inc Can limit closed_can w.session x h.core q.0 in
-      let g = heard_answers b1 w0 (inc w.session x 0).0 (inc w.session x 0).1 i1.none k.reply in
+      let g = heard_answers b1 w0 (on_packet w.session x 0).0 (on_packet w.session x 0).1 i1.none k.reply in
       let is : packet_in frame ≡ Ok x = cut.0 ∙ ap (λ z. Ok z) (norm_ack x q.0.1) in
-      let e : returned codec b1 (packet_in frame) ≡ Ok g.0 = ap (returned codec b1) is ∙ ap (λ s. heard_bytes codec b1 (inc s x 0).0 (inc s x 0).1) same ∙ g.1 in
+      let e : returned codec b1 (packet_in frame) ≡ Ok g.0 = ap (returned codec b1) is ∙ ap (λ s. heard_bytes codec b1 (on_packet s x 0).0 (on_packet s x 0).1) same ∙ g.1 in
       then_answers (returned codec b1 (packet_in frame)) (come_down codec others) g.0 e
-      (client_answers others g.0 w1 rest later ds (heard_down w0 (inc w.session x 0).0 (inc w.session x 0).1) g.2 i1 h1 cut.1)
+      (client_answers others g.0 w1 rest later ds (heard_down w0 (on_packet w.session x 0).0 (on_packet w.session x 0).1) g.2 i1 h1 cut.1)
 
   -- ---- a loss
 
   lost_answers : (b : ByteWorld) (w : World) (m : Option ℕ) → b.session ≡ w.session → Inv w → Holds Can limit w → Answers (happens_bytes codec b (events.Loss m))
   lost_answers b w m same i h =
-      let s = (inc w.session (taken_back m) 0).1 in
+      let s = (on_packet w.session (taken_back m) 0).1 in
       let b1 : ByteWorld = record (emptied b) { session = s; up = sent (emptied b).up [] } in
       let first : takes_bytes codec (emptied b) (taken_back m) ≡ Ok b1 =
-      ap (λ s. heard_bytes codec (emptied b) (inc s (taken_back m) 0).0 (inc s (taken_back m) 0).1) same ∙ ap (λ r. heard_bytes codec (emptied b) r s) (taken_reply w.session m) in
+      ap (λ s. heard_bytes codec (emptied b) (on_packet s (taken_back m) 0).0 (on_packet s (taken_back m) 0).1) same ∙ ap (λ r. heard_bytes codec (emptied b) r s) (taken_reply w.session m) in
       let k = keeps_again Can limit closed_can s (taken_holds Can limit w.session m h.core) in
       let r = all_answers (again_of s).0 k.0 in
       let b2 : ByteWorld = record b1 { session = (again_of s).1 } in
@@ -182,8 +182,8 @@ module _ (codec : Codec) (limit : ℕ) (small : limit < 65536) where
 
   owes_can : (b : ByteWorld) (w : World) (e : ByteEvent) → b.session ≡ w.session → AllWritable codec (taken_on b e) → OwesByte Can w e
   owes_can b w (events.Publish p) same h =
-      if_every (λ p. IsWritable codec.max_outgoing_size (packets.Publish p)) (numbered p.qos w.session.core p) (out w.session (requests.Publish p) 0).0
-      (subst (λ (s : Session). AllWritable codec (if_accepted (out s (requests.Publish p) 0).0 (numbered p.qos s.core p))) same h)
+      if_every (λ p. IsWritable codec.max_outgoing_size (packets.Publish p)) (numbered p.qos w.session.core p) (on_request w.session (requests.Publish p) 0).0
+      (subst (λ (s : Session). AllWritable codec (if_accepted (on_request s (requests.Publish p) 0).0 (numbered p.qos s.core p))) same h)
   owes_can b w (events.Up n) same h = tt {0}
   owes_can b w (events.Down n) same h = tt {0}
   owes_can b w (events.Loss m) same h = tt {0}
@@ -191,16 +191,16 @@ module _ (codec : Codec) (limit : ℕ) (small : limit < 65536) where
   next_answers : (b : ByteWorld) (w : World) (e : ByteEvent) → AdmitsAcks codec → Inv w → Holds IsTyped limit w → Holds Can limit w → Tied codec b w → OwesByte Can w e → Answers (happens_bytes codec b e)
   next_answers b w (events.Publish p) ad i f h t o =
       let k = keeps_out Can limit w.session p h.core o in
-      let a = asked_answers b p (out w.session (requests.Publish p) 0).0 (out w.session (requests.Publish p) 0).1 k.reply in
-      (a.0, ap (λ s. asked_bytes codec b p (out s (requests.Publish p) 0).0 (out s (requests.Publish p) 0).1) t.reduces.session ∙ a.1)
+      let a = asked_answers b p (on_request w.session (requests.Publish p) 0).0 (on_request w.session (requests.Publish p) 0).1 k.reply in
+      (a.0, ap (λ s. asked_bytes codec b p (on_request s (requests.Publish p) 0).0 (on_request s (requests.Publish p) 0).1) t.reduces.session ∙ a.1)
   next_answers b w (events.Up n) ad i f h t o =
       let up = on_up IsTyped limit w f in
-      broker_answers _ (record b { up = moved n b.up }) (moved n b.up).buffer (moved n b.up).stream w.up
-      (cuts None ⊥ (moved n b.up).buffer w.up (moved n b.up).stream (every_both IsTyped IsWritten w.up up.0 t.up_written) (inr (every_any _ w.up (λ x. tt {0}))) (moved_whole codec n b.up ∙ t.reduces.up))
+      broker_answers _ (record b { up = with_bytes n b.up }) (with_bytes n b.up).buffer (with_bytes n b.up).stream w.up
+      (cuts None ⊥ (with_bytes n b.up).buffer w.up (with_bytes n b.up).stream (every_both IsTyped IsWritten w.up up.0 t.up_written) (inr (every_any _ w.up (λ x. tt {0}))) (moved_whole codec n b.up ∙ t.reduces.up))
   next_answers b w (events.Down n) ad i f h t o =
       let down = on_down IsTyped limit w f in
-      client_answers _ (record b { down = moved n b.down }) w (moved n b.down).buffer (moved n b.down).stream w.down refl t.reduces.session i h
-      (cuts codec.max_incoming_size ⊥ (moved n b.down).buffer w.down (moved n b.down).stream (every_both IsTyped IsWritten w.down down.0 t.down_written) (inr (every_map IsAck _ w.down (admitted ad) down.1)) (moved_whole codec n b.down ∙ t.reduces.down))
+      client_answers _ (record b { down = with_bytes n b.down }) w (with_bytes n b.down).buffer (with_bytes n b.down).stream w.down refl t.reduces.session i h
+      (cuts codec.max_incoming_size ⊥ (with_bytes n b.down).buffer w.down (with_bytes n b.down).stream (every_both IsTyped IsWritten w.down down.0 t.down_written) (inr (every_map IsAck _ w.down (admitted ad) down.1)) (moved_whole codec n b.down ∙ t.reduces.down))
   next_answers b w (events.Loss m) ad i f h t o = lost_answers b w m t.reduces.session i h
 
   run_answers : (es : List ByteEvent) (b : ByteWorld) (w : World) → AdmitsAcks codec → Every IsTypedEvent es → Inv w → Holds IsTyped limit w → Holds Can limit w → Tied codec b w → AllWritable codec (all_taken_on codec es b) → Answers (run_bytes codec es b)

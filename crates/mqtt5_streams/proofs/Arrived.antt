@@ -2,12 +2,12 @@
 use Rattle.std.proofs.Common.{◌≡◌, ℕ, zero, suc, ◌<◌, ◌≤◌, Bool, true, false, nat_lt, List, [], ◌∷◌, ◌++◌, length, count_by, Option, Some, None, refl, sym, ap, ◌∙◌, subst, append-nil, append_assoc}
 use Rattle.std.proofs.lemmas.Bool.{ltb-false, ltb-true}
 use Rattle.std.specs.FinSet as set
-use Rattle.mqtt5_base.specs.Front.{More}
+use Rattle.mqtt5_base.specs.Front.{More, NeedsMore}
 use Rattle.mqtt5_base.specs.FrontAt.{front}
 use Rattle.mqtt5_base.specs.Frames.{IsWhole}
 use Rattle.mqtt5_base.specs.declared.quality.QoS.TheVariants.{AtLeastOnce, ExactlyOnce}
 use Rattle.mqtt5_base.proofs.FrontFound.{front_found}
-use Rattle.mqtt5_flow.specs.declared.publish.Publish.{Publish}
+use Rattle.mqtt5_publish.specs.declared.publish.Publish.{Publish}
 use Rattle.mqtt5_codec.specs.declared.packet.Packet.{Packet}
 use Rattle.mqtt5_codec.specs.declared.codec.Codec.{Codec}
 use Rattle.mqtt5_session.specs.Session.{Session}
@@ -19,9 +19,9 @@ use Rattle.mqtt5_progress.specs.Progress.{IsIdle, Settled, all_up, all_down, dow
 use Rattle.mqtt5_progress.proofs.Settled.{at_rest}
 use Rattle.mqtt5_progress.proofs.Counted.{exactly, least}
 use Rattle.mqtt5_streams.specs.declared.event.ByteEvent.{ByteEvent}
-use Rattle.mqtt5_streams.specs.Wire.{frame_of, IsTyped}
+use Rattle.mqtt5_streams.specs.Wire.{wire_of, IsTyped}
 use Rattle.mqtt5_streams.specs.ByteWorld.{Way, clear, ByteWorld, start_bytes}
-use Rattle.mqtt5_streams.specs.Reduction.{Every, norms, frames_of, IsMore, IsTypedEvent, plain_events}
+use Rattle.mqtt5_streams.specs.Reduction.{Every, norms, frames_of, IsTypedEvent, plain_events}
 use Rattle.mqtt5_streams.specs.Arrival.{AllArrived, SettledBytes}
 use Rattle.mqtt5_streams.proofs.Wire.{wire}
 use Rattle.mqtt5_streams.proofs.Cuts.{IsSound, not_bad, not_whole}
@@ -43,12 +43,12 @@ not_short (Some max) first frame body more is n e = by (nat_lt max (length body)
     by false within = not_whole n frame more (sym e ∙ (front_found (Some max)).found first frame body more is (ltb-false max (length body) within))
 
 -- where no byte is on its way, and the reader waits for more, there is no packet
-no_packet : (limit : Option ℕ) (way : Way) (ps : List Packet) → way.stream ≡ [] → way.buffer ++ way.stream ≡ frames_of ps → IsMore (front limit way.buffer) → Every IsSound ps → ps ≡ []
+no_packet : (limit : Option ℕ) (way : Way) (ps : List Packet) → way.stream ≡ [] → way.buffer ++ way.stream ≡ frames_of ps → NeedsMore (front limit way.buffer) → Every IsSound ps → ps ≡ []
 no_packet limit way [] none e more sound = refl
 no_packet limit way (p ∷ ps) none e more sound =
-    let here : way.buffer ≡ frame_of p ++ frames_of ps = sym (append-nil way.buffer) ∙ ap (λ z. way.buffer ++ z) (sym none) ∙ e in
-    let its = (wire.stays None).shape (frame_of p ++ frames_of ps) (frame_of p) (frames_of ps) (wire.stands None p (frames_of ps) sound.0.0 sound.0.1 (tt {0})) in
-    absurd (not_short limit its.0 (frame_of p) its.1 (frames_of ps) its.2 more.0 (ap (front limit) (sym here) ∙ more.1))
+    let here : way.buffer ≡ wire_of p ++ frames_of ps = sym (append-nil way.buffer) ∙ ap (λ z. way.buffer ++ z) (sym none) ∙ e in
+    let its = (wire.stays None).shape (wire_of p ++ frames_of ps) (wire_of p) (frames_of ps) (wire.stands None p (frames_of ps) sound.0.0 sound.0.1 (tt {0})) in
+    absurd (not_short limit its.0 (wire_of p) its.1 (frames_of ps) its.2 more.0 (ap (front limit) (sym here) ∙ more.1))
 
 is_clear : (way : Way) (ps : List Packet) → way.stream ≡ [] → way.buffer ++ way.stream ≡ frames_of ps → ps ≡ [] → way ≡ clear
 is_clear way ps none e is =

@@ -5,14 +5,14 @@ use Rattle.std.proofs.Math.Seq.{take-append_seam}
 use Rattle.mqtt5_base.specs.declared.error.Error.{Error}
 use Rattle.mqtt5_base.specs.VarInt.{IsEnded, sevens}
 use Rattle.mqtt5_base.specs.Frames.{IsWhole}
-use Rattle.mqtt5_base.specs.Front.{Front, Bad, More, Whole, Admits}
+use Rattle.mqtt5_base.specs.Front.{Front, Bad, More, Whole, Admits, NeedsMore}
 use Rattle.mqtt5_base.specs.FrontAt.{front}
 use Rattle.mqtt5_codec.specs.declared.packet.Packet.{Packet}
 use Rattle.mqtt5_codec.specs.PacketsIn.{packet_in}
 use Rattle.mqtt5_codec.specs.Norms.{norm}
-use Rattle.mqtt5_streams.specs.Wire.{frame_of, remaining, IsWritable, IsTyped}
+use Rattle.mqtt5_streams.specs.Wire.{wire_of, remaining, IsWritable, IsTyped}
 use Rattle.mqtt5_streams.specs.Buffers.{Frames, Waits, Breaks, Takes, cut_by, cut_in, frames}
-use Rattle.mqtt5_streams.specs.Reduction.{Every, frames_of, IsMore}
+use Rattle.mqtt5_streams.specs.Reduction.{Every, frames_of}
 use Rattle.mqtt5_streams.proofs.Wire.{wire}
 
 -- ---- so many are enough
@@ -83,7 +83,7 @@ IsSound p = IsTyped p × IsWritable None p
 -- The frames of a buffer are packets' frames, each read as its packet's norm; then the rest of the buffer and what comes later
 -- are those of the other packets. Where a frame can't be read, this is said.
 abbrev pub AreCut : Option ℕ → Type 0 → Frames → List ℕ → List Packet → List ℕ → Type 0
-AreCut limit Broken Waits buffer ps later = IsMore (front limit buffer) × (buffer ++ later ≡ frames_of ps)
+AreCut limit Broken Waits buffer ps later = NeedsMore (front limit buffer) × (buffer ++ later ≡ frames_of ps)
 AreCut limit Broken (Breaks e) buffer ps later = Broken
 AreCut limit Broken (Takes frame rest others) buffer [] later = ⊥
 AreCut limit Broken (Takes frame rest others) buffer (p ∷ ps) later = (packet_in frame ≡ Ok (norm p)) × AreCut limit Broken others rest ps later
@@ -93,12 +93,12 @@ no_bytes [] ys e = refl
 no_bytes (x ∷ xs) ys e = absurd cc
 
 -- a whole frame at the front is the first packet's
-is_first : (limit : Option ℕ) (p : Packet) (more bytes later frame rest : List ℕ) → IsSound p → bytes ++ later ≡ frame_of p ++ more → front limit bytes ≡ Whole frame rest → (frame ≡ frame_of p) × (rest ++ later ≡ more)
+is_first : (limit : Option ℕ) (p : Packet) (more bytes later frame rest : List ℕ) → IsSound p → bytes ++ later ≡ wire_of p ++ more → front limit bytes ≡ Whole frame rest → (frame ≡ wire_of p) × (rest ++ later ≡ more)
 is_first limit p more bytes later frame rest sound e is =
     let here = (wire.stays limit).shape bytes frame rest is in
-    let its = (wire.stays None).shape (frame_of p ++ more) (frame_of p) more (wire.stands None p more sound.0 sound.1 (tt {0})) in
-    let all : frame ++ (rest ++ later) ≡ frame_of p ++ more = sym (append_assoc frame rest later) ∙ ap (λ z. z ++ later) (sym ((wire.stays limit).parts bytes frame rest is)) ∙ e in
-    let same = one_frame frame (frame_of p) (rest ++ later) more here.0 its.0 here.1 its.1 here.2 its.2 all in
+    let its = (wire.stays None).shape (wire_of p ++ more) (wire_of p) more (wire.stands None p more sound.0 sound.1 (tt {0})) in
+    let all : frame ++ (rest ++ later) ≡ wire_of p ++ more = sym (append_assoc frame rest later) ∙ ap (λ z. z ++ later) (sym ((wire.stays limit).parts bytes frame rest is)) ∙ e in
+    let same = one_frame frame (wire_of p) (rest ++ later) more here.0 its.0 here.1 its.1 here.2 its.2 all in
     (same, append_cancel_left frame (rest ++ later) more (all ∙ ap (λ z. z ++ more) (sym same)))
 
 pub not_bad : (n : ℕ) (e : Error) → More n ≡ Bad e → ⊥
@@ -127,7 +127,7 @@ module _ (limit : Option ℕ) (Broken : Type 0) where
   by_front n bytes later h go_on (Bad x) is [] g b e = absurd (not_bad 2 x (sym (wire.empty limit) ∙ ap (front limit) (sym (no_bytes bytes later e)) ∙ is))
   by_front n bytes later h go_on (Bad x) is (p ∷ ps) g (inl b) e = b
   by_front n bytes later h go_on (Bad x) is (p ∷ ps) g (inr a) e =
-      absurd (whole_not_bad x (frame_of p) (frames_of ps)
+      absurd (whole_not_bad x (wire_of p) (frames_of ps)
       (sym (wire.stands limit p (frames_of ps) g.0.0 g.0.1 a.0) ∙ ap (front limit) (sym e) ∙ (wire.stays limit).bad bytes later x is))
   by_front n bytes later h go_on (Whole frame rest) is [] g b e = not_whole 2 frame rest (sym (wire.empty limit) ∙ ap (front limit) (sym (no_bytes bytes later e)) ∙ is)
   by_front n bytes later h go_on (Whole frame rest) is (p ∷ ps) g b e =

@@ -2,14 +2,14 @@
 use Rattle.std.proofs.Common.{◌≡◌, ◌≢◌, ℕ, ◌+◌, ◌*◌, ◌<◌, ◌≤◌, List, Some, None, Ok, Err, ◌⊎◌, inl, inr, sym, ap, ◌∙◌, subst, arith}
 use Rattle.mqtt5_base.specs.declared.error.Error.{Error}
 use Rattle.mqtt5_base.specs.declared.quality.QoS.TheVariants.{AtMostOnce, AtLeastOnce, ExactlyOnce}
-use Rattle.mqtt5_flow.specs.declared.publish.Publish.{Publish}
+use Rattle.mqtt5_publish.specs.declared.publish.Publish.{Publish}
 use Rattle.mqtt5_codec.specs.declared.packet.Packet.{Packet}
 use Rattle.mqtt5_codec.specs.declared.codec.Codec.{Codec}
 use Rattle.mqtt5_codec.specs.Codecs.{Decodes}
 use Rattle.mqtt5_codec.proofs.CodecLemmas.{taken_packet, taken_fault}
-use Rattle.mqtt5_held.specs.declared.error.StateError.{StateError}
-use Rattle.mqtt5_held.specs.declared.error.StateError.TheVariants as errors
-use Rattle.mqtt5_held.specs.Errors.{state_error}
+use Rattle.mqtt5_inflight.specs.declared.error.StateError.{StateError}
+use Rattle.mqtt5_inflight.specs.declared.error.StateError.TheVariants as errors
+use Rattle.mqtt5_inflight.specs.Errors.{state_error}
 use Rattle.mqtt5_session.specs.Session.{Session}
 use Rattle.mqtt5_world.specs.declared.event.Report.{Report}
 use Rattle.mqtt5_world.specs.Delivery.{times, stored_in, waiting_in}
@@ -20,7 +20,7 @@ use Rattle.mqtt5_streams.specs.ByteWorld.{Way, ByteWorld, Outcome, and_then, arr
 use Rattle.mqtt5_streams.specs.Reduction.{Every, IsTypedEvent, norms, AdmitsAcks, AllWritable, all_taken_on}
 use Rattle.mqtt5_streams.specs.Counts.{Counts}
 use Rattle.mqtt5_streams.specs.Arrival.{AllArrived}
-use Rattle.mqtt5_streams.specs.Does.{Does, IsReport}
+use Rattle.mqtt5_streams.specs.Does.{Does, IsByteReport}
 use Rattle.mqtt5_streams.proofs.Cuts.{frames_whole, frames_more, frames_bad}
 use Rattle.mqtt5_streams.proofs.Steps.{ok_one}
 use Rattle.mqtt5_streams.proofs.Runs.{counts}
@@ -97,9 +97,9 @@ module _ (codec : Codec) where
 -- ---- a report
 
 abbrev pub IsReportOf : Codec → ℕ → List ByteEvent → Report → Type 0
-IsReportOf codec limit es r = (w : ByteWorld) × (run_bytes codec es (start_bytes limit) ≡ Ok w) × IsReport r w
+IsReportOf codec limit es r = (w : ByteWorld) × (run_bytes codec es (start_bytes limit) ≡ Ok w) × IsByteReport r w
 
-pub reported : (codec : Codec) (limit : ℕ) (es : List ByteEvent) (r : Report) (old w : ByteWorld) → old ≡ start_bytes limit → run_bytes codec es old ≡ Ok w → IsReport r w → IsReportOf codec limit es r
+pub reported : (codec : Codec) (limit : ℕ) (es : List ByteEvent) (r : Report) (old w : ByteWorld) → old ≡ start_bytes limit → run_bytes codec es old ≡ Ok w → IsByteReport r w → IsReportOf codec limit es r
 reported codec limit es r old w same run is = (w, subst (λ z. run_bytes codec es z ≡ Ok w) same run, is)
 
 module _ (codec : Codec) (limit : ℕ) (small : limit < 65536) (es : List ByteEvent) (typed : Every IsTypedEvent es) where
@@ -123,8 +123,8 @@ module _ (codec : Codec) (limit : ℕ) (small : limit < 65536) (es : List ByteEv
         omega (arith, most, least, none_stored, none_waiting)
 
   module _ (r : Report) (is : IsReportOf codec limit es r) (w : ByteWorld) (a : AllArrived codec limit es w) where
-    of_it : IsReport r w
-    of_it = subst (IsReport r) (ok_one is.0 w (sym is.1 ∙ a.reached)) is.2
+    of_it : IsByteReport r w
+    of_it = subst (IsByteReport r) (ok_one is.0 w (sym is.1 ∙ a.reached)) is.2
 
     pub report_settled : IsIdle r.state.core
     report_settled = subst (λ (s : Session). IsIdle s.core) (sym of_it.state) (settled codec limit small es typed w a).core

@@ -3,15 +3,15 @@ use Rattle.std.proofs.Common.{◌≡◌, ℕ, zero, suc, ◌+◌, ◌<◌, Bool,
 use Rattle.std.specs.List.{fold}
 use Rattle.mqtt5_base.specs.declared.quality.QoS.{QoS}
 use Rattle.mqtt5_base.specs.declared.quality.QoS.TheVariants.{AtMostOnce, AtLeastOnce, ExactlyOnce}
-use Rattle.mqtt5_flow.specs.declared.publish.Publish.{Publish}
-use Rattle.mqtt5_flow.specs.Norms.{publish_norm}
+use Rattle.mqtt5_publish.specs.declared.publish.Publish.{Publish}
+use Rattle.mqtt5_publish.specs.Norms.{publish_norm}
 use Rattle.mqtt5_codec.specs.declared.packet.Packet.{Packet}
 use Rattle.mqtt5_codec.specs.declared.packet.Packet.TheVariants as packets
 use Rattle.mqtt5_codec.specs.declared.codec.Codec.{Codec}
-use Rattle.mqtt5_held.specs.declared.event.Request.TheVariants as requests
-use Rattle.mqtt5_held.specs.declared.error.StateError.{StateError}
+use Rattle.mqtt5_inflight.specs.declared.event.Request.TheVariants as requests
+use Rattle.mqtt5_inflight.specs.declared.error.StateError.{StateError}
 use Rattle.mqtt5_session.specs.Session.{Core}
-use Rattle.mqtt5_session.specs.Requests.{out}
+use Rattle.mqtt5_session.specs.Requests.{on_request}
 use Rattle.mqtt5_world.specs.declared.event.WorldEvent.TheVariants as plain
 use Rattle.mqtt5_world.specs.Broker.{Broker}
 use Rattle.mqtt5_world.specs.World.{World, start, happens, run, losses}
@@ -23,7 +23,7 @@ use Rattle.mqtt5_streams.specs.declared.event.ByteEvent.{ByteEvent}
 use Rattle.mqtt5_streams.specs.declared.event.ByteEvent.TheVariants as events
 use Rattle.mqtt5_streams.specs.Wire.{IsTyped, IsAck}
 use Rattle.mqtt5_streams.specs.Buffers.{frames, count}
-use Rattle.mqtt5_streams.specs.ByteWorld.{ByteWorld, moved, start_bytes, happens_bytes, run_bytes, byte_losses}
+use Rattle.mqtt5_streams.specs.ByteWorld.{ByteWorld, with_bytes, start_bytes, happens_bytes, run_bytes, byte_losses}
 use Rattle.mqtt5_streams.specs.Reduction.{Every, as_events, unless_fault, plain_events, norms, Reduces, IsTypedEvent, numbered}
 use Rattle.mqtt5_streams.specs.Reduction as often
 use Rattle.mqtt5_streams.specs.Counts.{Counts}
@@ -48,8 +48,8 @@ module _ (Q : Packet → Type 0) (limit : ℕ) (closed : Closed Q) where
 
   pub holds_as : (codec : Codec) (b : ByteWorld) (w : World) (e : ByteEvent) → Inv w → Holds Q limit w → OwesByte Q w e → Holds Q limit (run (as_events codec b e) w)
   holds_as codec b w (events.Publish p) i h q = holds_next Q limit closed w (plain.Publish p) i h q
-  holds_as codec b w (events.Up n) i h q = holds_ups (count (frames None (moved n b.up).buffer)) w i h
-  holds_as codec b w (events.Down n) i h q = holds_downs (count (frames codec.max_incoming_size (moved n b.down).buffer)) w i h
+  holds_as codec b w (events.Up n) i h q = holds_ups (count (frames None (with_bytes n b.up).buffer)) w i h
+  holds_as codec b w (events.Down n) i h q = holds_downs (count (frames codec.max_incoming_size (with_bytes n b.down).buffer)) w i h
   holds_as codec b w (events.Loss m) i h q = holds_next Q limit closed w (plain.Loss m) i h (tt {0})
 
 -- ---- what the types say of the packets of a run
@@ -74,7 +74,7 @@ numbered_typed ExactlyOnce c p limit e small t h = (omega (arith, e, small, h), 
 
 pub owes_typed : (limit : ℕ) → limit < 65536 → (w : World) (e : ByteEvent) → Holds IsTyped limit w → IsTypedEvent e → OwesByte IsTyped w e
 owes_typed limit small w (events.Publish p) h t =
-    if_map (out w.session (requests.Publish p) 0).0 (HasId p.qos w.session.core p) (IsTyped (packets.Publish (numbered p.qos w.session.core p)))
+    if_map (on_request w.session (requests.Publish p) 0).0 (HasId p.qos w.session.core p) (IsTyped (packets.Publish (numbered p.qos w.session.core p)))
     (numbered_typed p.qos w.session.core p limit h.core.limited small t) (within w.session p)
 owes_typed limit small w (events.Up n) h t = tt {0}
 owes_typed limit small w (events.Down n) h t = tt {0}
@@ -143,8 +143,8 @@ losses_downs (suc n) = losses_downs n
 
 losses_next : (codec : Codec) (b : ByteWorld) (e : ByteEvent) (es : List ByteEvent) (n : ℕ) → n ≡ byte_losses es → losses (as_events codec b e) + n ≡ byte_losses (e ∷ es)
 losses_next codec b (events.Publish p) es n h = omega (arith, h)
-losses_next codec b (events.Up m) es n h = let z = losses_ups (count (frames None (moved m b.up).buffer)) in omega (arith, h, z)
-losses_next codec b (events.Down m) es n h = let z = losses_downs (count (frames codec.max_incoming_size (moved m b.down).buffer)) in omega (arith, h, z)
+losses_next codec b (events.Up m) es n h = let z = losses_ups (count (frames None (with_bytes m b.up).buffer)) in omega (arith, h, z)
+losses_next codec b (events.Down m) es n h = let z = losses_downs (count (frames codec.max_incoming_size (with_bytes m b.down).buffer)) in omega (arith, h, z)
 losses_next codec b (events.Loss m) es n h = omega (arith, h)
 
 losses_plain : (codec : Codec) (es : List ByteEvent) (b c : ByteWorld) → run_bytes codec es b ≡ Ok c → losses (plain_events codec es b) ≡ byte_losses es

@@ -3,31 +3,32 @@ use Rattle.std.proofs.Common.{◌≡◌, ℕ, Bool, true, false, cond, List, [],
 use Rattle.std.proofs.lemmas.List.{map-append, take-append-drop}
 use Rattle.std.specs.Option.{option_to_list}
 use Rattle.std.specs.FinSet as set
+use Rattle.mqtt5_base.specs.Front.{NeedsMore}
 use Rattle.mqtt5_base.specs.declared.error.Error.{Error}
 use Rattle.mqtt5_base.specs.FrontAt.{front}
 use Rattle.mqtt5_base.specs.declared.quality.QoS.{QoS}
 use Rattle.mqtt5_base.specs.declared.quality.QoS.TheVariants.{AtMostOnce, AtLeastOnce, ExactlyOnce}
-use Rattle.mqtt5_flow.specs.declared.publish.Publish.{Publish}
-use Rattle.mqtt5_flow.specs.Norms.{publish_norm}
+use Rattle.mqtt5_publish.specs.declared.publish.Publish.{Publish}
+use Rattle.mqtt5_publish.specs.Norms.{publish_norm}
 use Rattle.mqtt5_codec.specs.declared.packet.Packet.{Packet}
 use Rattle.mqtt5_codec.specs.declared.codec.Codec.{Codec}
 use Rattle.mqtt5_codec.specs.PacketsIn.{packet_in}
 use Rattle.mqtt5_codec.specs.Norms.{norm}
-use Rattle.mqtt5_held.specs.declared.event.Request.TheVariants as requests
-use Rattle.mqtt5_held.specs.declared.error.StateError.{StateError}
+use Rattle.mqtt5_inflight.specs.declared.event.Request.TheVariants as requests
+use Rattle.mqtt5_inflight.specs.declared.error.StateError.{StateError}
 use Rattle.mqtt5_session.specs.Session.{Session}
-use Rattle.mqtt5_session.specs.Requests.{out}
-use Rattle.mqtt5_session.specs.Packets.{puback_of, pubrec_of, inc}
-use Rattle.mqtt5_session.specs.Cleaning.{Sendings, resume_of}
+use Rattle.mqtt5_session.specs.Requests.{on_request}
+use Rattle.mqtt5_session.specs.Packets.{puback_of, pubrec_of, on_packet}
+use Rattle.mqtt5_session.specs.Resuming.{Sendings, resume_of}
 use Rattle.mqtt5_world.specs.declared.event.WorldEvent.TheVariants as plain
 use Rattle.mqtt5_world.specs.Broker.{Broker, Served, serve, serve_publish}
-use Rattle.mqtt5_world.specs.World.{World, asked, served, arrives, heard, takes, returns, taken_back, resumed, happens, run}
+use Rattle.mqtt5_world.specs.World.{World, asked, served, arrives, after_reply, takes, returns, taken_back, resumed, happens, run}
 use Rattle.mqtt5_streams.specs.declared.event.ByteEvent.{ByteEvent}
 use Rattle.mqtt5_streams.specs.declared.event.ByteEvent.TheVariants as events
-use Rattle.mqtt5_streams.specs.Wire.{frame_of, bytes_of, IsWritable, IsTyped, IsAck, OfPublish, OfFirst, OfRelease}
+use Rattle.mqtt5_streams.specs.Wire.{wire_of, bytes_of, IsWritable, IsTyped, IsAck, OfPublish, OfFirst, OfRelease}
 use Rattle.mqtt5_streams.specs.Buffers.{Frames, Waits, Breaks, Takes, count}
-use Rattle.mqtt5_streams.specs.ByteWorld.{Way, clear, moved, sent, reply_bytes, before, all_bytes, ByteWorld, Outcome, and_then, sends_up, sends_down, asked_bytes, served_bytes, arrived, go_up, heard_bytes, takes_bytes, returned, come_down, emptied, resumed_bytes, resumes_bytes, happens_bytes}
-use Rattle.mqtt5_streams.specs.Reduction.{Every, times, as_events, norms, normed, frames_of, IsMore, Reduces}
+use Rattle.mqtt5_streams.specs.ByteWorld.{Way, clear, with_bytes, sent, reply_bytes, before, all_bytes, ByteWorld, Outcome, and_then, sends_up, sends_down, asked_bytes, served_bytes, arrived, go_up, heard_bytes, takes_bytes, returned, come_down, emptied, resumed_bytes, resumes_bytes, happens_bytes}
+use Rattle.mqtt5_streams.specs.Reduction.{Every, times, as_events, norms, normed, frames_of, Reduces}
 use Rattle.mqtt5_streams.proofs.Wire.{wire}
 use Rattle.mqtt5_streams.proofs.Cuts.{AreCut, cuts}
 use Rattle.mqtt5_streams.proofs.Closed.{every_append, IsSent, APublish, ARelease}
@@ -56,7 +57,7 @@ down_ok w (Err f) b e = absurd (not_ok _ b e)
 
 frames_append : (xs ys : List Packet) → frames_of (xs ++ ys) ≡ frames_of xs ++ frames_of ys
 frames_append [] ys = refl
-frames_append (x ∷ xs) ys = ap (λ z. frame_of x ++ z) (frames_append xs ys) ∙ sym (append_assoc (frame_of x) (frames_of xs) (frames_of ys))
+frames_append (x ∷ xs) ys = ap (λ z. wire_of x ++ z) (frames_append xs ys) ∙ sym (append_assoc (wire_of x) (frames_of xs) (frames_of ys))
 
 pub every_both : {A : Type 0} (P R : A → Type 0) (xs : List A) → Every P xs → Every R xs → Every (λ x. P x × R x) xs
 every_both P R [] a b = tt {0}
@@ -73,7 +74,7 @@ IsWritten p = IsWritable None p
 
 reply_written : (limit : Option ℕ) (o : Option Packet) (bytes : List ℕ) → reply_bytes limit o ≡ Ok bytes → (bytes ≡ frames_of (option_to_list o)) × Every IsWritten (option_to_list o)
 reply_written limit None bytes e = (sym (ok_one _ _ e), tt {0})
-reply_written limit (Some p) bytes e = let h = wire.written limit p bytes e in (h.0 ∙ sym (append-nil (frame_of p)), (h.1, tt {0}))
+reply_written limit (Some p) bytes e = let h = wire.written limit p bytes e in (h.0 ∙ sym (append-nil (wire_of p)), (h.1, tt {0}))
 
 before_ok : (r s : Result (List ℕ) Error) (bytes : List ℕ) → before r s ≡ Ok bytes → (a b : List ℕ) × (r ≡ Ok a) × (s ≡ Ok b) × (bytes ≡ a ++ b)
 before_ok (Ok a) (Ok b) bytes e = (a, b, refl, refl, sym (ok_one _ _ e))
@@ -86,7 +87,7 @@ all_written limit (p ∷ ps) bytes e =
     let f = before_ok (bytes_of limit p) (all_bytes limit ps) bytes e in
     let h = wire.written limit p f.0 f.2 in
     let t = all_written limit ps f.1 f.3 in
-    (f.4 ∙ ap (λ z. z ++ f.1) h.0 ∙ ap (λ z. frame_of p ++ z) t.0, (h.1, t.1))
+    (f.4 ∙ ap (λ z. z ++ f.1) h.0 ∙ ap (λ z. wire_of p ++ z) t.0, (h.1, t.1))
 
 -- bytes that are sent after packets' frames
 after : (buffer stream bytes : List ℕ) (ps qs : List Packet) → buffer ++ stream ≡ frames_of ps → bytes ≡ frames_of qs → buffer ++ (stream ++ bytes) ≡ frames_of (ps ++ qs)
@@ -130,7 +131,7 @@ serve_norm : (b : Broker) (x : Packet) → IsSent x → serve (normed b) (norm x
 serve_norm b _ (APublish p) = publish_served p.qos b p refl
 serve_norm b _ (ARelease id) = refl
 
-heard_left : (w : World) (a : Result (Option Packet) StateError) (s : Session) → (heard w a s).down ≡ w.down
+heard_left : (w : World) (a : Result (Option Packet) StateError) (s : Session) → (after_reply w a s).down ≡ w.down
 heard_left w (Ok o) s = refl
 heard_left w (Err f) s = refl
 
@@ -149,7 +150,7 @@ record ButUp (codec : Codec) (b : ByteWorld) (w : World) : Type 0 where
   accepted : b.accepted ≡ w.accepted
   refused : b.refused ≡ w.refused
   down : b.down.buffer ++ b.down.stream ≡ frames_of w.down
-  down_waits : IsMore (front codec.max_incoming_size b.down.buffer)
+  down_waits : NeedsMore (front codec.max_incoming_size b.down.buffer)
   down_written : Every IsWritten w.down
 
 -- the same, but for the way down
@@ -159,7 +160,7 @@ record ButDown (b : ByteWorld) (w : World) : Type 0 where
   accepted : b.accepted ≡ w.accepted
   refused : b.refused ≡ w.refused
   up : b.up.buffer ++ b.up.stream ≡ frames_of w.up
-  up_waits : IsMore (front None b.up.buffer)
+  up_waits : NeedsMore (front None b.up.buffer)
   up_written : Every IsWritten w.up
 
 module _ (codec : Codec) where
@@ -243,12 +244,12 @@ module _ (codec : Codec) where
 
   -- ---- to the client
 
-  heard_on : (b : ByteWorld) (w : World) (a : Result (Option Packet) StateError) (s : Session) (c : ByteWorld) → ButDown b w → heard_bytes codec b a s ≡ Ok c → ButDown c (heard w a s) × (c.down ≡ b.down)
+  heard_on : (b : ByteWorld) (w : World) (a : Result (Option Packet) StateError) (s : Session) (c : ByteWorld) → ButDown b w → heard_bytes codec b a s ≡ Ok c → ButDown c (after_reply w a s) × (c.down ≡ b.down)
   heard_on b w (Err f) s c t e = absurd (not_ok _ c e)
   heard_on b w (Ok o) s c t e =
       let u = up_ok (record b { session = s }) (reply_bytes codec.max_outgoing_size o) c e in
       let h = reply_written codec.max_outgoing_size o u.0 u.1 in
-      subst (λ z. ButDown z (heard w (Ok o) s) × (z.down ≡ b.down)) u.2 (
+      subst (λ z. ButDown z (after_reply w (Ok o) s) × (z.down ≡ b.down)) u.2 (
         record {
           session = refl;
           broker = t.broker;
@@ -262,7 +263,7 @@ module _ (codec : Codec) where
       )
 
   taken_on : (b : ByteWorld) (w : World) (x : Packet) (c : ByteWorld) → ButDown b w → takes_bytes codec b x ≡ Ok c → ButDown c (takes w x) × (c.down ≡ b.down)
-  taken_on b w x c t e = heard_on b w (inc w.session x 0).0 (inc w.session x 0).1 c t (sym (ap (λ s. heard_bytes codec b (inc s x 0).0 (inc s x 0).1) t.session) ∙ e)
+  taken_on b w x c t e = heard_on b w (on_packet w.session x 0).0 (on_packet w.session x 0).1 c t (sym (ap (λ s. heard_bytes codec b (on_packet s x 0).0 (on_packet s x 0).1) t.session) ∙ e)
 
   without_down : (b : ByteWorld) (w : World) (way : Way) (ds : List Packet) → ButDown b w → ButDown (record b { down = way }) (record w { down = ds })
   without_down b w way ds t = record { session = t.session; broker = t.broker; accepted = t.accepted; refused = t.refused; up = t.up; up_waits = t.up_waits; up_written = t.up_written }
@@ -293,7 +294,7 @@ module _ (codec : Codec) where
       let w0 : World = record w { down = ds } in
       let s = taken_on b1 w0 x g.0 (without_down b w way ds t) (sym (ap (returned codec b1) is) ∙ g.1) in
       let k : AreCut codec.max_incoming_size Broken others g.0.down.buffer ds g.0.down.stream = subst (λ (z : Way). AreCut codec.max_incoming_size Broken others z.buffer ds z.stream) (sym s.1) cut.1 in
-      let r = down_tied Broken others g.0 (takes w0 x) c ds (heard_left w0 (inc w.session x 0).0 (inc w.session x 0).1) s.0 k wr.1 ac.1 g.2 in
+      let r = down_tied Broken others g.0 (takes w0 x) c ds (heard_left w0 (on_packet w.session x 0).0 (on_packet w.session x 0).1) s.0 k wr.1 ac.1 g.2 in
       subst (λ z. Tied codec c (run (times (count others) plain.Down) z)) (sym (ap (returns w) eq)) r
 
   -- ---- a loss
@@ -312,7 +313,7 @@ module _ (codec : Codec) where
           up = after b.up.buffer b.up.stream u.0 w.up again.0 t.up h.0;
           down = ap (λ (z : Way). z.buffer ++ z.stream) none ∙ ap frames_of (sym nothing);
           up_waits = t.up_waits;
-          down_waits = subst (λ (z : Way). IsMore (front codec.max_incoming_size z.buffer)) (sym none) (2, wire.empty codec.max_incoming_size);
+          down_waits = subst (λ (z : Way). NeedsMore (front codec.max_incoming_size z.buffer)) (sym none) (2, wire.empty codec.max_incoming_size);
         };
         up_written = every_append IsWritten w.up again.0 t.up_written h.1;
         down_written = subst (Every IsWritten) (sym nothing) (tt {0});
@@ -325,28 +326,28 @@ module _ (codec : Codec) where
       let g = then_ok (takes_bytes codec (emptied b) (taken_back m)) (resumes_bytes codec) c e in
       let start : ButDown (emptied b) lost = record { session = r.session; broker = r.broker; accepted = r.accepted; refused = r.refused; up = refl; up_waits = (2, wire.empty None); up_written = tt {0} } in
       let s = taken_on (emptied b) lost (taken_back m) g.0 start g.1 in
-      resumed_tied g.0 (takes lost (taken_back m)) (resume_of (takes lost (taken_back m)).session 0) c s.0 s.1 (heard_left lost (inc w.session (taken_back m) 0).0 (inc w.session (taken_back m) 0).1)
+      resumed_tied g.0 (takes lost (taken_back m)) (resume_of (takes lost (taken_back m)).session 0) c s.0 s.1 (heard_left lost (on_packet w.session (taken_back m) 0).0 (on_packet w.session (taken_back m) 0).1)
       (sym (ap (λ z. resumed_bytes codec g.0 (resume_of z 0)) s.0.session) ∙ g.2)
 
   -- ---- any event
 
-  pub moved_whole : (n : ℕ) (way : Way) → (moved n way).buffer ++ (moved n way).stream ≡ way.buffer ++ way.stream
+  pub moved_whole : (n : ℕ) (way : Way) → (with_bytes n way).buffer ++ (with_bytes n way).stream ≡ way.buffer ++ way.stream
   moved_whole n way = append_assoc way.buffer (take n way.stream) (drop n way.stream) ∙ ap (λ z. way.buffer ++ z) (take-append-drop n way.stream)
 
   pub next_tied : (b : ByteWorld) (w : World) (e : ByteEvent) (c : ByteWorld) → Every IsTyped w.up → Every IsSent w.up → Every IsTyped w.down → Every IsAck w.down → Tied codec b w → happens_bytes codec b e ≡ Ok c → Tied codec c (run (as_events codec b e) w)
   next_tied b w (events.Publish p) c ut us dt da t e =
-      asked_tied b w p (out w.session (requests.Publish p) 0).0 (out w.session (requests.Publish p) 0).1 c t
-      (sym (ap (λ s. asked_bytes codec b p (out s (requests.Publish p) 0).0 (out s (requests.Publish p) 0).1) t.reduces.session) ∙ e)
+      asked_tied b w p (on_request w.session (requests.Publish p) 0).0 (on_request w.session (requests.Publish p) 0).1 c t
+      (sym (ap (λ s. asked_bytes codec b p (on_request s (requests.Publish p) 0).0 (on_request s (requests.Publish p) 0).1) t.reduces.session) ∙ e)
   next_tied b w (events.Up n) c ut us dt da t e =
       let r = t.reduces in
-      up_tied (Unit {0}) _ (record b { up = moved n b.up }) w c w.up refl
+      up_tied (Unit {0}) _ (record b { up = with_bytes n b.up }) w c w.up refl
       (record { session = r.session; broker = r.broker; accepted = r.accepted; refused = r.refused; down = r.down; down_waits = r.down_waits; down_written = t.down_written })
-      (cuts None (Unit {0}) (moved n b.up).buffer w.up (moved n b.up).stream (every_both IsTyped IsWritten w.up ut t.up_written) (inl (tt {0})) (moved_whole n b.up ∙ r.up))
+      (cuts None (Unit {0}) (with_bytes n b.up).buffer w.up (with_bytes n b.up).stream (every_both IsTyped IsWritten w.up ut t.up_written) (inl (tt {0})) (moved_whole n b.up ∙ r.up))
       t.up_written us e
   next_tied b w (events.Down n) c ut us dt da t e =
       let r = t.reduces in
-      down_tied (Unit {0}) _ (record b { down = moved n b.down }) w c w.down refl
+      down_tied (Unit {0}) _ (record b { down = with_bytes n b.down }) w c w.down refl
       (record { session = r.session; broker = r.broker; accepted = r.accepted; refused = r.refused; up = r.up; up_waits = r.up_waits; up_written = t.up_written })
-      (cuts codec.max_incoming_size (Unit {0}) (moved n b.down).buffer w.down (moved n b.down).stream (every_both IsTyped IsWritten w.down dt t.down_written) (inl (tt {0})) (moved_whole n b.down ∙ r.down))
+      (cuts codec.max_incoming_size (Unit {0}) (with_bytes n b.down).buffer w.down (with_bytes n b.down).stream (every_both IsTyped IsWritten w.down dt t.down_written) (inl (tt {0})) (moved_whole n b.down ∙ r.down))
       t.down_written da e
   next_tied b w (events.Loss m) c ut us dt da t e = lost_tied b w m c t e

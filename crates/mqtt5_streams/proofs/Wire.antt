@@ -13,10 +13,10 @@ use Rattle.mqtt5_base.specs.Layout.{layout, fits}
 use Rattle.mqtt5_base.proofs.FrontFound.{front_found}
 use Rattle.mqtt5_base.proofs.FrontLemmas.{front_is}
 use Rattle.mqtt5_base.proofs.FramesAgain.{is_written}
-use Rattle.mqtt5_flow.specs.declared.publish.Publish.{Publish}
-use Rattle.mqtt5_flow.specs.Rows.{publish_row}
-use Rattle.mqtt5_flow.specs.Publishes.{publish_packet}
-use Rattle.mqtt5_flow.specs.declared.pubrel.PubRelReason.TheVariants as releases
+use Rattle.mqtt5_publish.specs.declared.publish.Publish.{Publish}
+use Rattle.mqtt5_publish.specs.Rows.{publish_row}
+use Rattle.mqtt5_publish.specs.Publishes.{publish_packet}
+use Rattle.mqtt5_publish.specs.declared.pubrel.PubRelReason.TheVariants as releases
 use Rattle.mqtt5_codec.specs.declared.packet.Packet.{Packet}
 use Rattle.mqtt5_codec.specs.declared.packet.Packet.TheVariants as packets
 use Rattle.mqtt5_codec.specs.Packets.{packet_row, written_packet, packet_len, packet_writing, writing_under}
@@ -26,7 +26,7 @@ use Rattle.mqtt5_codec.proofs.CodecLemmas.{taken_packet}
 use Rattle.mqtt5_codec.proofs.PacketsAgain.{publish_read_back, puback_read_back, pubrec_read_back, pubrel_read_back, pubcomp_read_back}
 use Rattle.mqtt5_session.specs.Requests.{release_of}
 use Rattle.mqtt5_session.specs.Packets.{puback_of, pubrec_of, pubcomp_of}
-use Rattle.mqtt5_streams.specs.Wire.{frame_of, remaining, bytes_of, IsWritable, IsTyped, IsAck, OfPublish, OfFirst, OfRelease, IsWire}
+use Rattle.mqtt5_streams.specs.Wire.{wire_of, remaining, bytes_of, IsWritable, IsTyped, IsAck, OfPublish, OfFirst, OfRelease, IsWire}
 
 -- ---- limits
 
@@ -51,8 +51,8 @@ within max p bytes e = by (nat_lt max (packet_len p)) refl e
 limited : (max : ℕ) (p : Packet) → packet_len p ≤ max → writing_under (Some max) p ≡ packet_writing p
 limited max p h = ap (λ b. cond b (Err (OutgoingPacketTooLarge (min (packet_len p) 4294967295) max)) (packet_writing p)) (le-ltb max (packet_len p) h)
 
-written : (limit : Option ℕ) (p : Packet) (bytes : List ℕ) → bytes_of limit p ≡ Ok bytes → (bytes ≡ frame_of p) × IsWritable None p
-unfolding bytes_of frame_of
+written : (limit : Option ℕ) (p : Packet) (bytes : List ℕ) → bytes_of limit p ≡ Ok bytes → (bytes ≡ wire_of p) × IsWritable None p
+unfolding bytes_of wire_of
 written limit p bytes e =
     let w = unlimited limit p bytes e in
     let same = sym (is_written (packet_row p) (written_packet p) bytes w).bytes in
@@ -68,12 +68,12 @@ back (packets.PubRel p) t = pubrel_read_back p t.0 t.1
 back (packets.PubComp p) t = pubcomp_read_back p t.0 t.1
 back other t = absurd t
 
-stands : (limit : Option ℕ) (p : Packet) (more : List ℕ) → IsTyped p → IsWritable None p → Admits limit (remaining p) → front limit (frame_of p ++ more) ≡ Whole (frame_of p) more
-unfolding bytes_of frame_of remaining
+stands : (limit : Option ℕ) (p : Packet) (more : List ℕ) → IsTyped p → IsWritable None p → Admits limit (remaining p) → front limit (wire_of p ++ more) ≡ Whole (wire_of p) more
+unfolding bytes_of wire_of remaining
 stands limit p more t w admits = ((back p t).again limit (layout (packet_row p) (written_packet p)) more w admits).0
 
-read : (p : Packet) → IsTyped p → IsWritable None p → packet_in (frame_of p) ≡ Ok (norm p)
-unfolding bytes_of frame_of
+read : (p : Packet) → IsTyped p → IsWritable None p → packet_in (wire_of p) ≡ Ok (norm p)
+unfolding bytes_of wire_of
 read p t w =
     let bytes = layout (packet_row p) (written_packet p) in
     let r = (back p t).again None bytes [] w (tt {0}) in
@@ -82,7 +82,7 @@ read p t w =
 -- ---- acks and releases
 
 acks : (p : Packet) → IsAck p → IsWritable None p × (remaining p ≤ 4)
-unfolding bytes_of frame_of remaining
+unfolding bytes_of wire_of remaining
 acks _ (OfPublish id) = (refl, let n : remaining (puback_of id) ≡ 2 = refl in omega (arith, n))
 acks _ (OfFirst id) = (refl, let n : remaining (pubrec_of id) ≡ 2 = refl in omega (arith, n))
 acks _ (OfRelease id releases.Success) = (refl, let n : remaining (pubcomp_of id releases.Success) ≡ 2 = refl in omega (arith, n))
@@ -107,7 +107,7 @@ publish_len : (p : Publish) → 4 ≤ packet_len (packets.Publish p)
 publish_len p = four _ _ _ _
 
 releases_written : (limit : Option ℕ) (p : Publish) (id : ℕ) → IsWritable limit (packets.Publish p) → IsWritable limit (release_of id)
-unfolding bytes_of frame_of
+unfolding bytes_of wire_of
 releases_written None p id w = refl
 releases_written (Some max) p id w =
     let most = within max (packets.Publish p) _ w in
@@ -135,7 +135,7 @@ dup_len : (p : Publish) → packet_len (packets.Publish (record p { dup = true }
 dup_len p = refl
 
 again : (limit : Option ℕ) (p : Publish) → IsWritable limit (packets.Publish p) → IsWritable limit (packets.Publish (record p { dup = true }))
-unfolding bytes_of frame_of
+unfolding bytes_of wire_of
 again None p w = dup_written p _ w
 again (Some max) p w =
     let most = within max (packets.Publish p) _ w in

@@ -2,17 +2,17 @@
 -- (MQTT 5.0 sections 4.2 to 4.4).
 use Rattle.std.specs.Prelude.{ℕ, ◌+◌, false, List, [], ◌∷◌, ◌++◌, take, drop, Option, Some, None, Result, Ok, Err}
 use Rattle.mqtt5_base.specs.declared.error.Error.{Error}
-use Rattle.mqtt5_flow.specs.declared.publish.Publish.{Publish}
+use Rattle.mqtt5_publish.specs.declared.publish.Publish.{Publish}
 use Rattle.mqtt5_codec.specs.declared.packet.Packet.{Packet}
 use Rattle.mqtt5_codec.specs.declared.codec.Codec.{Codec}
 use Rattle.mqtt5_codec.specs.PacketsIn.{packet_in}
-use Rattle.mqtt5_held.specs.declared.event.Request.TheVariants as requests
-use Rattle.mqtt5_held.specs.declared.error.StateError.{StateError}
-use Rattle.mqtt5_held.specs.Errors.{state_error}
+use Rattle.mqtt5_inflight.specs.declared.event.Request.TheVariants as requests
+use Rattle.mqtt5_inflight.specs.declared.error.StateError.{StateError}
+use Rattle.mqtt5_inflight.specs.Errors.{state_error}
 use Rattle.mqtt5_session.specs.Session.{Session, fresh}
-use Rattle.mqtt5_session.specs.Requests.{out}
-use Rattle.mqtt5_session.specs.Packets.{inc}
-use Rattle.mqtt5_session.specs.Cleaning.{Sendings, resume_of}
+use Rattle.mqtt5_session.specs.Requests.{on_request}
+use Rattle.mqtt5_session.specs.Packets.{on_packet}
+use Rattle.mqtt5_session.specs.Resuming.{Sendings, resume_of}
 use Rattle.mqtt5_world.specs.Broker.{Broker, Served, idle, serve}
 use Rattle.mqtt5_world.specs.World.{taken_back}
 use Rattle.mqtt5_streams.specs.declared.event.ByteEvent.{ByteEvent}
@@ -32,8 +32,8 @@ abbrev pub clear : Way
 clear = record { buffer = []; stream = [] }
 
 -- so many bytes arrive at the reader, or all where there are fewer
-abbrev pub moved : ℕ → Way → Way
-moved n way = record { buffer = way.buffer ++ take n way.stream; stream = drop n way.stream }
+abbrev pub with_bytes : ℕ → Way → Way
+with_bytes n way = record { buffer = way.buffer ++ take n way.stream; stream = drop n way.stream }
 
 -- bytes are sent
 abbrev pub sent : Way → List ℕ → Way
@@ -101,7 +101,7 @@ asked_bytes codec w p (Err e) s = Ok (record w { session = s; refused = w.refuse
 
 -- a publish is asked for, at moment 0
 abbrev pub asks_bytes : Codec → ByteWorld → Publish → Outcome
-asks_bytes codec w p = asked_bytes codec w p (out w.session (requests.Publish p) 0).0 (out w.session (requests.Publish p) 0).1
+asks_bytes codec w p = asked_bytes codec w p (on_request w.session (requests.Publish p) 0).0 (on_request w.session (requests.Publish p) 0).1
 
 -- ---- to the broker, which reads and writes without limits
 
@@ -133,7 +133,7 @@ heard_bytes codec w (Err e) s = Err e
 
 -- the session takes a packet, at moment 0
 abbrev pub takes_bytes : Codec → ByteWorld → Packet → Outcome
-takes_bytes codec w p = heard_bytes codec w (inc w.session p 0).0 (inc w.session p 0).1
+takes_bytes codec w p = heard_bytes codec w (on_packet w.session p 0).0 (on_packet w.session p 0).1
 
 -- the packet of a frame, or the fault of the frame
 abbrev pub returned : Codec → ByteWorld → Result Packet Error → Outcome
@@ -172,8 +172,8 @@ resumes_bytes codec w = resumed_bytes codec w (resume_of w.session 0)
 -- and a new one takes up the session; its ConnAck is handed to the client as it is (4.4)
 abbrev pub happens_bytes : Codec → ByteWorld → ByteEvent → Outcome
 happens_bytes codec w (events.Publish p) = asks_bytes codec w p
-happens_bytes codec w (events.Up n) = drain_up (record w { up = moved n w.up })
-happens_bytes codec w (events.Down n) = drain_down codec (record w { down = moved n w.down })
+happens_bytes codec w (events.Up n) = drain_up (record w { up = with_bytes n w.up })
+happens_bytes codec w (events.Down n) = drain_down codec (record w { down = with_bytes n w.down })
 happens_bytes codec w (events.Loss m) = and_then (takes_bytes codec (emptied w) (taken_back m)) (resumes_bytes codec)
 
 -- the events, one after another, up to a fault

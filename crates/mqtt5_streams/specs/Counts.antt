@@ -2,7 +2,7 @@
 -- section 4.3).
 use Rattle.std.specs.Prelude.{◌≡◌, ◌≢◌, ℕ, ◌+◌, ◌*◌, ◌≤◌}
 use Rattle.mqtt5_base.specs.declared.quality.QoS.TheVariants.{AtMostOnce, AtLeastOnce, ExactlyOnce}
-use Rattle.mqtt5_flow.specs.declared.publish.Publish.{Publish}
+use Rattle.mqtt5_publish.specs.declared.publish.Publish.{Publish}
 use Rattle.mqtt5_world.specs.Delivery.{times, stored_in, stored_without, waiting_in}
 use Rattle.mqtt5_streams.specs.ByteWorld.{ByteWorld}
 use Rattle.mqtt5_streams.specs.Reduction.{norms}

@@ -2,9 +2,9 @@
 use Rattle.std.specs.Prelude.{◌≡◌, ℕ, List, Option, Result, Ok, Err, ◌⊎◌}
 use Rattle.mqtt5_base.specs.declared.error.Error.{Error}
 use Rattle.mqtt5_codec.specs.declared.codec.Codec.{Codec}
-use Rattle.mqtt5_held.specs.declared.error.StateError.{StateError}
-use Rattle.mqtt5_held.specs.declared.error.StateError.TheVariants as errors
-use Rattle.mqtt5_held.specs.Errors.{state_error}
+use Rattle.mqtt5_inflight.specs.declared.error.StateError.{StateError}
+use Rattle.mqtt5_inflight.specs.declared.error.StateError.TheVariants as errors
+use Rattle.mqtt5_inflight.specs.Errors.{state_error}
 use Rattle.mqtt5_world.specs.declared.event.Report.{Report}
 use Rattle.mqtt5_streams.specs.ByteWorld.{Way, sent, ByteWorld, Outcome}
 
@@ -23,7 +23,7 @@ Sends (Ok done) value old new = (bytes : List ℕ) × (value ≡ Ok bytes) × (n
 Sends (Err e) value old new = (e ≡ errors.OutOfMemory) ⊎ ((f : Error) × (value ≡ Err f) × (e ≡ state_error f))
 
 -- a report of a world
-pub record IsReport (r : Report) (w : ByteWorld) : Type 0 where
+pub record IsByteReport (r : Report) (w : ByteWorld) : Type 0 where
   pub handed : r.handed.items ≡ w.broker.handed
   pub accepted : r.accepted.items ≡ w.accepted
   pub refused : r.refused.items ≡ w.refused

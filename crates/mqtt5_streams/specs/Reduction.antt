@@ -1,27 +1,27 @@
 -- A run over bytes as a run over packets (MQTT 5.0 sections 4.2 to 4.4).
 use Rattle.std.specs.Prelude.{◌≡◌, ℕ, ◌≤◌, zero, suc, List, [], ◌∷◌, ◌++◌, map, Option, None, Result, Ok, Err, IfSome}
-use Rattle.mqtt5_base.specs.Front.{Front, More}
+use Rattle.mqtt5_base.specs.Front.{Front, More, NeedsMore}
 use Rattle.mqtt5_base.specs.FrontAt.{front}
 use Rattle.mqtt5_base.specs.declared.quality.QoS.{QoS}
 use Rattle.mqtt5_base.specs.declared.quality.QoS.TheVariants.{AtMostOnce}
-use Rattle.mqtt5_flow.specs.declared.publish.Publish.{Publish}
-use Rattle.mqtt5_flow.specs.Norms.{publish_norm}
+use Rattle.mqtt5_publish.specs.declared.publish.Publish.{Publish}
+use Rattle.mqtt5_publish.specs.Norms.{publish_norm}
 use Rattle.mqtt5_codec.specs.declared.packet.Packet.{Packet}
 use Rattle.mqtt5_codec.specs.declared.packet.Packet.TheVariants as packets
 use Rattle.mqtt5_codec.specs.declared.codec.Codec.{Codec}
-use Rattle.mqtt5_held.specs.declared.event.Request.TheVariants as requests
-use Rattle.mqtt5_held.specs.declared.error.StateError.{StateError}
+use Rattle.mqtt5_inflight.specs.declared.event.Request.TheVariants as requests
+use Rattle.mqtt5_inflight.specs.declared.error.StateError.{StateError}
 use Rattle.mqtt5_session.specs.Session.{Core}
-use Rattle.mqtt5_session.specs.Requests.{id_for, out}
+use Rattle.mqtt5_session.specs.Requests.{id_for, on_request}
 use Rattle.mqtt5_world.specs.declared.event.WorldEvent.{WorldEvent}
 use Rattle.mqtt5_world.specs.declared.event.WorldEvent.TheVariants as plain
 use Rattle.mqtt5_world.specs.Broker.{Broker}
 use Rattle.mqtt5_world.specs.World.{World}
 use Rattle.mqtt5_streams.specs.declared.event.ByteEvent.{ByteEvent}
 use Rattle.mqtt5_streams.specs.declared.event.ByteEvent.TheVariants as events
-use Rattle.mqtt5_streams.specs.Wire.{frame_of, IsWritable, IsTyped}
+use Rattle.mqtt5_streams.specs.Wire.{wire_of, IsWritable, IsTyped}
 use Rattle.mqtt5_streams.specs.Buffers.{frames, count}
-use Rattle.mqtt5_streams.specs.ByteWorld.{ByteWorld, Outcome, moved, happens_bytes}
+use Rattle.mqtt5_streams.specs.ByteWorld.{ByteWorld, Outcome, with_bytes, happens_bytes}
 
 -- it is said of each
 abbrev pub Every : {A : Type 0} → (A → Type 0) → List A → Type 0
@@ -38,8 +38,8 @@ times (suc n) e = e ∷ times n e
 -- an event as those of the world of packets: one delivery for each frame that the bytes complete
 abbrev pub as_events : Codec → ByteWorld → ByteEvent → List WorldEvent
 as_events codec w (events.Publish p) = plain.Publish p ∷ []
-as_events codec w (events.Up n) = times (count (frames None (moved n w.up).buffer)) plain.Up
-as_events codec w (events.Down n) = times (count (frames codec.max_incoming_size (moved n w.down).buffer)) plain.Down
+as_events codec w (events.Up n) = times (count (frames None (with_bytes n w.up).buffer)) plain.Up
+as_events codec w (events.Down n) = times (count (frames codec.max_incoming_size (with_bytes n w.down).buffer)) plain.Down
 as_events codec w (events.Loss m) = plain.Loss m ∷ []
 
 -- of the world after, if it is reached
@@ -65,11 +65,7 @@ normed b = record { ids = b.ids; handed = norms b.handed }
 -- the frames of packets, one after another
 abbrev pub frames_of : List Packet → List ℕ
 frames_of [] = []
-frames_of (p ∷ ps) = frame_of p ++ frames_of ps
-
--- a front that needs more bytes
-abbrev pub IsMore : Front → Type 0
-IsMore f = (n : ℕ) × (f ≡ More n)
+frames_of (p ∷ ps) = wire_of p ++ frames_of ps
 
 -- The world of bytes is that of packets, but the broker handed on norms: each buffer with its stream is the frames of the
 -- packets on that way, and no frame in a buffer is whole.
@@ -80,8 +76,8 @@ pub record Reduces (codec : Codec) (b : ByteWorld) (w : World) : Type 0 where
   pub refused : b.refused ≡ w.refused
   pub up : b.up.buffer ++ b.up.stream ≡ frames_of w.up
   pub down : b.down.buffer ++ b.down.stream ≡ frames_of w.down
-  pub up_waits : IsMore (front None b.up.buffer)
-  pub down_waits : IsMore (front codec.max_incoming_size b.down.buffer)
+  pub up_waits : NeedsMore (front None b.up.buffer)
+  pub down_waits : NeedsMore (front codec.max_incoming_size b.down.buffer)
 
 -- ---- answers without a fault
 
@@ -102,7 +98,7 @@ if_accepted (Err e) p = []
 
 -- the publish that an event has accepted, with its id
 abbrev pub taken_on : ByteWorld → ByteEvent → List Publish
-taken_on w (events.Publish p) = if_accepted (out w.session (requests.Publish p) 0).0 (numbered p.qos w.session.core p)
+taken_on w (events.Publish p) = if_accepted (on_request w.session (requests.Publish p) 0).0 (numbered p.qos w.session.core p)
 taken_on w e = []
 
 -- those that a run has accepted, up to a fault

@@ -5,25 +5,25 @@ use Rattle.mqtt5_base.specs.Front.{IsFront, Admits, More, Whole}
 use Rattle.mqtt5_base.specs.FrontAt.{front}
 use Rattle.mqtt5_base.specs.Sets.{IsBlockOf}
 use Rattle.mqtt5_base.specs.Layout.{layout, body_bytes}
-use Rattle.mqtt5_flow.specs.declared.publish.Publish.{Publish}
-use Rattle.mqtt5_flow.specs.declared.pubrel.PubRelReason.{PubRelReason}
+use Rattle.mqtt5_publish.specs.declared.publish.Publish.{Publish}
+use Rattle.mqtt5_publish.specs.declared.pubrel.PubRelReason.{PubRelReason}
 use Rattle.mqtt5_base.specs.AckSets.{ack_table, ack_found}
-use Rattle.mqtt5_flow.specs.Rows.{publish_table}
-use Rattle.mqtt5_flow.specs.Publishes.{publish_found}
+use Rattle.mqtt5_publish.specs.Rows.{publish_table}
+use Rattle.mqtt5_publish.specs.Publishes.{publish_found}
 use Rattle.mqtt5_codec.specs.declared.packet.Packet.{Packet}
 use Rattle.mqtt5_codec.specs.declared.packet.Packet.TheVariants as packets
 use Rattle.mqtt5_codec.specs.Packets.{packet_row, written_packet, writing_under}
 use Rattle.mqtt5_codec.specs.PacketsIn.{packet_in}
 use Rattle.mqtt5_codec.specs.Norms.{norm}
-use Rattle.mqtt5_held.specs.Unacked.{again}
+use Rattle.mqtt5_inflight.specs.Unacked.{again}
 use Rattle.mqtt5_session.specs.Requests.{release_of}
 use Rattle.mqtt5_session.specs.Packets.{puback_of, pubrec_of, pubcomp_of}
 
 -- ---- frames
 
 -- a packet's frame (2.1)
-unfoldable pub frame_of : Packet → List ℕ
-frame_of p = layout (packet_row p) (written_packet p)
+unfoldable pub wire_of : Packet → List ℕ
+wire_of p = layout (packet_row p) (written_packet p)
 
 -- its remaining length (2.1.4)
 unfoldable pub remaining : Packet → ℕ
@@ -35,7 +35,7 @@ bytes_of limit p = writing_under limit p
 
 -- a packet can be written under a limit
 abbrev pub IsWritable : Option ℕ → Packet → Type 0
-IsWritable limit p = bytes_of limit p ≡ Ok (frame_of p)
+IsWritable limit p = bytes_of limit p ≡ Ok (wire_of p)
 
 -- ---- packets on a stream
 
@@ -63,9 +63,9 @@ pub data IsAck : Packet → Type 0 where
 pub record IsWire : Type 0 where
   pub empty : (limit : Option ℕ) → front limit [] ≡ More 2
   pub stays : (limit : Option ℕ) → IsFront (front limit)
-  pub written : (limit : Option ℕ) (p : Packet) (bytes : List ℕ) → bytes_of limit p ≡ Ok bytes → (bytes ≡ frame_of p) × IsWritable None p
-  pub stands : (limit : Option ℕ) (p : Packet) (more : List ℕ) → IsTyped p → IsWritable None p → Admits limit (remaining p) → front limit (frame_of p ++ more) ≡ Whole (frame_of p) more
-  pub read : (p : Packet) → IsTyped p → IsWritable None p → packet_in (frame_of p) ≡ Ok (norm p)
+  pub written : (limit : Option ℕ) (p : Packet) (bytes : List ℕ) → bytes_of limit p ≡ Ok bytes → (bytes ≡ wire_of p) × IsWritable None p
+  pub stands : (limit : Option ℕ) (p : Packet) (more : List ℕ) → IsTyped p → IsWritable None p → Admits limit (remaining p) → front limit (wire_of p ++ more) ≡ Whole (wire_of p) more
+  pub read : (p : Packet) → IsTyped p → IsWritable None p → packet_in (wire_of p) ≡ Ok (norm p)
   pub acks : (p : Packet) → IsAck p → IsWritable None p × (remaining p ≤ 4)
   pub releases : (limit : Option ℕ) (p : Publish) (id : ℕ) → IsWritable limit (packets.Publish p) → IsWritable limit (release_of id)
   pub again : (limit : Option ℕ) (p : Publish) → IsWritable limit (packets.Publish p) → IsWritable limit (packets.Publish (again p))

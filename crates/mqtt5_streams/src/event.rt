@@ -1,6 +1,6 @@
 //! What happens on streams of bytes.
 
-use mqtt5_flow::Publish;
+use mqtt5_publish::Publish;
 
 /// What happens.
 #[derive(Debug, Drop)]

@@ -3,7 +3,7 @@
 ghost use Rattle.std.specs.Prelude.{◌≡◌, ◌<◌, length, IfOk, IfSome, OnOk};
 ghost use Rattle.mqtt5_codec.specs.Codecs.{Decodes};
 ghost use Rattle.mqtt5_streams.specs.Wire.{bytes_of};
-ghost use Rattle.mqtt5_streams.specs.ByteWorld.{clear, moved, reply_bytes, all_bytes};
+ghost use Rattle.mqtt5_streams.specs.ByteWorld.{clear, with_bytes, reply_bytes, all_bytes};
 ghost use Rattle.mqtt5_streams.specs.Does.{Sends};
 
 use bytes::BytesMut;
@@ -52,7 +52,7 @@ impl Way {
 
     /// Moves so many bytes to the reader, or all where there are fewer.
     pub fn shift(&mut self, n: usize) -> Result<(), AllocError>
-        ensures { OnOk result (self.new ≡ moved n self.old) }
+        ensures { OnOk result (self.new ≡ with_bytes n self.old) }
     {
         let all = self.stream.len();
         let n = if n < all { n } else { all };
@@ -66,7 +66,8 @@ impl Way {
     pub fn next(&mut self, alloc: Global, limit: Option<u32>) -> Result<Option<Packet>, Error>
         ensures decodes { Decodes result limit self.old.buffer self.new.buffer }
         ensures stream { self.new.stream ≡ self.old.stream }
-        ensures shorter { IfOk result (λ m. IfSome m (λ _. length self.new.buffer < length self.old.buffer)) }
+        ensures shorter { IfOk result
+            (λ m. IfSome m (λ _. length self.new.buffer < length self.old.buffer)) }
     {
         let codec = Codec {
             max_incoming_size: limit,

@@ -3,14 +3,14 @@
 ghost use Rattle.std.specs.Prelude.{◌≡◌, ◌<◌, ◌∷◌, ◌++◌, [], None, length, IfOk, IfErr, IfSome, OnOk, Ok};
 ghost use Rattle.mqtt5_codec.specs.Codecs.{Decodes};
 ghost use Rattle.mqtt5_streams.specs.declared.event.ByteEvent.TheVariants as events;
-ghost use Rattle.mqtt5_streams.specs.ByteWorld.{start_bytes, moved, reply_bytes, sends_up, asks_bytes, arrived, drain_up, takes_bytes, drain_down, resumes_bytes, happens_bytes, run_bytes};
+ghost use Rattle.mqtt5_streams.specs.ByteWorld.{start_bytes, with_bytes, reply_bytes, sends_up, asks_bytes, arrived, drain_up, takes_bytes, drain_down, resumes_bytes, happens_bytes, run_bytes};
 ghost use Rattle.mqtt5_streams.specs.Does.{Does};
 
 use crate::event::ByteEvent;
 use crate::way::Way;
 use mqtt5_base::{Error, copied};
 use mqtt5_codec::{Codec, Packet};
-use mqtt5_flow::Publish;
+use mqtt5_publish::Publish;
 use mqtt5_session::{MqttState, Request, StateError};
 use mqtt5_world::{Broker, Report, taken_back};
 use std::alloc::Global;
@@ -29,15 +29,15 @@ pub struct ByteWorld {
 
 impl Model for ByteWorld {
     ghost use Rattle.std.specs.Coded.{codes};
-    ghost use Rattle.mqtt5_flow.specs.contracts.publish.Publish as publish;
-    ghost use Rattle.mqtt5_held.specs.contracts.error.StateError as error;
-    ghost use Rattle.mqtt5_held.specs.Codes.{coded_held, coded_aliases, coded_incoming};
-    ghost use Rattle.mqtt5_held.specs.contracts.event.Event as event;
+    ghost use Rattle.mqtt5_publish.specs.contracts.publish.Publish as publish;
+    ghost use Rattle.mqtt5_inflight.specs.contracts.error.StateError as error;
+    ghost use Rattle.mqtt5_inflight.specs.Codes.{coded_in_use, coded_aliases, coded_incoming};
+    ghost use Rattle.mqtt5_inflight.specs.contracts.event.Event as event;
     ghost use Rattle.mqtt5_streams.specs.ByteWorld as model;
 
     ghost Value = { model.ByteWorld };
 
-    ghost coded = { Prim.hlevel (codes, coded_held, coded_aliases, coded_incoming, event.the_row.coded, error.the_row.coded, publish.the_row.coded) };
+    ghost coded = { Prim.hlevel (codes, coded_in_use, coded_aliases, coded_incoming, event.the_row.coded, error.the_row.coded, publish.the_row.coded) };
 
     ghost view = { λ a. record {
       session = a.state;
@@ -101,14 +101,14 @@ impl ByteWorld {
         ensures { Does result (happens_bytes codec.now self.old event.now) self.new }
     {
         match event {
-            ByteEvent::Publish(publish) => self.ask(codec, publish),
+            ByteEvent::Publish(publish) => self.send_request(codec, publish),
             ByteEvent::Up(n) => self.go_up(alloc, *n),
             ByteEvent::Down(n) => self.come_down(alloc, codec, *n),
             ByteEvent::Loss(receive_max) => self.lose(alloc, codec, *receive_max),
         }
     }
 
-    fn ask(&mut self, codec: &Codec, publish: &Publish) -> Result<(), StateError>
+    fn send_request(&mut self, codec: &Codec, publish: &Publish) -> Result<(), StateError>
         ensures { Does result (asks_bytes codec.now self.old publish.now) self.new }
     {
         let asked = copied(publish)?;
@@ -139,14 +139,17 @@ impl ByteWorld {
         publish: Publish,
         reply: &Option<Packet>,
     ) -> Result<(), StateError>
-        ensures { Does result (sends_up (record self.old { accepted = self.old.accepted ++ publish ∷ [] }) (reply_bytes codec.now.max_outgoing_size reply.now)) self.new }
+        ensures { Does result
+            (sends_up (record self.old { accepted = self.old.accepted ++ publish ∷ [] })
+            (reply_bytes codec.now.max_outgoing_size reply.now)) self.new }
     {
         self.accepted.push(publish)?;
         self.up.reply(codec.max_outgoing_size, reply)
     }
 
     fn refuse(&mut self, publish: Publish, error: StateError) -> Result<(), StateError>
-        ensures ok { OnOk result (self.new ≡ record self.old { refused = self.old.refused ++ (publish, error) ∷ [] }) }
+        ensures ok { OnOk result
+            (self.new ≡ record self.old { refused = self.old.refused ++ (publish, error) ∷ [] }) }
         ensures err { IfErr result (λ e. e ≡ StateError.OutOfMemory) }
     {
         self.refused.push((publish, error))?;
@@ -154,7 +157,8 @@ impl ByteWorld {
     }
 
     fn go_up(&mut self, alloc: Global, n: usize) -> Result<(), StateError>
-        ensures { Does result (drain_up (record self.old { up = moved n self.old.up })) self.new }
+        ensures { Does result (drain_up (record self.old { up = with_bytes n self.old.up }))
+            self.new }
     {
         self.up.shift(n)?;
         self.drain_up(alloc)
@@ -172,8 +176,11 @@ impl ByteWorld {
 
     fn next_up(&mut self, alloc: Global) -> Result<Option<Packet>, Error>
         ensures decodes { Decodes result None self.old.up.buffer self.new.up.buffer }
-        ensures read { self.new ≡ record self.old { up = record { buffer = self.new.up.buffer; stream = self.old.up.stream } } }
-        ensures shorter { IfOk result (λ m. IfSome m (λ _. length self.new.up.buffer < length self.old.up.buffer)) }
+        ensures read { self.new
+            ≡ record self.old
+            { up = record { buffer = self.new.up.buffer; stream = self.old.up.stream } } }
+        ensures shorter { IfOk result
+            (λ m. IfSome m (λ _. length self.new.up.buffer < length self.old.up.buffer)) }
     {
         self.up.next(alloc, None)
     }
@@ -193,7 +200,9 @@ impl ByteWorld {
     }
 
     fn come_down(&mut self, alloc: Global, codec: &Codec, n: usize) -> Result<(), StateError>
-        ensures { Does result (drain_down codec.now (record self.old { down = moved n self.old.down })) self.new }
+        ensures { Does result
+            (drain_down codec.now (record self.old { down = with_bytes n self.old.down }))
+            self.new }
     {
         self.down.shift(n)?;
         self.drain_down(alloc, codec)
@@ -210,9 +219,13 @@ impl ByteWorld {
     }
 
     fn next_down(&mut self, alloc: Global, codec: &Codec) -> Result<Option<Packet>, Error>
-        ensures decodes { Decodes result codec.now.max_incoming_size self.old.down.buffer self.new.down.buffer }
-        ensures read { self.new ≡ record self.old { down = record { buffer = self.new.down.buffer; stream = self.old.down.stream } } }
-        ensures shorter { IfOk result (λ m. IfSome m (λ _. length self.new.down.buffer < length self.old.down.buffer)) }
+        ensures decodes { Decodes result codec.now.max_incoming_size self.old.down.buffer
+            self.new.down.buffer }
+        ensures read { self.new
+            ≡ record self.old
+            { down = record { buffer = self.new.down.buffer; stream = self.old.down.stream } } }
+        ensures shorter { IfOk result
+            (λ m. IfSome m (λ _. length self.new.down.buffer < length self.old.down.buffer)) }
     {
         self.down.next(alloc, codec.max_incoming_size)
     }
@@ -233,7 +246,8 @@ impl ByteWorld {
         codec: &Codec,
         receive_max: Option<u16>,
     ) -> Result<(), StateError>
-        ensures { Does result (happens_bytes codec.now self.old (events.Loss receive_max)) self.new }
+        ensures { Does result (happens_bytes codec.now self.old (events.Loss receive_max))
+            self.new }
     {
         self.up.clear();
         self.down.clear();

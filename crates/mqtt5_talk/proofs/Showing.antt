@@ -2,10 +2,10 @@
 use Rattle.std.proofs.Common.{◌≡◌, ℕ, ◌+◌, Bool, List, [], ◌∷◌, ◌++◌, refl, sym, ap, subst, ◌∙◌, append_assoc, append-nil, add-one, ◌<◌, take, get_or, length, Result, Ok, Err, IfOk}
 use Rattle.std.specs.Prelude.{Option}
 use Rattle.std.proofs.Math.Seq.{take-suc}
-use Rattle.mqtt5_flow.specs.declared.publish.Publish.{Publish}
+use Rattle.mqtt5_publish.specs.declared.publish.Publish.{Publish}
 use Rattle.mqtt5_pipe.specs.declared.pipe.Pipe.{Pipe}
-use Rattle.mqtt5_talk.specs.declared.trouble.Trouble.{Trouble}
-use Rattle.mqtt5_talk.specs.Talks.{Saying, Told, Talked}
+use Rattle.mqtt5_talk.specs.declared.error.TalkError.{TalkError}
+use Rattle.mqtt5_talk.specs.Conversation.{Saying, SendsOnly, Talked}
 use Rattle.mqtt5_talk.proofs.Talking.{then_told, then_talked, as_talked}
 use Rattle.mqtt5_talk.specs.Answers.{ack_of, acks_of, ShowsAll, Showed}
 use Rattle.mqtt5_talk.specs.Shown.{shown_byte, escaped}
@@ -38,15 +38,15 @@ escaped_more is_text old line new bytes i below so_far grown =
 
 -- one message, or none, and its ack
 module _ (x y : Option (List ℕ)) (p q : Pipe) where
-  pub one_acked : (m : Publish) → Told x y p (ack_of m) q → Told x y p (acks_of (m ∷ [])) q
-  one_acked m t = subst (λ (said : List Saying). Told x y p said q) (sym (append-nil (ack_of m))) t
+  pub one_acked : (m : Publish) → SendsOnly x y p (ack_of m) q → SendsOnly x y p (acks_of (m ∷ [])) q
+  one_acked m t = subst (λ (said : List Saying). SendsOnly x y p said q) (sym (append-nil (ack_of m))) t
 
 module _ (x y z : Option (List ℕ)) (p q r : Pipe) (ps qs : List Publish) where
-  pub more_told : Told x y p (acks_of ps) q → Told y z q (acks_of qs) r → Told x z p (acks_of (ps ++ qs)) r
-  more_told t u = subst (λ (said : List Saying). Told x z p said r) (sym (acks_append ps qs)) (then_told x y z p q r (acks_of ps) (acks_of qs) t u)
+  pub more_told : SendsOnly x y p (acks_of ps) q → SendsOnly y z q (acks_of qs) r → SendsOnly x z p (acks_of (ps ++ qs)) r
+  more_told t u = subst (λ (said : List Saying). SendsOnly x z p said r) (sym (acks_append ps qs)) (then_told x y z p q r (acks_of ps) (acks_of qs) t u)
 
 module _ (a b : Option (List ℕ)) (x y z : Option (List ℕ)) (p q r : Pipe) (ps qs : List Publish) where
-  pub more_talked : Talked a b x y p (acks_of ps) q → Told y z q (acks_of qs) r → Talked a b x z p (acks_of (ps ++ qs)) r
+  pub more_talked : Talked a b x y p (acks_of ps) q → SendsOnly y z q (acks_of qs) r → Talked a b x z p (acks_of (ps ++ qs)) r
   more_talked t u = subst (λ (said : List Saying). Talked a b x z p said r) (sym (acks_append ps qs)) (then_talked a b b x y z p q r (acks_of ps) (acks_of qs) t (as_talked b y z q r (acks_of qs) u))
 
 module _ (a b c : Option (List ℕ)) (x y z : Option (List ℕ)) (p q r : Pipe) (ps : List Publish) where
@@ -54,6 +54,6 @@ module _ (a b c : Option (List ℕ)) (x y z : Option (List ℕ)) (p q r : Pipe) 
   silence_talked t u = subst (λ (said : List Saying). Talked a c x z p said r) (append-nil (acks_of ps)) (then_talked a b c x y z p q r (acks_of ps) [] t u)
 
 -- where nothing was shown
-pub shows_none : {S : Type 0} (shows : S → Publish → S → Type 0) (s : S) (r : Result ℕ Trouble) → IfOk r (λ n. n ≡ 0) → IfOk r (λ n. ShowsAll shows s [] s × (0 ≡ n))
+pub shows_none : {S : Type 0} (shows : S → Publish → S → Type 0) (s : S) (r : Result ℕ TalkError) → IfOk r (λ n. n ≡ 0) → IfOk r (λ n. ShowsAll shows s [] s × (0 ≡ n))
 shows_none shows s (Ok n) e = (refl, sym e)
 shows_none shows s (Err trouble) e = tt

@@ -2,18 +2,18 @@
 use Rattle.std.specs.Prelude.{◌≡◌, ℕ, List, [], ◌∷◌, ◌++◌, Option, Some, None, ⊤}
 use Rattle.mqtt5_base.specs.declared.quality.QoS.{QoS}
 use Rattle.mqtt5_base.specs.declared.quality.QoS.TheVariants as quality
-use Rattle.mqtt5_flow.specs.declared.publish.Publish.{Publish}
-use Rattle.mqtt5_flow.specs.declared.puback.PubAckReason.{PubAckReason}
-use Rattle.mqtt5_flow.specs.declared.puback.PubAckReason.TheVariants as reasons
-use Rattle.mqtt5_link.specs.declared.connack.ConnAck.{ConnAck}
+use Rattle.mqtt5_publish.specs.declared.publish.Publish.{Publish}
+use Rattle.mqtt5_publish.specs.declared.puback.PubAckReason.{PubAckReason}
+use Rattle.mqtt5_publish.specs.declared.puback.PubAckReason.TheVariants as reasons
+use Rattle.mqtt5_control.specs.declared.connack.ConnAck.{ConnAck}
 use Rattle.mqtt5_codec.specs.declared.packet.Packet.TheVariants as packets
-use Rattle.mqtt5_held.specs.declared.event.Event.{Event}
-use Rattle.mqtt5_held.specs.declared.event.Event.TheVariants as events
-use Rattle.mqtt5_held.specs.declared.event.Request.TheVariants as requests
-use Rattle.mqtt5_held.specs.declared.event.Request.{Request}
-use Rattle.mqtt5_subs.specs.declared.suback.SubscribeReasonCode.{SubscribeReasonCode}
-use Rattle.mqtt5_subs.specs.declared.suback.SubscribeReasonCode.TheVariants as subscribes
-use Rattle.mqtt5_talk.specs.Talks.{Saying, Asks}
+use Rattle.mqtt5_inflight.specs.declared.event.Event.{Event}
+use Rattle.mqtt5_inflight.specs.declared.event.Event.TheVariants as events
+use Rattle.mqtt5_inflight.specs.declared.event.Request.TheVariants as requests
+use Rattle.mqtt5_inflight.specs.declared.event.Request.{Request}
+use Rattle.mqtt5_subscribe.specs.declared.suback.SubscribeReasonCode.{SubscribeReasonCode}
+use Rattle.mqtt5_subscribe.specs.declared.suback.SubscribeReasonCode.TheVariants as subscribes
+use Rattle.mqtt5_talk.specs.Conversation.{Saying, Asks}
 
 -- the first event is a ConnAck (MQTT 5.0 section 3.2)
 abbrev pub IsAnswered : List Event → Type 0

@@ -1,5 +1,5 @@
-pub mod Troubles
-pub mod Talks
+pub mod TalkErrors
+pub mod Conversation
 pub mod Answers
 pub mod Shown
 pub mod Connects

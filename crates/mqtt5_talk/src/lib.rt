@@ -2,18 +2,18 @@
 //! what comes. It has no clock, so its keep alive is 0.
 #![tactic(auto)]
 
+mod error;
 mod opening;
 mod program;
 mod publishing;
 mod show;
 mod subscribing;
-mod trouble;
 mod words;
 
+pub use error::TalkError;
 pub use opening::{close, open};
 pub use program::{new_pipe, refuse, refuse_words, tell};
 pub use publishing::publish;
 pub use show::{Lines, Raw, Screen};
 pub use subscribing::{receive, subscribe};
-pub use trouble::Trouble;
 pub use words::{connect_of, connection_options, quality_of};

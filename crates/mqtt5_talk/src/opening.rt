@@ -1,16 +1,16 @@
 //! How a connection is opened and ended.
 
 ghost use Rattle.std.specs.Prelude.{◌≡◌, ◌⊎◌, List, [], ◌∷◌, OnOk, Ok, true};
-ghost use Rattle.mqtt5_held.specs.declared.event.Request.TheVariants.{Disconnect};
+ghost use Rattle.mqtt5_inflight.specs.declared.event.Request.TheVariants.{Disconnect};
 ghost use Rattle.mqtt5_drive.specs.Limit.{allowed};
 ghost use Rattle.mqtt5_pipe.specs.Pipe.{IsReady};
 ghost use Rattle.mqtt5_talk.specs.Answers.{IsAnswered};
-ghost use Rattle.mqtt5_talk.specs.Talks.{Saying, Opens, Asks, asked, heard, Talked, Told};
+ghost use Rattle.mqtt5_talk.specs.Conversation.{Saying, Opens, Asks, sayings_in, bytes_in, Talked, SendsOnly};
 
-use crate::trouble::Trouble;
+use crate::error::TalkError;
 use mqtt5_codec::Packet;
 use mqtt5_drive::{Input, Step, take_limit};
-use mqtt5_pipe::{Fault, Pipe};
+use mqtt5_pipe::{Pipe, PipeError};
 use mqtt5_session::{Event, MqttState, Request};
 use std::io::{ErrorKind, Read, Write};
 
@@ -22,11 +22,13 @@ pub fn open<R: Read, W: Write>(
     connect: &Packet,
     reader: &mut R,
     writer: &mut W,
-) -> Result<(), Trouble>
+) -> Result<(), TalkError>
     requires ready { IsReady pipe.old }
     // Nothing is said but the Connect.
-    ensures talked { (said : List Saying) × Talked (R.remaining reader.old) (R.remaining reader.new) (W.contents writer.old) (W.contents writer.new) pipe.old said pipe.new
-        × ((said ≡ []) ⊎ (said ≡ Opens connect.now ∷ [])) × OnOk result (said ≡ Opens connect.now ∷ []) }
+    ensures talked { (said : List Saying) × Talked (R.remaining reader.old) (R.remaining reader.new)
+        (W.contents writer.old) (W.contents writer.new) pipe.old said pipe.new
+        × ((said ≡ []) ⊎ (said ≡ Opens connect.now ∷ []))
+        × OnOk result (said ≡ Opens connect.now ∷ []) }
     ensures answered { OnOk result (IsAnswered pipe.new.state.events) }
     ensures limit { OnOk result (pipe.new.codec ≡ allowed pipe.new.state.events pipe.old.codec) }
     // So another call may follow.
@@ -46,9 +48,14 @@ fn limit_output(pipe: &mut Pipe)
 }
 
 /// Writes what is in the output, and takes turns until the ConnAck.
-fn start<R: Read, W: Write>(pipe: &mut Pipe, reader: &mut R, writer: &mut W) -> Result<(), Trouble>
+fn start<R: Read, W: Write>(
+    pipe: &mut Pipe,
+    reader: &mut R,
+    writer: &mut W,
+) -> Result<(), TalkError>
     requires ready { IsReady pipe.old }
-    ensures talked { Talked (R.remaining reader.old) (R.remaining reader.new) (W.contents writer.old) (W.contents writer.new) pipe.old [] pipe.new }
+    ensures talked { Talked (R.remaining reader.old) (R.remaining reader.new)
+        (W.contents writer.old) (W.contents writer.new) pipe.old [] pipe.new }
     ensures answered { OnOk result (IsAnswered pipe.new.state.events) }
     ensures codec { pipe.new.codec ≡ pipe.old.codec }
     ensures ready { OnOk result (IsReady pipe.new) }
@@ -62,9 +69,10 @@ fn await_answer<R: Read, W: Write>(
     pipe: &mut Pipe,
     reader: &mut R,
     writer: &mut W,
-) -> Result<(), Trouble>
+) -> Result<(), TalkError>
     requires ready { IsReady pipe.old }
-    ensures talked { Talked (R.remaining reader.old) (R.remaining reader.new) (W.contents writer.old) (W.contents writer.new) pipe.old [] pipe.new }
+    ensures talked { Talked (R.remaining reader.old) (R.remaining reader.new)
+        (W.contents writer.old) (W.contents writer.new) pipe.old [] pipe.new }
     ensures answered { OnOk result (IsAnswered pipe.new.state.events) }
     ensures codec { pipe.new.codec ≡ pipe.old.codec }
     ensures ready { OnOk result (IsReady pipe.new) }
@@ -79,19 +87,19 @@ fn await_answer<R: Read, W: Write>(
 }
 
 /// Whether the ConnAck came.
-fn is_answered(state: &MqttState) -> Result<bool, Trouble>
+fn is_answered(state: &MqttState) -> Result<bool, TalkError>
     ensures { result ≡ Ok true → IsAnswered state.now.events }
 {
     match state.events().front() {
         None => Ok(false),
         Some(Event::Incoming(Packet::ConnAck(_ack))) => Ok(true),
-        Some(_other) => Err(Trouble::OutOfTurn),
+        Some(_other) => Err(TalkError::OutOfTurn),
     }
 }
 
 /// After 2^64 - 1 turns.
-pub(crate) fn endless() -> Trouble {
-    Trouble::Failed(Fault::Read(ErrorKind::TimedOut.into()))
+pub(crate) fn endless() -> TalkError {
+    TalkError::Failed(PipeError::Read(ErrorKind::TimedOut.into()))
 }
 
 /// Takes a turn; `Closed` at the end of the stream.
@@ -99,29 +107,36 @@ pub(crate) fn hear<R: Read, W: Write>(
     pipe: &mut Pipe,
     reader: &mut R,
     writer: &mut W,
-) -> Result<(), Trouble>
+) -> Result<(), TalkError>
     requires ready { IsReady pipe.old }
-    ensures talked { Talked (R.remaining reader.old) (R.remaining reader.new) (W.contents writer.old) (W.contents writer.new) pipe.old [] pipe.new }
+    ensures talked { Talked (R.remaining reader.old) (R.remaining reader.new)
+        (W.contents writer.old) (W.contents writer.new) pipe.old [] pipe.new }
     ensures codec { pipe.new.codec ≡ pipe.old.codec }
     ensures ready { OnOk result (IsReady pipe.new) }
 {
     match pipe.turn(0, reader, writer) {
-        Ok(0) => Err(Trouble::Closed),
+        Ok(0) => Err(TalkError::Closed),
         Ok(_count) => Ok(()),
-        Err(fault) => Err(Trouble::from(fault)),
+        Err(fault) => Err(TalkError::from(fault)),
     }
 }
 
 /// Takes steps.
-pub(crate) fn say<W: Write>(pipe: &mut Pipe, steps: &[Step], writer: &mut W) -> Result<(), Trouble>
+pub(crate) fn say<W: Write>(
+    pipe: &mut Pipe,
+    steps: &[Step],
+    writer: &mut W,
+) -> Result<(), TalkError>
     requires ready { IsReady pipe.old }
-    ensures told { heard steps.now ≡ [] → Told (W.contents writer.old) (W.contents writer.new) pipe.old (asked steps.now) pipe.new }
+    ensures told { bytes_in steps.now ≡ []
+        → SendsOnly (W.contents writer.old) (W.contents writer.new) pipe.old
+        (sayings_in steps.now) pipe.new }
     ensures codec { pipe.new.codec ≡ pipe.old.codec }
     ensures ready { OnOk result (IsReady pipe.new) }
 {
     match pipe.take_steps(steps, writer) {
         Ok(()) => Ok(()),
-        Err(fault) => Err(Trouble::from(fault)),
+        Err(fault) => Err(TalkError::from(fault)),
     }
 }
 
@@ -130,9 +145,10 @@ pub(crate) fn ask<W: Write>(
     pipe: &mut Pipe,
     request: Request,
     writer: &mut W,
-) -> Result<(), Trouble>
+) -> Result<(), TalkError>
     requires ready { IsReady pipe.old }
-    ensures told { Told (W.contents writer.old) (W.contents writer.new) pipe.old (Asks request ∷ []) pipe.new }
+    ensures told { SendsOnly (W.contents writer.old) (W.contents writer.new) pipe.old
+        (Asks request ∷ []) pipe.new }
     ensures ready { OnOk result (IsReady pipe.new) }
 {
     let steps = [Step {
@@ -143,10 +159,11 @@ pub(crate) fn ask<W: Write>(
 }
 
 /// Ends the connection by a Disconnect: the broker then forgets the will. `Failed`, as of a call of the pipe.
-pub fn close<W: Write>(pipe: &mut Pipe, writer: &mut W) -> Result<(), Trouble>
+pub fn close<W: Write>(pipe: &mut Pipe, writer: &mut W) -> Result<(), TalkError>
     requires ready { IsReady pipe.old }
     // Nothing is said but the Disconnect.
-    ensures told { Told (W.contents writer.old) (W.contents writer.new) pipe.old (Asks Disconnect ∷ []) pipe.new }
+    ensures told { SendsOnly (W.contents writer.old) (W.contents writer.new) pipe.old
+        (Asks Disconnect ∷ []) pipe.new }
     // So another call may follow.
     ensures ready { OnOk result (IsReady pipe.new) }
 {

@@ -4,7 +4,7 @@ ghost use Rattle.std.specs.Prelude.{◌≡◌, ◌⊎◌, [], cond, is_ok};
 ghost use Rattle.mqtt5_pipe.specs.Pipe.{IsReady};
 ghost use Rattle.mqtt5_session.specs.Session.{fresh};
 
-use crate::trouble::Trouble;
+use crate::error::TalkError;
 use mqtt5_codec::Codec;
 use mqtt5_pipe::Pipe;
 use mqtt5_session::MqttState;
@@ -47,7 +47,7 @@ pub fn refuse_words<E: Write>(error: &io::Error, log: &mut E) -> u8
 }
 
 /// Tells the log why a talk stopped, and answers the exit status: 0 where it is done, 1 after a fault.
-pub fn tell<E: Write>(ended: Result<(), Trouble>, log: &mut E) -> u8
+pub fn tell<E: Write>(ended: Result<(), TalkError>, log: &mut E) -> u8
     ensures { result ≡ cond (is_ok ended) 0 1 }
 {
     match ended {

@@ -2,16 +2,16 @@
 
 ghost use Rattle.std.specs.Prelude.{◌≡◌, [], ◌∷◌, OnOk};
 ghost use Rattle.std.specs.FinMap as map;
-ghost use Rattle.mqtt5_held.specs.declared.event.Request.TheVariants.{Publish as OfPublish};
+ghost use Rattle.mqtt5_inflight.specs.declared.event.Request.TheVariants.{Publish as OfPublish};
 ghost use Rattle.mqtt5_pipe.specs.Pipe.{IsReady};
-ghost use Rattle.mqtt5_talk.specs.Talks.{Asks, Talks, Talked};
+ghost use Rattle.mqtt5_talk.specs.Conversation.{Asks, Conversation, Talked};
 ghost use Rattle.mqtt5_talk.specs.Answers.{refusal_in, refusal_by};
 
+use crate::error::TalkError;
 use crate::opening::{ask, endless, hear};
-use crate::trouble::Trouble;
 use mqtt5_codec::Packet;
-use mqtt5_flow::{PubAckReason, Publish};
 use mqtt5_pipe::Pipe;
+use mqtt5_publish::{PubAckReason, Publish};
 use mqtt5_session::{Event, Request};
 use std::io::{Read, Write};
 
@@ -23,10 +23,12 @@ pub fn publish<R: Read, W: Write>(
     message: Publish,
     reader: &mut R,
     writer: &mut W,
-) -> Result<(), Trouble>
+) -> Result<(), TalkError>
     requires ready { IsReady pipe.old }
     // Nothing is said but the message.
-    ensures talked { Talked (R.remaining reader.old) (R.remaining reader.new) (W.contents writer.old) (W.contents writer.new) pipe.old (Asks (OfPublish message) ∷ []) pipe.new }
+    ensures talked { Talked (R.remaining reader.old) (R.remaining reader.new)
+        (W.contents writer.old) (W.contents writer.new) pipe.old
+        (Asks (OfPublish message) ∷ []) pipe.new }
     // Nothing awaits an ack.
     ensures delivered { OnOk result (map.len pipe.new.state.core.held ≡ 0) }
     // So another call may follow.
@@ -41,9 +43,10 @@ fn await_acks<R: Read, W: Write>(
     pipe: &mut Pipe,
     reader: &mut R,
     writer: &mut W,
-) -> Result<(), Trouble>
+) -> Result<(), TalkError>
     requires ready { IsReady pipe.old }
-    ensures talked { Talked (R.remaining reader.old) (R.remaining reader.new) (W.contents writer.old) (W.contents writer.new) pipe.old [] pipe.new }
+    ensures talked { Talked (R.remaining reader.old) (R.remaining reader.new)
+        (W.contents writer.old) (W.contents writer.new) pipe.old [] pipe.new }
     ensures delivered { OnOk result (map.len pipe.new.state.core.held ≡ 0) }
     ensures ready { OnOk result (IsReady pipe.new) }
 {
@@ -61,21 +64,22 @@ fn hear_acks<R: Read, W: Write>(
     pipe: &mut Pipe,
     reader: &mut R,
     writer: &mut W,
-) -> Result<(), Trouble>
+) -> Result<(), TalkError>
     requires ready { IsReady pipe.old }
-    ensures talked { Talked (R.remaining reader.old) (R.remaining reader.new) (W.contents writer.old) (W.contents writer.new) pipe.old [] pipe.new }
+    ensures talked { Talked (R.remaining reader.old) (R.remaining reader.new)
+        (W.contents writer.old) (W.contents writer.new) pipe.old [] pipe.new }
     ensures ready { OnOk result (IsReady pipe.new) }
 {
     let heard = hear(pipe, reader, writer);
     match take_refusal(pipe) {
-        Some(reason) => Err(Trouble::NotPublished(reason)),
+        Some(reason) => Err(TalkError::NotPublished(reason)),
         None => heard,
     }
 }
 
 /// Takes all events out, and answers the first refusal among them.
 fn take_refusal(pipe: &mut Pipe) -> Option<PubAckReason>
-    ensures talks { Talks pipe.old [] [] [] pipe.new }
+    ensures talks { Conversation pipe.old [] [] [] pipe.new }
     ensures ready { IsReady pipe.old → IsReady pipe.new }
 {
     let mut refusal = None;
@@ -90,7 +94,7 @@ fn take_refusal(pipe: &mut Pipe) -> Option<PubAckReason>
 
 /// Takes the oldest event out, and answers its refusal.
 fn next_refusal(pipe: &mut Pipe) -> Option<PubAckReason>
-    ensures talks { Talks pipe.old [] [] [] pipe.new }
+    ensures talks { Conversation pipe.old [] [] [] pipe.new }
     ensures ready { IsReady pipe.old → IsReady pipe.new }
 {
     match pipe.state.pop_event() {

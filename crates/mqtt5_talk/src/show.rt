@@ -4,19 +4,19 @@ ghost use Rattle.std.specs.Prelude.{◌≡◌, ◌++◌, ◌<◌, Bool, List, �
 ghost use Rattle.std.specs.Io.KnownBytes.{Appends};
 ghost use Rattle.mqtt5_talk.specs.Shown.{digit, is_plain, shown_byte, escaped, IsLine, raw};
 
-use crate::trouble::Trouble;
-use mqtt5_flow::Publish;
+use crate::error::TalkError;
+use mqtt5_publish::Publish;
 use std::alloc::{AllocError, Global};
 use std::io::Write;
 
 /// Where messages are shown.
 pub trait Screen {
-    ghost use Rattle.mqtt5_flow.specs.declared.publish.Publish.{Publish as Message};
+    ghost use Rattle.mqtt5_publish.specs.declared.publish.Publish.{Publish as Message};
 
     ghost shows: { Self → Message → Self → Type 0 };
 
     /// Shows a message. `Unshown` where that fails, and want of memory.
-    fn show(&mut self, publish: &Publish) -> Result<(), Trouble>
+    fn show(&mut self, publish: &Publish) -> Result<(), TalkError>
         ensures { OnOk result (shows self.old publish.now self.new) };
 }
 
@@ -33,7 +33,7 @@ pub struct Lines<W> {
 impl<W: Write> Screen for Lines<W> {
     ghost shows = { λ old p new. (line : List ℕ) × IsLine old.with_topic p line × Appends (W.contents old.writer) (W.contents new.writer) line };
 
-    fn show(&mut self, publish: &Publish) -> Result<(), Trouble> {
+    fn show(&mut self, publish: &Publish) -> Result<(), TalkError> {
         let line = line_of(self.alloc, self.with_topic, publish)?;
         write(&mut self.writer, line.as_slice())
     }
@@ -53,18 +53,18 @@ pub struct Raw<W> {
 impl<W: Write> Screen for Raw<W> {
     ghost shows = { λ old p new. Appends (W.contents old.writer) (W.contents new.writer) (raw old.with_topic old.with_newline p) };
 
-    fn show(&mut self, publish: &Publish) -> Result<(), Trouble> {
+    fn show(&mut self, publish: &Publish) -> Result<(), TalkError> {
         let bytes = raw_of(self.alloc, self.with_topic, self.with_newline, publish)?;
         write(&mut self.writer, bytes.as_slice())
     }
 }
 
-fn write<W: Write>(writer: &mut W, bytes: &[u8]) -> Result<(), Trouble>
+fn write<W: Write>(writer: &mut W, bytes: &[u8]) -> Result<(), TalkError>
     ensures { OnOk result (Appends (W.contents writer.old) (W.contents writer.new) bytes.now) }
 {
     match writer.write_all(bytes) {
         Ok(()) => Ok(()),
-        Err(error) => Err(Trouble::Unshown(error)),
+        Err(error) => Err(TalkError::Unshown(error)),
     }
 }
 
@@ -103,7 +103,8 @@ fn line_of(alloc: Global, with_topic: bool, publish: &Publish) -> Result<Vec<u8>
 
 /// Adds the bytes as they are shown.
 fn escape(line: &mut Vec<u8>, bytes: &[u8]) -> Result<(), AllocError>
-    ensures { OnOk result ((is_text : Bool) × (line.new.items ≡ line.old.items ++ escaped is_text bytes.now)) }
+    ensures { OnOk result ((is_text : Bool)
+        × (line.new.items ≡ line.old.items ++ escaped is_text bytes.now)) }
 {
     let is_text = is_text(bytes);
     for byte in bytes {

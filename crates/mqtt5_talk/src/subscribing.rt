@@ -2,21 +2,21 @@
 
 ghost use Rattle.std.specs.Prelude.{◌≡◌, ◌+◌, ◌≤◌, List, [], ◌∷◌, length, OnOk, IfOk};
 ghost use Rattle.std.specs.Bool.{Decides};
-ghost use Rattle.mqtt5_flow.specs.declared.publish.Publish.{Publish as Message};
-ghost use Rattle.mqtt5_held.specs.declared.event.Request.TheVariants.{Subscribe as OfSubscribe};
+ghost use Rattle.mqtt5_publish.specs.declared.publish.Publish.{Publish as Message};
+ghost use Rattle.mqtt5_inflight.specs.declared.event.Request.TheVariants.{Subscribe as OfSubscribe};
 ghost use Rattle.mqtt5_pipe.specs.Pipe.{IsReady};
-ghost use Rattle.mqtt5_talk.specs.Talks.{Asks, Talked, Told};
+ghost use Rattle.mqtt5_talk.specs.Conversation.{Asks, Talked, SendsOnly};
 ghost use Rattle.mqtt5_talk.specs.Answers.{ack_of, acks_of, asked_by, ShowsAll, Showed, IsSuccess};
 
+use crate::error::TalkError;
 use crate::opening::{ask, endless, hear};
 use crate::show::Screen;
-use crate::trouble::Trouble;
 use mqtt5_base::QoS;
 use mqtt5_codec::Packet;
-use mqtt5_flow::{PubAck, PubRec, Publish};
 use mqtt5_pipe::Pipe;
+use mqtt5_publish::{PubAck, PubRec, Publish};
 use mqtt5_session::{Event, Request};
-use mqtt5_subs::{SubAck, Subscribe, SubscribeReasonCode};
+use mqtt5_subscribe::{SubAck, Subscribe, SubscribeReasonCode};
 use std::io::{Read, Write};
 
 /// Sends a Subscribe. Its SubAck is judged by `receive`. `Failed`, as of a call of the pipe.
@@ -24,10 +24,11 @@ pub fn subscribe<W: Write>(
     pipe: &mut Pipe,
     subscribe: Subscribe,
     writer: &mut W,
-) -> Result<(), Trouble>
+) -> Result<(), TalkError>
     requires ready { IsReady pipe.old }
     // Nothing is said but the Subscribe.
-    ensures told { Told (W.contents writer.old) (W.contents writer.new) pipe.old (Asks (OfSubscribe subscribe) ∷ []) pipe.new }
+    ensures told { SendsOnly (W.contents writer.old) (W.contents writer.new) pipe.old
+        (Asks (OfSubscribe subscribe) ∷ []) pipe.new }
     // So another call may follow.
     ensures ready { OnOk result (IsReady pipe.new) }
 {
@@ -43,11 +44,13 @@ pub fn receive<R: Read, W: Write, S: Screen>(
     count: u64,
     reader: &mut R,
     writer: &mut W,
-) -> Result<(), Trouble>
+) -> Result<(), TalkError>
     requires ready { IsReady pipe.old }
     // Nothing is said but the acks of messages that were shown; in the end those are all that were, and so many.
-    ensures talked { (ps : List Message) × Talked (R.remaining reader.old) (R.remaining reader.new) (W.contents writer.old) (W.contents writer.new) pipe.old (acks_of ps) pipe.new
-        × Showed S.shows screen.old ps × OnOk result (ShowsAll S.shows screen.old ps screen.new × (length ps ≡ count)) }
+    ensures talked { (ps : List Message) × Talked (R.remaining reader.old) (R.remaining reader.new)
+        (W.contents writer.old) (W.contents writer.new) pipe.old (acks_of ps) pipe.new
+        × Showed S.shows screen.old ps
+        × OnOk result (ShowsAll S.shows screen.old ps screen.new × (length ps ≡ count)) }
     // So another call may follow.
     ensures ready { OnOk result (IsReady pipe.new) }
 {
@@ -69,9 +72,10 @@ fn hear_messages<R: Read, W: Write, S: Screen>(
     count: u64,
     reader: &mut R,
     writer: &mut W,
-) -> Result<(), Trouble>
+) -> Result<(), TalkError>
     requires ready { IsReady pipe.old }
-    ensures talked { Talked (R.remaining reader.old) (R.remaining reader.new) (W.contents writer.old) (W.contents writer.new) pipe.old [] pipe.new }
+    ensures talked { Talked (R.remaining reader.old) (R.remaining reader.new)
+        (W.contents writer.old) (W.contents writer.new) pipe.old [] pipe.new }
     ensures screen { OnOk result (screen.new ≡ screen.old) }
     ensures ready { OnOk result (IsReady pipe.new) }
 {
@@ -108,10 +112,13 @@ fn show_events<W: Write, S: Screen>(
     screen: &mut S,
     count: u64,
     writer: &mut W,
-) -> Result<u64, Trouble>
+) -> Result<u64, TalkError>
     requires ready { IsReady pipe.old }
-    ensures told { (ps : List Message) × Told (W.contents writer.old) (W.contents writer.new) pipe.old (acks_of ps) pipe.new
-        × Showed S.shows screen.old ps × IfOk result (λ left. ShowsAll S.shows screen.old ps screen.new × (length ps + left ≡ count)) }
+    ensures told { (ps : List Message) × SendsOnly (W.contents writer.old)
+        (W.contents writer.new) pipe.old (acks_of ps) pipe.new
+        × Showed S.shows screen.old ps
+        × IfOk result (λ left. ShowsAll S.shows screen.old ps screen.new
+        × (length ps + left ≡ count)) }
     ensures ready { OnOk result (IsReady pipe.new) }
 {
     let mut left = count;
@@ -129,10 +136,12 @@ fn take_first<W: Write, S: Screen>(
     pipe: &mut Pipe,
     screen: &mut S,
     writer: &mut W,
-) -> Result<u64, Trouble>
+) -> Result<u64, TalkError>
     requires ready { IsReady pipe.old }
-    ensures told { (ps : List Message) × Told (W.contents writer.old) (W.contents writer.new) pipe.old (acks_of ps) pipe.new
-        × Showed S.shows screen.old ps × IfOk result (λ shown. ShowsAll S.shows screen.old ps screen.new × (length ps ≡ shown)) }
+    ensures told { (ps : List Message) × SendsOnly (W.contents writer.old)
+        (W.contents writer.new) pipe.old (acks_of ps) pipe.new
+        × Showed S.shows screen.old ps
+        × IfOk result (λ shown. ShowsAll S.shows screen.old ps screen.new × (length ps ≡ shown)) }
     ensures most { IfOk result (λ shown. shown ≤ 1) }
     ensures ready { OnOk result (IsReady pipe.new) }
 {
@@ -151,10 +160,12 @@ fn take_event<W: Write, S: Screen>(
     event: &Event,
     screen: &mut S,
     writer: &mut W,
-) -> Result<u64, Trouble>
+) -> Result<u64, TalkError>
     requires ready { IsReady pipe.old }
-    ensures told { (ps : List Message) × Told (W.contents writer.old) (W.contents writer.new) pipe.old (acks_of ps) pipe.new
-        × Showed S.shows screen.old ps × IfOk result (λ shown. ShowsAll S.shows screen.old ps screen.new × (length ps ≡ shown)) }
+    ensures told { (ps : List Message) × SendsOnly (W.contents writer.old)
+        (W.contents writer.new) pipe.old (acks_of ps) pipe.new
+        × Showed S.shows screen.old ps
+        × IfOk result (λ shown. ShowsAll S.shows screen.old ps screen.new × (length ps ≡ shown)) }
     ensures most { IfOk result (λ shown. shown ≤ 1) }
     ensures ready { OnOk result (IsReady pipe.new) }
 {
@@ -166,12 +177,12 @@ fn take_event<W: Write, S: Screen>(
 }
 
 /// 0 where each filter has its subscription.
-fn judge(ack: &SubAck) -> Result<u64, Trouble>
+fn judge(ack: &SubAck) -> Result<u64, TalkError>
     ensures { IfOk result (λ shown. shown ≡ 0) }
 {
     for code in ack.return_codes.as_slice() {
         if !is_success(*code) {
-            return Err(Trouble::NotSubscribed(*code));
+            return Err(TalkError::NotSubscribed(*code));
         }
     }
     Ok(0)
@@ -189,10 +200,12 @@ fn show<W: Write, S: Screen>(
     publish: &Publish,
     screen: &mut S,
     writer: &mut W,
-) -> Result<u64, Trouble>
+) -> Result<u64, TalkError>
     requires ready { IsReady pipe.old }
-    ensures told { (ps : List Message) × Told (W.contents writer.old) (W.contents writer.new) pipe.old (acks_of ps) pipe.new
-        × Showed S.shows screen.old ps × IfOk result (λ shown. ShowsAll S.shows screen.old ps screen.new × (length ps ≡ shown)) }
+    ensures told { (ps : List Message) × SendsOnly (W.contents writer.old)
+        (W.contents writer.new) pipe.old (acks_of ps) pipe.new
+        × Showed S.shows screen.old ps
+        × IfOk result (λ shown. ShowsAll S.shows screen.old ps screen.new × (length ps ≡ shown)) }
     ensures most { IfOk result (λ shown. shown ≤ 1) }
     ensures ready { OnOk result (IsReady pipe.new) }
 {
@@ -201,9 +214,14 @@ fn show<W: Write, S: Screen>(
     Ok(1)
 }
 
-fn acknowledge<W: Write>(pipe: &mut Pipe, publish: &Publish, writer: &mut W) -> Result<(), Trouble>
+fn acknowledge<W: Write>(
+    pipe: &mut Pipe,
+    publish: &Publish,
+    writer: &mut W,
+) -> Result<(), TalkError>
     requires ready { IsReady pipe.old }
-    ensures told { Told (W.contents writer.old) (W.contents writer.new) pipe.old (ack_of publish.now) pipe.new }
+    ensures told { SendsOnly (W.contents writer.old) (W.contents writer.new) pipe.old
+        (ack_of publish.now) pipe.new }
     ensures ready { OnOk result (IsReady pipe.new) }
 {
     match ack_for(publish) {

@@ -171,7 +171,8 @@ fn properties_of(alloc: Global, expiry: Option<u32>) -> Option<ConnectProperties
 }
 
 fn will_of(alloc: Global, matches: &ArgMatches<'_>) -> Result<Option<LastWill>, Error>
-    ensures { IfOk result (λ will. IsWill (found_of matches.now) (first_value (found_of matches.now) (codes "will-topic")) will) }
+    ensures { IfOk result (λ will. IsWill (found_of matches.now)
+        (first_value (found_of matches.now) (codes "will-topic")) will) }
 {
     let Some(topic) = matches.get_str("will-topic") else {
         return Ok(None);
@@ -184,7 +185,9 @@ fn will_of(alloc: Global, matches: &ArgMatches<'_>) -> Result<Option<LastWill>, 
 }
 
 fn login_of(alloc: Global, matches: &ArgMatches<'_>) -> Result<Option<Login>, Error>
-    ensures { IfOk result (λ login. login ≡ login_in (value_in (found_of matches.now) (codes "username")) (value_in (found_of matches.now) (codes "password"))) }
+    ensures { IfOk result
+        (λ login. login ≡ login_in (value_in (found_of matches.now) (codes "username"))
+        (value_in (found_of matches.now) (codes "password"))) }
 {
     let username = value_of(matches, "username");
     let password = value_of(matches, "password");

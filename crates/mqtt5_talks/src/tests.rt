@@ -14,7 +14,7 @@ mod words;
 
 use bytes::Bytes;
 use mqtt5_base::{Error, QoS};
-use mqtt5_flow::Publish;
+use mqtt5_publish::Publish;
 use std::alloc::{AllocError, Global};
 
 /// What stands before the first mark of a text, and what behind it.

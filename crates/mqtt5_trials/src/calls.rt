@@ -5,7 +5,7 @@
 //! on (`+`).
 
 use crate::frames::frame;
-use crate::telling::{Failure, after, answer, may};
+use crate::telling::{TrialError, after, answer, may};
 use bytes::BytesMut;
 use mqtt5_base::Sequence;
 use mqtt5_codec::Packet;
@@ -78,10 +78,10 @@ fn tell<W: Write, T: Debug + Drop>(
     turn: Turn,
     given: Result<T, StateError>,
     output: &mut W,
-) -> Result<(), Failure> {
+) -> Result<(), TrialError> {
     match (turn, &given) {
         (Turn::Last, _) => answer(output, given),
-        (Turn::Way, Err(StateError::OutOfMemory)) => Err(Failure::Unprepared),
+        (Turn::Way, Err(StateError::OutOfMemory)) => Err(TrialError::Unprepared),
         (Turn::Way, _) => Ok(()),
     }
 }
@@ -92,7 +92,7 @@ fn turns<W: Write>(
     sign: u8,
     turn: Turn,
     output: &mut W,
-) -> Result<(), Failure> {
+) -> Result<(), TrialError> {
     match sign {
         b'^' => tell(turn, state.clean(), output),
         b'~' => tell(turn, state.resume(5), output),
@@ -111,7 +111,7 @@ fn take<W: Write>(
     call: &str,
     turn: Turn,
     output: &mut W,
-) -> Result<(), Failure> {
+) -> Result<(), TrialError> {
     match call.as_bytes() {
         [b'<', name] => {
             let packet = packet(alloc, *name)?;
@@ -136,7 +136,7 @@ fn walk<W: Write>(
     state: &mut MqttState,
     calls: &str,
     output: &mut W,
-) -> Result<MqttState, Failure> {
+) -> Result<MqttState, TrialError> {
     for call in calls.split(' ') {
         take(alloc, state, call, Turn::Way, output)?;
     }
@@ -149,7 +149,7 @@ fn after_calls<W: Write>(
     limit: u16,
     calls: &str,
     output: &mut W,
-) -> Result<MqttState, Failure> {
+) -> Result<MqttState, TrialError> {
     let mut state = MqttState::new(alloc, limit.max(1), false)?;
     let copy = walk(alloc, &mut state, calls, output);
     drop(state);
@@ -157,9 +157,9 @@ fn after_calls<W: Write>(
 }
 
 /// The number in front of words.
-pub fn numbered(words: &str) -> Result<(u16, &str), Failure> {
-    let (number, rest) = words.split_once(' ').ok_or(Failure::Unknown)?;
-    let number = number.parse::<u16>().map_err(|_| Failure::Unknown)?;
+pub fn numbered(words: &str) -> Result<(u16, &str), TrialError> {
+    let (number, rest) = words.split_once(' ').ok_or(TrialError::Unknown)?;
+    let number = number.parse::<u16>().map_err(|_| TrialError::Unknown)?;
     Ok((number, rest))
 }
 
@@ -169,14 +169,14 @@ fn end<W: Write>(
     state: &mut MqttState,
     call: &str,
     output: &mut W,
-) -> Result<(), Failure> {
+) -> Result<(), TrialError> {
     may(output, state)?;
     take(alloc, state, call, Turn::Last, output)?;
     after(output, state)
 }
 
 /// Makes a new session's calls behind a limit. A refusal of the last one leaves the session.
-pub fn call<W: Write>(alloc: Global, words: &str, output: &mut W) -> Result<(), Failure> {
+pub fn call<W: Write>(alloc: Global, words: &str, output: &mut W) -> Result<(), TrialError> {
     let (limit, calls) = numbered(words)?;
     let (before, last) = calls.rsplit_once(' ').unwrap_or(("", calls));
     let mut state = after_calls(alloc, limit, before, output)?;
@@ -185,14 +185,14 @@ pub fn call<W: Write>(alloc: Global, words: &str, output: &mut W) -> Result<(), 
     told
 }
 
-fn copy_told<W: Write>(state: &MqttState, output: &mut W) -> Result<(), Failure> {
+fn copy_told<W: Write>(state: &MqttState, output: &mut W) -> Result<(), TrialError> {
     may(output, state)?;
     answer(output, state.clone().map_err(StateError::from))?;
     after(output, state)
 }
 
 /// Clones a new session after the calls behind a limit.
-pub fn copy<W: Write>(alloc: Global, words: &str, output: &mut W) -> Result<(), Failure> {
+pub fn copy<W: Write>(alloc: Global, words: &str, output: &mut W) -> Result<(), TrialError> {
     let (limit, calls) = numbered(words)?;
     let state = after_calls(alloc, limit, calls, output)?;
     let told = copy_told(&state, output);

@@ -16,7 +16,7 @@ mod streams;
 mod telling;
 mod trials;
 
-use crate::telling::Failure;
+use crate::telling::TrialError;
 use crate::trials::{list, run};
 use std::alloc::Global;
 use std::env::Env;
@@ -29,22 +29,22 @@ fn words(rt: &(impl Env + AllocGlobal)) -> io::Result<Vec<String>> {
     Ok(env::args(rt)?.skip(1).collect(rt.alloc())?)
 }
 
-fn obey<W: Write>(alloc: Global, words: &[String], output: &mut W) -> Result<(), Failure> {
+fn obey<W: Write>(alloc: Global, words: &[String], output: &mut W) -> Result<(), TrialError> {
     match words {
         [] => list(output)?,
         [trial] => run(alloc, trial.as_str(), output)?,
-        _ => return Err(Failure::Unknown),
+        _ => return Err(TrialError::Unknown),
     }
     Ok(output.flush()?)
 }
 
 /// Prints through a buffer. That is made last before the trial, so that a trial whose state takes no memory has a
 /// request before its call.
-fn print_all(rt: &HostRuntime) -> Result<(), Failure> {
-    let words = words(rt).map_err(|_| Failure::Unprepared)?;
+fn print_all(rt: &HostRuntime) -> Result<(), TrialError> {
+    let words = words(rt).map_err(|_| TrialError::Unprepared)?;
     match BufWriter::new(rt.alloc(), io::writer(rt)) {
         Ok(mut output) => obey(rt.alloc(), words.as_slice(), &mut output),
-        Err(_refused) => Err(Failure::Unprepared),
+        Err(_refused) => Err(TrialError::Unprepared),
     }
 }
 

@@ -1,7 +1,7 @@
 //! Packets read, written and cloned.
 
 use crate::frames::vector;
-use crate::telling::{Failure, after, answer, may};
+use crate::telling::{TrialError, after, answer, may};
 use bytes::BytesMut;
 use mqtt5_base::Error;
 use mqtt5_codec::Packet;
@@ -32,7 +32,7 @@ fn read_stream<W: Write>(
     stream: &mut BytesMut,
     frame: &[u8],
     output: &mut W,
-) -> Result<(), Failure> {
+) -> Result<(), TrialError> {
     stream.extend_from_slice(frame)?;
     stream.extend_from_slice(&[OTHER])?;
     may(output, &stream.as_slice())?;
@@ -42,7 +42,7 @@ fn read_stream<W: Write>(
 }
 
 /// Reads a vector with a byte behind it. A refusal may leave the stream as it is, or take the frame out.
-pub fn read<W: Write>(alloc: Global, name: &str, output: &mut W) -> Result<(), Failure> {
+pub fn read<W: Write>(alloc: Global, name: &str, output: &mut W) -> Result<(), TrialError> {
     let mut stream = BytesMut::new(alloc);
     let told = read_stream(alloc, &mut stream, vector(name), output);
     drop(stream);
@@ -53,13 +53,17 @@ fn write_told<W: Write>(
     packet: &Packet,
     buffer: &mut BytesMut,
     output: &mut W,
-) -> Result<(), Failure> {
+) -> Result<(), TrialError> {
     may(output, &buffer.as_slice())?;
     answer(output, packet.write(buffer, None))?;
     after(output, &buffer.as_slice())
 }
 
-fn write_packet<W: Write>(alloc: Global, packet: &Packet, output: &mut W) -> Result<(), Failure> {
+fn write_packet<W: Write>(
+    alloc: Global,
+    packet: &Packet,
+    output: &mut W,
+) -> Result<(), TrialError> {
     let mut buffer = full_buffer(alloc)?;
     let told = write_told(packet, &mut buffer, output);
     drop(buffer);
@@ -67,21 +71,21 @@ fn write_packet<W: Write>(alloc: Global, packet: &Packet, output: &mut W) -> Res
 }
 
 /// Writes the packet of a vector. A refusal leaves the buffer.
-pub fn write<W: Write>(alloc: Global, name: &str, output: &mut W) -> Result<(), Failure> {
+pub fn write<W: Write>(alloc: Global, name: &str, output: &mut W) -> Result<(), TrialError> {
     let packet = packet(alloc, name)?;
     let told = write_packet(alloc, &packet, output);
     drop(packet);
     told
 }
 
-fn copy_told<W: Write>(packet: &Packet, output: &mut W) -> Result<(), Failure> {
+fn copy_told<W: Write>(packet: &Packet, output: &mut W) -> Result<(), TrialError> {
     may(output, packet)?;
     answer(output, packet.clone().map_err(Error::from))?;
     after(output, packet)
 }
 
 /// Clones the packet of a vector.
-pub fn copy<W: Write>(alloc: Global, name: &str, output: &mut W) -> Result<(), Failure> {
+pub fn copy<W: Write>(alloc: Global, name: &str, output: &mut W) -> Result<(), TrialError> {
     let packet = packet(alloc, name)?;
     let told = copy_told(&packet, output);
     drop(packet);

@@ -1,11 +1,11 @@
 //! The parts of a packet by themselves: filters, a will and a login.
 
 use crate::packets::full_buffer;
-use crate::telling::{Failure, after, answer, may};
+use crate::telling::{TrialError, after, answer, may};
 use bytes::{Bytes, BytesMut};
 use mqtt5_base::{Error, QoS};
 use mqtt5_connect::{LastWill, Login};
-use mqtt5_subs::Filter;
+use mqtt5_subscribe::Filter;
 use std::alloc::Global;
 use std::io::Write;
 
@@ -28,7 +28,7 @@ fn read_bytes<W: Write>(
     name: &str,
     bytes: &mut Bytes,
     output: &mut W,
-) -> Result<(), Failure> {
+) -> Result<(), TrialError> {
     may(output, &bytes.as_slice())?;
     match name {
         "filters" => answer(output, Filter::read(alloc, bytes))?,
@@ -39,12 +39,12 @@ fn read_bytes<W: Write>(
 }
 
 /// Reads the part of that name. A refusal leaves the bytes.
-pub fn read<W: Write>(alloc: Global, name: &str, output: &mut W) -> Result<(), Failure> {
+pub fn read<W: Write>(alloc: Global, name: &str, output: &mut W) -> Result<(), TrialError> {
     let part = match name {
         "filters" => FILTERS,
         "will" => WILL,
         "login" => LOGIN,
-        _ => return Err(Failure::Unknown),
+        _ => return Err(TrialError::Unknown),
     };
     let mut bytes = Bytes::copy_from_slice(alloc, part)?;
     let told = read_bytes(alloc, name, &mut bytes, output);
@@ -64,7 +64,7 @@ fn write_filter<W: Write>(
     alloc: Global,
     buffer: &mut BytesMut,
     output: &mut W,
-) -> Result<(), Failure> {
+) -> Result<(), TrialError> {
     let filter = Filter::new(alloc, "a/b", QoS::AtLeastOnce)?;
     let written = filter.write(buffer);
     drop(filter);
@@ -75,7 +75,7 @@ fn write_will<W: Write>(
     alloc: Global,
     buffer: &mut BytesMut,
     output: &mut W,
-) -> Result<(), Failure> {
+) -> Result<(), TrialError> {
     let message = Vec::from_slice(alloc, b"m")?;
     let will = LastWill::new(alloc, "w", message, QoS::AtLeastOnce, true, None)?;
     let written = will.write(buffer);
@@ -87,7 +87,7 @@ fn write_login<W: Write>(
     alloc: Global,
     buffer: &mut BytesMut,
     output: &mut W,
-) -> Result<(), Failure> {
+) -> Result<(), TrialError> {
     let login = Login::new(alloc, "u", "p")?;
     let written = login.write(buffer);
     drop(login);
@@ -99,19 +99,19 @@ fn write_named<W: Write>(
     name: &str,
     buffer: &mut BytesMut,
     output: &mut W,
-) -> Result<(), Failure> {
+) -> Result<(), TrialError> {
     may(output, &buffer.as_slice())?;
     match name {
         "filter" => write_filter(alloc, buffer, output)?,
         "will" => write_will(alloc, buffer, output)?,
         "login" => write_login(alloc, buffer, output)?,
-        _ => return Err(Failure::Unknown),
+        _ => return Err(TrialError::Unknown),
     }
     after(output, &buffer.as_slice())
 }
 
 /// Writes the part of that name. A refusal leaves the buffer.
-pub fn write<W: Write>(alloc: Global, name: &str, output: &mut W) -> Result<(), Failure> {
+pub fn write<W: Write>(alloc: Global, name: &str, output: &mut W) -> Result<(), TrialError> {
     let mut buffer = full_buffer(alloc)?;
     let told = write_named(alloc, name, &mut buffer, output);
     drop(buffer);

@@ -1,7 +1,7 @@
 //! The settings: each getter that copies, `set_credentials`, and a clone.
 
 use crate::parts::will;
-use crate::telling::{Failure, after, answer, may};
+use crate::telling::{TrialError, after, answer, may};
 use bytes::Bytes;
 use mqtt5_base::{Error, Sequence, Text};
 use mqtt5_options::MqttOptions;
@@ -35,18 +35,22 @@ fn set_all(alloc: Global, options: &mut MqttOptions) -> Result<(), Error> {
     set_connect(alloc, options)
 }
 
-fn get_connect<W: Write>(options: &MqttOptions, name: &str, output: &mut W) -> Result<(), Failure> {
+fn get_connect<W: Write>(
+    options: &MqttOptions,
+    name: &str,
+    output: &mut W,
+) -> Result<(), TrialError> {
     match name {
         "connect_properties" => answer(output, options.connect_properties()),
         "user_properties" => answer(output, options.user_properties()),
         "authentication_method" => answer(output, options.authentication_method()),
         "authentication_data" => answer(output, options.authentication_data()),
-        _ => Err(Failure::Unknown),
+        _ => Err(TrialError::Unknown),
     }
 }
 
 /// Calls the getter of that name, `clone` or `set_credentials`.
-fn call<W: Write>(options: &mut MqttOptions, name: &str, output: &mut W) -> Result<(), Failure> {
+fn call<W: Write>(options: &mut MqttOptions, name: &str, output: &mut W) -> Result<(), TrialError> {
     match name {
         "broker_address" => answer(output, options.broker_address()),
         "client_id" => answer(output, options.client_id()),
@@ -63,7 +67,7 @@ fn call_told<W: Write>(
     options: &mut MqttOptions,
     name: &str,
     output: &mut W,
-) -> Result<(), Failure> {
+) -> Result<(), TrialError> {
     set_all(alloc, options)?;
     may(output, options)?;
     call(options, name, output)?;
@@ -71,7 +75,7 @@ fn call_told<W: Write>(
 }
 
 /// A call of that name on settings. A refusal leaves them.
-pub fn settings<W: Write>(alloc: Global, name: &str, output: &mut W) -> Result<(), Failure> {
+pub fn settings<W: Write>(alloc: Global, name: &str, output: &mut W) -> Result<(), TrialError> {
     let mut options = MqttOptions::new(alloc, "c", "localhost", 1883)?;
     let told = call_told(alloc, &mut options, name, output);
     drop(options);

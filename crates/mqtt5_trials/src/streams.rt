@@ -1,10 +1,10 @@
 //! Whole runs over streams of bytes.
 
 use crate::calls::numbered;
-use crate::telling::{Failure, after, answer, may};
+use crate::telling::{TrialError, after, answer, may};
 use bytes::Bytes;
 use mqtt5_base::{QoS, qos};
-use mqtt5_flow::Publish;
+use mqtt5_publish::Publish;
 use mqtt5_streams::{ByteEvent, play_bytes};
 use std::alloc::Global;
 use std::io::Write;
@@ -25,29 +25,29 @@ fn limit(number: u16) -> Option<u32> {
     }
 }
 
-fn publish(alloc: Global, name: &str, qos: QoS) -> Result<ByteEvent, Failure> {
+fn publish(alloc: Global, name: &str, qos: QoS) -> Result<ByteEvent, TrialError> {
     let payload = Bytes::copy_from_slice(alloc, name.as_bytes())?;
     let publish = Publish::new(alloc, "a", qos, payload, None)?;
     Ok(ByteEvent::Publish(publish))
 }
 
-fn count(digits: &str) -> Result<usize, Failure> {
-    let count = digits.parse::<u16>().map_err(|_| Failure::Unknown)?;
+fn count(digits: &str) -> Result<usize, TrialError> {
+    let count = digits.parse::<u16>().map_err(|_| TrialError::Unknown)?;
     Ok(usize::from(count))
 }
 
 /// An event by a word: `up` and `down` with a number of bytes, `loss`, or the payload of a publish.
-fn event(alloc: Global, word: &str, qos: QoS) -> Result<ByteEvent, Failure> {
+fn event(alloc: Global, word: &str, qos: QoS) -> Result<ByteEvent, TrialError> {
     match word.split_once(':') {
         Some(("up", digits)) => Ok(ByteEvent::Up(count(digits)?)),
         Some(("down", digits)) => Ok(ByteEvent::Down(count(digits)?)),
-        Some(_) => Err(Failure::Unknown),
+        Some(_) => Err(TrialError::Unknown),
         None if word == "loss" => Ok(ByteEvent::Loss(None)),
         None => publish(alloc, word, qos),
     }
 }
 
-fn events(alloc: Global, words: &str, qos: QoS) -> Result<Vec<ByteEvent>, Failure> {
+fn events(alloc: Global, words: &str, qos: QoS) -> Result<Vec<ByteEvent>, TrialError> {
     let mut events = Vec::new(alloc);
     for word in words.split(' ') {
         events.push(event(alloc, word, qos)?)?;
@@ -60,7 +60,7 @@ fn play_told<W: Write>(
     limits: Limits,
     events: &[ByteEvent],
     output: &mut W,
-) -> Result<(), Failure> {
+) -> Result<(), TrialError> {
     may(output, &events)?;
     let ids = limits.ids.max(1);
     answer(
@@ -75,10 +75,10 @@ fn play_words<W: Write>(
     limits: Limits,
     words: &str,
     output: &mut W,
-) -> Result<(), Failure> {
+) -> Result<(), TrialError> {
     let (quality, words) = numbered(words)?;
-    let quality = u8::try_from(quality).map_err(|_| Failure::Unknown)?;
-    let quality = qos(quality).ok_or(Failure::Unknown)?;
+    let quality = u8::try_from(quality).map_err(|_| TrialError::Unknown)?;
+    let quality = qos(quality).ok_or(TrialError::Unknown)?;
     let events = events(alloc, words, quality)?;
     let told = play_told(alloc, limits, events.as_slice(), output);
     drop(events);
@@ -86,7 +86,7 @@ fn play_words<W: Write>(
 }
 
 /// Plays events behind a limit on ids, limits on packets from the broker and to it, and a QoS.
-pub fn run_streams<W: Write>(alloc: Global, words: &str, output: &mut W) -> Result<(), Failure> {
+pub fn run_streams<W: Write>(alloc: Global, words: &str, output: &mut W) -> Result<(), TrialError> {
     let (ids, words) = numbered(words)?;
     let (incoming, words) = numbered(words)?;
     let (outgoing, words) = numbered(words)?;

@@ -9,7 +9,7 @@ use std::io::Write;
 
 /// Why a trial says nothing of its call.
 #[derive(Clone, Copy, Debug)]
-pub enum Failure {
+pub enum TrialError {
     /// No trial has this name.
     Unknown,
     /// Memory was refused before the call, or there is another fault in what the call needs.
@@ -18,57 +18,57 @@ pub enum Failure {
     Unprinted,
 }
 
-impl Failure {
+impl TrialError {
     pub fn status(self) -> u8 {
         match self {
-            Failure::Unknown => 2,
-            Failure::Unprepared => 10,
-            Failure::Unprinted => 11,
+            TrialError::Unknown => 2,
+            TrialError::Unprepared => 10,
+            TrialError::Unprinted => 11,
         }
     }
 }
 
-impl From<AllocError> for Failure {
-    fn from(_refused: AllocError) -> Failure {
-        Failure::Unprepared
+impl From<AllocError> for TrialError {
+    fn from(_refused: AllocError) -> TrialError {
+        TrialError::Unprepared
     }
 }
 
-impl<T: Drop> From<AllocFailed<T>> for Failure {
-    fn from(_refused: AllocFailed<T>) -> Failure {
-        Failure::Unprepared
+impl<T: Drop> From<AllocFailed<T>> for TrialError {
+    fn from(_refused: AllocFailed<T>) -> TrialError {
+        TrialError::Unprepared
     }
 }
 
-impl From<Error> for Failure {
-    fn from(_error: Error) -> Failure {
-        Failure::Unprepared
+impl From<Error> for TrialError {
+    fn from(_error: Error) -> TrialError {
+        TrialError::Unprepared
     }
 }
 
-impl From<StateError> for Failure {
-    fn from(_fault: StateError) -> Failure {
-        Failure::Unprepared
+impl From<StateError> for TrialError {
+    fn from(_fault: StateError) -> TrialError {
+        TrialError::Unprepared
     }
 }
 
-impl From<io::Error> for Failure {
-    fn from(_error: io::Error) -> Failure {
-        Failure::Unprinted
+impl From<io::Error> for TrialError {
+    fn from(_error: io::Error) -> TrialError {
+        TrialError::Unprinted
     }
 }
 
 /// A state that a refusal may leave.
-pub fn may<W: Write, T: Debug>(output: &mut W, state: &T) -> Result<(), Failure> {
+pub fn may<W: Write, T: Debug>(output: &mut W, state: &T) -> Result<(), TrialError> {
     Ok(writeln!(output, "may {state:?}")?)
 }
 
 /// What the call answered, which is then let go.
-pub fn answer<W: Write, T: Debug + Drop>(output: &mut W, answer: T) -> Result<(), Failure> {
+pub fn answer<W: Write, T: Debug + Drop>(output: &mut W, answer: T) -> Result<(), TrialError> {
     Ok(writeln!(output, "answer {answer:?}")?)
 }
 
 /// The state after the call.
-pub fn after<W: Write, T: Debug>(output: &mut W, state: &T) -> Result<(), Failure> {
+pub fn after<W: Write, T: Debug>(output: &mut W, state: &T) -> Result<(), TrialError> {
     Ok(writeln!(output, "after {state:?}")?)
 }

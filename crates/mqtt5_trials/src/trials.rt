@@ -1,6 +1,6 @@
 //! The trials by their names.
 
-use crate::telling::Failure;
+use crate::telling::TrialError;
 use crate::{calls, made, packets, parts, runs, settings, streams};
 use std::alloc::Global;
 use std::io;
@@ -209,8 +209,8 @@ pub fn list<W: Write>(output: &mut W) -> io::Result<()> {
 }
 
 /// Makes the trial of that name.
-pub fn run<W: Write>(alloc: Global, trial: &str, output: &mut W) -> Result<(), Failure> {
-    let (kind, name) = trial.split_once(' ').ok_or(Failure::Unknown)?;
+pub fn run<W: Write>(alloc: Global, trial: &str, output: &mut W) -> Result<(), TrialError> {
+    let (kind, name) = trial.split_once(' ').ok_or(TrialError::Unknown)?;
     match kind {
         "read" => packets::read(alloc, name, output),
         "write" => packets::write(alloc, name, output),
@@ -226,6 +226,6 @@ pub fn run<W: Write>(alloc: Global, trial: &str, output: &mut W) -> Result<(), F
         "settle" => runs::run_settled(alloc, name, output),
         "bytes" => streams::run_streams(alloc, name, output),
         "twin" => runs::run_twins(alloc, name, output),
-        _ => Err(Failure::Unknown),
+        _ => Err(TrialError::Unknown),
     }
 }

@@ -7,33 +7,33 @@ use Rattle.std.specs.FinMap.{get, insert, remove, get-empty}
 use Rattle.std.specs.FinSet as set
 use Rattle.mqtt5_base.specs.declared.quality.QoS.{QoS}
 use Rattle.mqtt5_base.specs.declared.quality.QoS.TheVariants.{AtMostOnce, AtLeastOnce, ExactlyOnce}
-use Rattle.mqtt5_flow.specs.declared.publish.Publish.{Publish}
-use Rattle.mqtt5_flow.specs.declared.puback.PubAckReason.{PubAckReason}
-use Rattle.mqtt5_flow.specs.declared.pubrel.PubRelReason.{PubRelReason}
-use Rattle.mqtt5_flow.specs.declared.pubrel.PubRelReason.TheVariants as pubrel_reasons
-use Rattle.mqtt5_link.specs.declared.connack.ConnectReturnCode.{ConnectReturnCode}
-use Rattle.mqtt5_link.specs.declared.connack.ConnectReturnCode.TheVariants as return_codes
-use Rattle.mqtt5_link.specs.declared.connack.ConnAckProperties.{ConnAckProperties}
-use Rattle.mqtt5_subs.specs.declared.subscribe.Subscribe.{Subscribe}
+use Rattle.mqtt5_publish.specs.declared.publish.Publish.{Publish}
+use Rattle.mqtt5_publish.specs.declared.puback.PubAckReason.{PubAckReason}
+use Rattle.mqtt5_publish.specs.declared.pubrel.PubRelReason.{PubRelReason}
+use Rattle.mqtt5_publish.specs.declared.pubrel.PubRelReason.TheVariants as pubrel_reasons
+use Rattle.mqtt5_control.specs.declared.connack.ConnectReturnCode.{ConnectReturnCode}
+use Rattle.mqtt5_control.specs.declared.connack.ConnectReturnCode.TheVariants as return_codes
+use Rattle.mqtt5_control.specs.declared.connack.ConnAckProperties.{ConnAckProperties}
+use Rattle.mqtt5_subscribe.specs.declared.subscribe.Subscribe.{Subscribe}
 use Rattle.mqtt5_codec.specs.declared.packet.Packet.{Packet}
 use Rattle.mqtt5_codec.specs.declared.packet.Packet.TheVariants as packets
-use Rattle.mqtt5_held.specs.declared.slot.Slot.{Slot}
-use Rattle.mqtt5_held.specs.declared.slot.Slot.TheVariants.{Sent, Released}
-use Rattle.mqtt5_held.specs.declared.event.Request.{Request}
-use Rattle.mqtt5_held.specs.declared.event.Request.TheVariants as requests
-use Rattle.mqtt5_held.specs.declared.event.Outgoing.{Outgoing}
-use Rattle.mqtt5_held.specs.declared.error.StateError.{StateError}
-use Rattle.mqtt5_held.specs.declared.error.StateError.TheVariants as errors
-use Rattle.mqtt5_held.specs.Held.{Held}
-use Rattle.mqtt5_held.specs.Aliases.{alias_of}
-use Rattle.mqtt5_held.specs.Unacked.{slot_again, held_again, publish_again, release_again, requests_of}
-use Rattle.mqtt5_held.specs.Resent.{packets_of}
-use Rattle.mqtt5_held.proofs.Within.{Fits, within_fits}
-use Rattle.mqtt5_held.proofs.Marked.{get_again, again_twice, again_insert, again_remove, by_id_again}
+use Rattle.mqtt5_inflight.specs.declared.slot.Slot.{Slot}
+use Rattle.mqtt5_inflight.specs.declared.slot.Slot.TheVariants.{Sent, Released}
+use Rattle.mqtt5_inflight.specs.declared.event.Request.{Request}
+use Rattle.mqtt5_inflight.specs.declared.event.Request.TheVariants as requests
+use Rattle.mqtt5_inflight.specs.declared.event.Outgoing.{Outgoing}
+use Rattle.mqtt5_inflight.specs.declared.error.StateError.{StateError}
+use Rattle.mqtt5_inflight.specs.declared.error.StateError.TheVariants as errors
+use Rattle.mqtt5_inflight.specs.InUse.{InUse}
+use Rattle.mqtt5_inflight.specs.Aliases.{alias_of}
+use Rattle.mqtt5_inflight.specs.Unacked.{slot_again, in_use_again, publish_again, release_again, requests_of}
+use Rattle.mqtt5_inflight.specs.Resent.{packets_of}
+use Rattle.mqtt5_inflight.proofs.Within.{Fits, within_fits}
+use Rattle.mqtt5_inflight.proofs.Marked.{get_again, again_twice, again_insert, again_remove, by_id_again}
 use Rattle.mqtt5_session.specs.Session.{Core, Session, Answer, fresh}
-use Rattle.mqtt5_session.specs.Requests.{out, gives_id, unless, over_maximum, Verdict, Refuse, Wait, Store, by_alias, by_use, judged, out_acked, out_identified, out_publish, out_release, out_known, out_subscribe, id_for, last_after, ping_fault, counts_ping}
-use Rattle.mqtt5_session.specs.Packets.{inc, heard, hears, notes, told, freed_for, on_puback, on_received, on_pubrec, on_pubcomp, on_pubrel, on_released, on_publish, on_qos, answers, on_connack, is_taken, topic_of, topics_with, ids_with}
-use Rattle.mqtt5_session.specs.Cleaning.{cleaned, marked, resume_of}
+use Rattle.mqtt5_session.specs.Requests.{on_request, gives_id, unless, over_maximum, Verdict, Refuse, Wait, Store, by_alias, by_use, judged, out_acked, out_identified, out_publish, out_release, out_known, out_subscribe, id_for, last_after, ping_fault, counts_ping}
+use Rattle.mqtt5_session.specs.Packets.{on_packet, answer_to, with_incoming, with_notice, event_of, freed_for, on_puback, on_received, on_pubrec, on_pubcomp, on_pubrel, on_released, on_publish, on_qos, answers, on_connack, is_taken, topic_of, topics_with, ids_with}
+use Rattle.mqtt5_session.specs.Resuming.{cleaned, marked, resume_of}
 use Rattle.mqtt5_session.specs.Again.{sent_unless}
 use Rattle.mqtt5_session.specs.Ledger.{kept_by}
 use Rattle.mqtt5_session.specs.Ledger as ledger
@@ -62,14 +62,14 @@ sound_calls (call ∷ rest) s i = sound_calls rest (after_call s call) (sound_ca
 pub sound_after : (cs : List Call) (limit : ℕ) (manual : Bool) → Sound (after_calls cs (fresh limit manual)).core
 sound_after cs limit manual = sound_calls cs (fresh limit manual) (sound_start limit manual)
 
-in_one_piece : (s : Session) (at : ℕ) → Sound s.core → resume_of s at ≡ sent_unless (aliases_over s) (packets_of s.core.limit s.core.held) (held_again s.core.held) (cleaned s) at
-in_one_piece s at i = resumes s at (within_fits s.core.limit s.core.held i.0)
+in_one_piece : (s : Session) (at : ℕ) → Sound s.core → resume_of s at ≡ sent_unless (aliases_over s) (packets_of s.core.limit s.core.in_use) (in_use_again s.core.in_use) (cleaned s) at
+in_one_piece s at i = resumes s at (within_fits s.core.limit s.core.in_use i.0)
 
 pub within : (s : Session) (at : ℕ) → Sound s.core → aliases_over s ≡ [] → IsOk (resume_of s at)
-within s at i e = subst IsOk (sym (in_one_piece s at i ∙ ap (λ xs. sent_unless xs (packets_of s.core.limit s.core.held) (held_again s.core.held) (cleaned s) at) e)) refl
+within s at i e = subst IsOk (sym (in_one_piece s at i ∙ ap (λ xs. sent_unless xs (packets_of s.core.limit s.core.in_use) (in_use_again s.core.in_use) (cleaned s) at) e)) refl
 
 pub over : (s : Session) (at alias : ℕ) (others : List ℕ) → Sound s.core → aliases_over s ≡ alias ∷ others → resume_of s at ≡ Err (errors.InvalidAlias alias s.core.alias_max)
-over s at alias others i e = in_one_piece s at i ∙ ap (λ xs. sent_unless xs (packets_of s.core.limit s.core.held) (held_again s.core.held) (cleaned s) at) e
+over s at alias others i e = in_one_piece s at i ∙ ap (λ xs. sent_unless xs (packets_of s.core.limit s.core.in_use) (in_use_again s.core.in_use) (cleaned s) at) e
 
 pub core_kept : (s : Session) (at : ℕ) → Sound s.core → marked (taken_up s at).core ≡ marked s.core
 core_kept s at i = resume_core s at i
@@ -77,13 +77,13 @@ core_kept s at i = resume_core s at i
 -- ---- a core that is marked
 
 twice : (c : Core) → marked c ≡ marked (marked c)
-twice c = ap (λ h. record c { held = h }) (sym (again_twice c.held))
+twice c = ap (λ h. record c { in_use = h }) (sym (again_twice c.in_use))
 
-put_in : (h : Held) (id : ℕ) (x : Slot) → held_again (insert h id x) ≡ held_again (insert (held_again h) id x)
-put_in h id x = again_insert h id x ∙ ap (λ g. insert g id (slot_again x)) (sym (again_twice h)) ∙ sym (again_insert (held_again h) id x)
+put_in : (h : InUse) (id : ℕ) (x : Slot) → in_use_again (insert h id x) ≡ in_use_again (insert (in_use_again h) id x)
+put_in h id x = again_insert h id x ∙ ap (λ g. insert g id (slot_again x)) (sym (again_twice h)) ∙ sym (again_insert (in_use_again h) id x)
 
-taken_out : (h : Held) (id : ℕ) → held_again (remove h id) ≡ held_again (remove (held_again h) id)
-taken_out h id = again_remove h id ∙ ap (λ g. remove g id) (sym (again_twice h)) ∙ sym (again_remove (held_again h) id)
+taken_out : (h : InUse) (id : ℕ) → in_use_again (remove h id) ≡ in_use_again (remove (in_use_again h) id)
+taken_out h id = again_remove h id ∙ ap (λ g. remove g id) (sym (again_twice h)) ∙ sym (again_remove (in_use_again h) id)
 
 -- ---- sessions of one core, of which one is marked
 
@@ -100,11 +100,11 @@ same : (a : Answer) → marked a.1.core ≡ marked (marked a.1.core)
 same a = twice a.1.core
 
 -- an id was put in, or taken out
-with_slot : (a : Answer) (h : Held) (id : ℕ) (x : Slot) → a.1.core.held ≡ insert h id x → marked a.1.core ≡ record a.1.core { held = held_again (insert (held_again h) id x) }
-with_slot a h id x e = ap (λ g. record a.1.core { held = g }) (ap held_again e ∙ put_in h id x)
+with_slot : (a : Answer) (h : InUse) (id : ℕ) (x : Slot) → a.1.core.in_use ≡ insert h id x → marked a.1.core ≡ record a.1.core { in_use = in_use_again (insert (in_use_again h) id x) }
+with_slot a h id x e = ap (λ g. record a.1.core { in_use = g }) (ap in_use_again e ∙ put_in h id x)
 
-without : (a : Answer) (h : Held) (id : ℕ) → a.1.core.held ≡ remove h id → marked a.1.core ≡ record a.1.core { held = held_again (remove (held_again h) id) }
-without a h id e = ap (λ g. record a.1.core { held = g }) (ap held_again e ∙ taken_out h id)
+without : (a : Answer) (h : InUse) (id : ℕ) → a.1.core.in_use ≡ remove h id → marked a.1.core ≡ record a.1.core { in_use = in_use_again (remove (in_use_again h) id) }
+without a h id e = ap (λ g. record a.1.core { in_use = g }) (ap in_use_again e ∙ taken_out h id)
 
 choose : (b : Bool) (x y z w : Answer) → Alike x z → Alike y w → Alike (cond b x y) (cond b z w)
 choose true x y z w h k = h
@@ -113,7 +113,7 @@ choose false x y z w h k = k
 acked_alike : (v : Verdict) (c : Core) (s t : Session) (p : Publish) (last at : ℕ) → Alike (out_acked v (with c s) p last at) (out_acked v (with (marked c) t) p last at)
 acked_alike (Refuse e) c s t p last at = (refl, twice c)
 acked_alike Wait c s t p last at = (refl, same (out_acked Wait (with c s) p last at))
-acked_alike Store c s t p last at = (refl, with_slot (out_acked Store (with c s) p last at) c.held p.pkid (Sent p) refl)
+acked_alike Store c s t p last at = (refl, with_slot (out_acked Store (with c s) p last at) c.in_use p.pkid (Sent p) refl)
 
 -- a publish is judged alike
 used_alike : (x : Option Slot) (w : Option Publish) → by_use (option_map slot_again x) w ≡ by_use x w
@@ -124,7 +124,7 @@ used_alike (Some x) (Some p) = refl
 judged_alike : (c : Core) (p : Publish) → judged c p ≡ judged (marked c) p
 judged_alike c p =
     ap (λ v. cond (nat_lt c.limit p.pkid) (Refuse (errors.Unsolicited p.pkid)) (by_alias (over_maximum c p) v))
-    (sym (ap (λ x. by_use x c.waiting) (get_again c.held p.pkid) ∙ used_alike (get c.held p.pkid) c.waiting))
+    (sym (ap (λ x. by_use x c.waiting) (get_again c.in_use p.pkid) ∙ used_alike (get c.in_use p.pkid) c.waiting))
 
 identified_alike : (c : Core) (s t : Session) (p : Publish) (last at : ℕ) → Alike (out_identified (with c s) p last at) (out_identified (with (marked c) t) p last at)
 identified_alike c s t p last at =
@@ -141,16 +141,16 @@ publish_alike ExactlyOnce c s t p at = identified_alike c s t (record p { pkid =
 
 known_alike : (x : Option Slot) (c : Core) (s t : Session) (id last at : ℕ) → Alike (out_known x (with c s) id last at) (out_known (option_map slot_again x) (with (marked c) t) id last at)
 known_alike (Some (Sent p)) c s t id last at = (refl, twice c)
-known_alike (Some Released) c s t id last at = (refl, with_slot (out_known (Some Released) (with c s) id last at) c.held id Released refl)
-known_alike None c s t id last at = (refl, with_slot (out_known None (with c s) id last at) c.held id Released refl)
+known_alike (Some Released) c s t id last at = (refl, with_slot (out_known (Some Released) (with c s) id last at) c.in_use id Released refl)
+known_alike None c s t id last at = (refl, with_slot (out_known None (with c s) id last at) c.in_use id Released refl)
 
 -- what is known of an id is looked up in the marked core
-looked_up : (c : Core) (id : ℕ) (a : Answer) (f : Option Slot → Answer) → Alike a (f (option_map slot_again (get c.held id))) → Alike a (f (get (held_again c.held) id))
-looked_up c id a f h = subst (λ x. Alike a (f x)) (sym (get_again c.held id)) h
+looked_up : (c : Core) (id : ℕ) (a : Answer) (f : Option Slot → Answer) → Alike a (f (option_map slot_again (get c.in_use id))) → Alike a (f (get (in_use_again c.in_use) id))
+looked_up c id a f h = subst (λ x. Alike a (f x)) (sym (get_again c.in_use id)) h
 
 release_alike : (c : Core) (s t : Session) (id last at : ℕ) → Alike (out_release (with c s) id last at) (out_release (with (marked c) t) id last at)
-release_alike c s t id last at = choose (nat_lt c.limit id) (Err (errors.Unsolicited id), with c s) (out_known (get c.held id) (with c s) id last at) (Err (errors.Unsolicited id), with (marked c) t) (out_known (get (held_again c.held) id) (with (marked c) t) id last at) (refl, twice c)
-    (looked_up c id (out_known (get c.held id) (with c s) id last at) (λ x. out_known x (with (marked c) t) id last at) (known_alike (get c.held id) c s t id last at))
+release_alike c s t id last at = choose (nat_lt c.limit id) (Err (errors.Unsolicited id), with c s) (out_known (get c.in_use id) (with c s) id last at) (Err (errors.Unsolicited id), with (marked c) t) (out_known (get (in_use_again c.in_use) id) (with (marked c) t) id last at) (refl, twice c)
+    (looked_up c id (out_known (get c.in_use id) (with c s) id last at) (λ x. out_known x (with (marked c) t) id last at) (known_alike (get c.in_use id) c s t id last at))
 
 subscribe_alike : (c : Core) (s t : Session) (p : Subscribe) (at : ℕ) → Alike (out_subscribe (with c s) p at) (out_subscribe (with (marked c) t) p at)
 subscribe_alike c s t p at = choose (length p.filters == 0) _ _ _ _ (refl, twice c) (refl, twice (gives_id (with c s)).core)
@@ -163,12 +163,12 @@ unless_core : (o : Option StateError) (s : Session) (a : Answer) → a.1.core �
 unless_core None s a h = h
 unless_core (Some e) s a h = refl
 
-ping_core : (s : Session) (at : ℕ) → (out s requests.PingReq at).1.core ≡ s.core
-unfolding out
+ping_core : (s : Session) (at : ℕ) → (on_request s requests.PingReq at).1.core ≡ s.core
+unfolding on_request
 ping_core s at = unless_core (ping_fault s.core.waiting (counts_ping s).collision_pings s.awaits_ping) (counts_ping s) _ refl
 
-out_agrees : (c : Core) (s t : Session) (r : Request) (at : ℕ) → Agrees (calls.Outgoing r at) (out (with c s) r at) (out (with (marked c) t) r at)
-unfolding out
+out_agrees : (c : Core) (s t : Session) (r : Request) (at : ℕ) → Agrees (calls.Outgoing r at) (on_request (with c s) r at) (on_request (with (marked c) t) r at)
+unfolding on_request
 out_agrees c s t (requests.Publish p) at = publish_alike p.qos c s t p at
 out_agrees c s t (requests.PubRel p) at = release_alike c s t (id_for c p.pkid) (last_after c p.pkid) at
 out_agrees c s t (requests.Subscribe p) at = subscribe_alike c s t p at
@@ -179,10 +179,10 @@ out_agrees c s t r at = (refl, twice c)
 -- ---- packets
 
 freed_alike : (w : Option Publish) (c : Core) (s t : Session) (id at : ℕ) → Alike (freed_for w (with c s) id at) (freed_for w (with (marked c) t) id at)
-freed_alike None c s t id at = (refl, without (freed_for None (with c s) id at) c.held id refl)
+freed_alike None c s t id at = (refl, without (freed_for None (with c s) id at) c.in_use id refl)
 freed_alike (Some p) c s t id at = choose (p.pkid == id) _ _ _ _
-    (refl, ap (λ h. record c { held = h; waiting = None }) (put_in c.held id (Sent p)))
-    (refl, without (freed_for None (with c s) id at) c.held id refl)
+    (refl, ap (λ h. record c { in_use = h; waiting = None }) (put_in c.in_use id (Sent p)))
+    (refl, without (freed_for None (with c s) id at) c.in_use id refl)
 
 puback_alike : (x : Option Slot) (c : Core) (s t : Session) (id at : ℕ) → Alike (on_puback x (with c s) id at) (on_puback (option_map slot_again x) (with (marked c) t) id at)
 puback_alike None c s t id at = (refl, twice c)
@@ -190,7 +190,7 @@ puback_alike (Some Released) c s t id at = (refl, twice c)
 puback_alike (Some (Sent p)) c s t id at = freed_alike c.waiting c s t id at
 
 received_alike : (b : Bool) (c : Core) (s t : Session) (id at : ℕ) → Alike (on_received b (with c s) id at) (on_received b (with (marked c) t) id at)
-received_alike true c s t id at = (refl, with_slot (on_received true (with c s) id at) c.held id Released refl)
+received_alike true c s t id at = (refl, with_slot (on_received true (with c s) id at) c.in_use id Released refl)
 received_alike false c s t id at = freed_alike c.waiting c s t id at
 
 pubrec_alike : (x : Option Slot) (c : Core) (s t : Session) (reason : PubAckReason) (id at : ℕ) → Alike (on_pubrec x (with c s) reason id at) (on_pubrec (option_map slot_again x) (with (marked c) t) reason id at)
@@ -229,22 +229,22 @@ pubrel_alike : (b : Bool) (c : Core) (s t : Session) (reason : PubRelReason) (id
 pubrel_alike true c s t reason id at = released_alike reason (record c { incoming = set.remove c.incoming id }) s t id at
 pubrel_alike false c s t reason id at = (refl, twice c)
 
-heard_agrees : (c : Core) (s t : Session) (packet : Packet) (at : ℕ) → Agrees (calls.Incoming packet at) (heard (with c s) packet at) (heard (with (marked c) t) packet at)
-heard_agrees c s t (packets.PubAck p) at = looked_up c p.pkid (on_puback (get c.held p.pkid) (with c s) p.pkid at) (λ x. on_puback x (with (marked c) t) p.pkid at) (puback_alike (get c.held p.pkid) c s t p.pkid at)
-heard_agrees c s t (packets.PubRec p) at = looked_up c p.pkid (on_pubrec (get c.held p.pkid) (with c s) p.reason p.pkid at) (λ x. on_pubrec x (with (marked c) t) p.reason p.pkid at) (pubrec_alike (get c.held p.pkid) c s t p.reason p.pkid at)
-heard_agrees c s t (packets.PubComp p) at = looked_up c p.pkid (on_pubcomp (get c.held p.pkid) (with c s) p.pkid at) (λ x. on_pubcomp x (with (marked c) t) p.pkid at) (pubcomp_alike (get c.held p.pkid) c s t p.pkid at)
+heard_agrees : (c : Core) (s t : Session) (packet : Packet) (at : ℕ) → Agrees (calls.Incoming packet at) (answer_to (with c s) packet at) (answer_to (with (marked c) t) packet at)
+heard_agrees c s t (packets.PubAck p) at = looked_up c p.pkid (on_puback (get c.in_use p.pkid) (with c s) p.pkid at) (λ x. on_puback x (with (marked c) t) p.pkid at) (puback_alike (get c.in_use p.pkid) c s t p.pkid at)
+heard_agrees c s t (packets.PubRec p) at = looked_up c p.pkid (on_pubrec (get c.in_use p.pkid) (with c s) p.reason p.pkid at) (λ x. on_pubrec x (with (marked c) t) p.reason p.pkid at) (pubrec_alike (get c.in_use p.pkid) c s t p.reason p.pkid at)
+heard_agrees c s t (packets.PubComp p) at = looked_up c p.pkid (on_pubcomp (get c.in_use p.pkid) (with c s) p.pkid at) (λ x. on_pubcomp x (with (marked c) t) p.pkid at) (pubcomp_alike (get c.in_use p.pkid) c s t p.pkid at)
 heard_agrees c s t (packets.PubRel p) at = pubrel_alike (set.contains c.incoming p.pkid) c s t p.reason p.pkid at
 heard_agrees c s t (packets.Publish p) at = heard_alike (is_some (topic_of (with c s) p)) c s t p at
 heard_agrees c s t (packets.ConnAck p) at = connack_alike p.code p.properties c s t at
 heard_agrees c s t packet at = (refl, twice c)
 
-inc_agrees : (c : Core) (s t : Session) (packet : Packet) (at : ℕ) → Agrees (calls.Incoming packet at) (inc (with c s) packet at) (inc (with (marked c) t) packet at)
-unfolding inc
-inc_agrees c s t packet at = by (told (with c s) packet)
+inc_agrees : (c : Core) (s t : Session) (packet : Packet) (at : ℕ) → Agrees (calls.Incoming packet at) (on_packet (with c s) packet at) (on_packet (with (marked c) t) packet at)
+unfolding on_packet
+inc_agrees c s t packet at = by (event_of (with c s) packet)
   where
-    by : (o : Option Packet) → Agrees (calls.Incoming packet at) (heard (notes (with c s) o) packet at) (heard (notes (with (marked c) t) o) packet at)
+    by : (o : Option Packet) → Agrees (calls.Incoming packet at) (answer_to (with_notice (with c s) o) packet at) (answer_to (with_notice (with (marked c) t) o) packet at)
     by None = heard_agrees c s t packet at
-    by (Some x) = heard_agrees c (hears s x) (hears t x) packet at
+    by (Some x) = heard_agrees c (with_incoming s x) (with_incoming t x) packet at
 
 -- ---- any calls
 
@@ -253,7 +253,7 @@ abbrev Twins : Call → Session → Session → Type 0
 Twins call s t = SameReply call (reply_of s call) (reply_of t call) × (marked (after_call s call).core ≡ marked (after_call t call).core)
 
 -- a clean gives the same
-given_alike : (limit : ℕ) (h : Held) → requests_of limit h ≡ requests_of limit (held_again h)
+given_alike : (limit : ℕ) (h : InUse) → requests_of limit h ≡ requests_of limit (in_use_again h)
 given_alike limit h = ap₂ (λ xs ys. xs ++ ys) (sym (by_id_again publish_again published limit h)) (sym (by_id_again release_again released limit h))
   where
     published : (id : ℕ) (x : Option Slot) → publish_again id (option_map slot_again x) ≡ publish_again id x
@@ -269,7 +269,7 @@ given_alike limit h = ap₂ (λ xs ys. xs ++ ys) (sym (by_id_again publish_again
 one_call : (call : Call) (c : Core) (s t : Session) → Twins call (with c s) (with (marked c) t)
 one_call (calls.Outgoing request at) c s t = out_agrees c s t request at
 one_call (calls.Incoming packet at) c s t = inc_agrees c s t packet at
-one_call calls.Clean c s t = (ap GivenBack (given_alike c.limit c.held), refl)
+one_call calls.Clean c s t = (ap GivenBack (given_alike c.limit c.in_use), refl)
 one_call calls.ProtocolError c s t = (refl, twice c)
 
 -- two that say what a third says

@@ -4,13 +4,13 @@ use Rattle.std.specs.FinMap.{get}
 use Rattle.std.specs.FinSet as set
 use Rattle.mqtt5_base.specs.declared.quality.QoS.{QoS}
 use Rattle.mqtt5_base.specs.declared.quality.QoS.TheVariants.{AtMostOnce, AtLeastOnce, ExactlyOnce}
-use Rattle.mqtt5_flow.specs.declared.publish.Publish.{Publish}
-use Rattle.mqtt5_flow.specs.declared.pubrel.PubRel.{PubRel}
+use Rattle.mqtt5_publish.specs.declared.publish.Publish.{Publish}
+use Rattle.mqtt5_publish.specs.declared.pubrel.PubRel.{PubRel}
 use Rattle.mqtt5_codec.specs.declared.packet.Packet.{Packet}
 use Rattle.mqtt5_codec.specs.declared.packet.Packet.TheVariants as packets
-use Rattle.mqtt5_held.specs.declared.slot.Slot.{Slot}
-use Rattle.mqtt5_held.specs.declared.slot.Slot.TheVariants.{Sent, Released}
-use Rattle.mqtt5_held.proofs.Within.{Fits, IsUsed}
+use Rattle.mqtt5_inflight.specs.declared.slot.Slot.{Slot}
+use Rattle.mqtt5_inflight.specs.declared.slot.Slot.TheVariants.{Sent, Released}
+use Rattle.mqtt5_inflight.proofs.Within.{Fits, IsUsed}
 use Rattle.mqtt5_session.specs.Packets.{puback_of, pubrec_of, pubcomp_of}
 use Rattle.mqtt5_world.specs.Broker.{serve, serve_publish, reason_for}
 use Rattle.mqtt5_world.specs.World.{World, served, arrives}
@@ -21,10 +21,10 @@ use Rattle.mqtt5_world.proofs.Step.{Inv, Step, Stays, change_step, quiet_step, A
 use Rattle.mqtt5_world.proofs.Asks.{refused_step}
 
 -- what is said of the slot of an id in use
-pub used : (w : World) → Inv w → (k : ℕ) (x : Slot) → get w.session.core.held k ≡ Some x → IsUsed w.session.core.limit k x
+pub used : (w : World) → Inv w → (k : ℕ) (x : Slot) → get w.session.core.in_use k ≡ Some x → IsUsed w.session.core.limit k x
 used w i k x e = subst (Fits w.session.core.limit k) e (i.sound.0 k)
 
-pub allowed_slot : (w : World) → Inv w → (k : ℕ) (x : Option Slot) → get w.session.core.held k ≡ x → SlotAllowed w.session.core.alias_max x
+pub allowed_slot : (w : World) → Inv w → (k : ℕ) (x : Option Slot) → get w.session.core.in_use k ≡ x → SlotAllowed w.session.core.alias_max x
 allowed_slot w i k x e = subst (SlotAllowed w.session.core.alias_max) e (i.allowed k)
 
 -- the session doesn't change
@@ -78,7 +78,7 @@ publish_step w p rest AtLeastOnce e u i =
     front : place (view_of w) k ≡ record (place (view_of w) k) { up = x ∷ filter (is_token_up k) rest }
     front = place_up (view_of w) x rest k (token_here is_token_up k x (publish_token p (ap is_acked e))) u
 
-    f : (get w.session.core.held k ≡ Some (Sent p)) × (set.contains w.broker.ids k ≡ false) × (filter (is_token_up k) rest ≡ []) × (filter (is_token_down k) w.down ≡ [])
+    f : (get w.session.core.in_use k ≡ Some (Sent p)) × (set.contains w.broker.ids k ≡ false) × (filter (is_token_up k) rest ≡ []) × (filter (is_token_down k) w.down ≡ [])
     f = once_up e (subst (TokenAt k) front (i.tokens k))
 
     at : place (view_of w) k ≡ record { slot = Some (Sent p); has = false; up = x ∷ []; down = [] }
@@ -127,7 +127,7 @@ publish_step w p rest ExactlyOnce e u i =
     front : place (view_of w) k ≡ record (place (view_of w) k) { up = x ∷ filter (is_token_up k) rest }
     front = place_up (view_of w) x rest k (token_here is_token_up k x (publish_token p (ap is_acked e))) u
 
-    f : (get w.session.core.held k ≡ Some (Sent p)) × (filter (is_token_up k) rest ≡ []) × (filter (is_token_down k) w.down ≡ [])
+    f : (get w.session.core.in_use k ≡ Some (Sent p)) × (filter (is_token_up k) rest ≡ []) × (filter (is_token_down k) w.down ≡ [])
     f = twice_up e (subst (TokenAt k) front (i.tokens k))
 
     at : place (view_of w) k ≡ record { slot = Some (Sent p); has = has; up = x ∷ []; down = [] }
@@ -183,7 +183,7 @@ release_step w a rest u i =
     front : place (view_of w) k ≡ record (place (view_of w) k) { up = x ∷ filter (is_token_up k) rest }
     front = place_up (view_of w) x rest k (eq-eqb k k refl) u
 
-    f : (get w.session.core.held k ≡ Some Released) × (filter (is_token_up k) rest ≡ []) × (filter (is_token_down k) w.down ≡ [])
+    f : (get w.session.core.in_use k ≡ Some Released) × (filter (is_token_up k) rest ≡ []) × (filter (is_token_down k) w.down ≡ [])
     f = release_up (subst (TokenAt k) front (i.tokens k))
 
     at : place (view_of w) k ≡ record { slot = Some Released; has = has; up = x ∷ []; down = [] }

@@ -3,15 +3,15 @@ use Rattle.std.proofs.Common.{◌≡◌, ℕ, ◌<◌, Bool, true, false, ◌&&�
 use Rattle.std.specs.FinMap.{get}
 use Rattle.mqtt5_base.specs.declared.quality.QoS.{QoS}
 use Rattle.mqtt5_base.specs.declared.quality.QoS.TheVariants.{AtMostOnce, AtLeastOnce, ExactlyOnce}
-use Rattle.mqtt5_flow.specs.declared.publish.Publish.{Publish}
+use Rattle.mqtt5_publish.specs.declared.publish.Publish.{Publish}
 use Rattle.mqtt5_codec.specs.declared.packet.Packet.{Packet}
 use Rattle.mqtt5_codec.specs.declared.packet.Packet.TheVariants as packets
-use Rattle.mqtt5_held.specs.declared.slot.Slot.TheVariants.{Sent}
-use Rattle.mqtt5_held.specs.declared.event.Request.TheVariants as requests
-use Rattle.mqtt5_held.specs.declared.event.Outgoing.TheVariants as outgoing
-use Rattle.mqtt5_held.specs.declared.error.StateError.{StateError}
+use Rattle.mqtt5_inflight.specs.declared.slot.Slot.TheVariants.{Sent}
+use Rattle.mqtt5_inflight.specs.declared.event.Request.TheVariants as requests
+use Rattle.mqtt5_inflight.specs.declared.event.Outgoing.TheVariants as outgoing
+use Rattle.mqtt5_inflight.specs.declared.error.StateError.{StateError}
 use Rattle.mqtt5_session.specs.Session.{Answer}
-use Rattle.mqtt5_session.specs.Requests.{out, Verdict, Refuse, Wait, Store, out_acked, out_once, out_publish, unless, over_maximum, alias_fault, id_for, last_after, tells_at}
+use Rattle.mqtt5_session.specs.Requests.{on_request, Verdict, Refuse, Wait, Store, out_acked, out_once, out_publish, unless, over_maximum, alias_fault, id_for, last_after, with_event_at}
 use Rattle.mqtt5_session.proofs.Owed.{Judges, judges}
 use Rattle.mqtt5_session.proofs.Keeps.{Sound, out_sound, id_positive}
 use Rattle.mqtt5_world.specs.World.{World, asked, asks}
@@ -38,7 +38,7 @@ allowed_by max None e = refl
 allowed_by max (Some a) e = absurd cc
 
 -- a free id has nothing
-free_place : (v : View) (k : ℕ) → TokenAt k (place v k) → get v.held k ≡ None → place v k ≡ record { slot = None; has = false; up = []; down = [] }
+free_place : (v : View) (k : ℕ) → TokenAt k (place v k) → get v.in_use k ≡ None → place v k ≡ record { slot = None; has = false; up = []; down = [] }
 free_place v k t e =
     let at : TokenAt k (record (place v k) { slot = None }) = subst (λ x. TokenAt k (record (place v k) { slot = x })) e t in
     let n = none_free at in
@@ -110,7 +110,7 @@ once_step : (w : World) (p : Publish) → p.qos ≡ AtMostOnce → Inv w → Ste
 once_step w p e i = by (over_maximum w.session.core p)
   where
     sent : Answer
-    sent = (Ok (Some (packets.Publish p)), tells_at w.session (outgoing.Publish p.pkid) 0)
+    sent = (Ok (Some (packets.Publish p)), with_event_at w.session (outgoing.Publish p.pkid) 0)
 
     by : (o : Option StateError) → Step w (asked w p (unless o w.session sent).0 (unless o w.session sent).1)
     by (Some f) = refused_step w (w.refused ++ (p, f) ∷ []) i
@@ -136,5 +136,5 @@ ask_as w p AtLeastOnce e i sound = identified_step w i p (id_for w.session.core 
 ask_as w p ExactlyOnce e i sound = identified_step w i p (id_for w.session.core p.pkid) (last_after w.session.core p.pkid) (id_positive w.session.core p.pkid) (ap is_acked e) _ (judges w.session.core (record p { pkid = id_for w.session.core p.pkid })) sound
 
 pub ask_step : (w : World) (p : Publish) → Inv w → Step w (asks w p)
-unfolding out
+unfolding on_request
 ask_step w p i = ask_as w p p.qos refl i (out_sound w.session (requests.Publish p) 0 i.sound)

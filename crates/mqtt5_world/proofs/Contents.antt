@@ -8,14 +8,14 @@ use Rattle.std.specs.FinSet as set
 use Rattle.std.proofs.lemmas.List.Sums.{sum_by-append}
 use Rattle.mqtt5_base.specs.declared.quality.QoS.{QoS}
 use Rattle.mqtt5_base.specs.declared.quality.QoS.TheVariants.{AtMostOnce, AtLeastOnce, ExactlyOnce}
-use Rattle.mqtt5_flow.specs.declared.publish.Publish.{Publish}
-use Rattle.mqtt5_flow.specs.contracts.publish.PublishPartialEq.TheImpl as publish
-use Rattle.mqtt5_flow.specs.contracts.publish.PublishEq.TheImpl.Laws as reflexive
-use Rattle.mqtt5_flow.specs.Sound.{publish_sound}
-use Rattle.mqtt5_held.specs.declared.slot.Slot.{Slot}
-use Rattle.mqtt5_held.specs.declared.slot.Slot.TheVariants.{Sent, Released}
-use Rattle.mqtt5_held.specs.Held.{Held, awaiting_ack}
-use Rattle.mqtt5_held.specs.Unacked.{by_id}
+use Rattle.mqtt5_publish.specs.declared.publish.Publish.{Publish}
+use Rattle.mqtt5_publish.specs.contracts.publish.PublishPartialEq.TheImpl as publish
+use Rattle.mqtt5_publish.specs.contracts.publish.PublishEq.TheImpl.Laws as reflexive
+use Rattle.mqtt5_publish.specs.Sound.{publish_sound}
+use Rattle.mqtt5_inflight.specs.declared.slot.Slot.{Slot}
+use Rattle.mqtt5_inflight.specs.declared.slot.Slot.TheVariants.{Sent, Released}
+use Rattle.mqtt5_inflight.specs.InUse.{InUse, awaiting_ack}
+use Rattle.mqtt5_inflight.specs.Unacked.{by_id}
 use Rattle.mqtt5_world.specs.declared.event.WorldEvent.{WorldEvent}
 use Rattle.mqtt5_world.specs.declared.event.Report.{Report}
 use Rattle.mqtt5_world.specs.World.{World, start, run, losses}
@@ -26,7 +26,7 @@ use Rattle.mqtt5_world.proofs.Runs.{most, least, each_loss, twice}
 
 -- ---- lists of publishes as sums over ids
 
-count_ids : (test : Publish → Bool) (f : ℕ → Option Slot → List Publish) (n : ℕ) (h : Held) → count_by test (by_id f n h) ≡ sum_to n (λ id. count_by test (f id (get h id)))
+count_ids : (test : Publish → Bool) (f : ℕ → Option Slot → List Publish) (n : ℕ) (h : InUse) → count_by test (by_id f n h) ≡ sum_to n (λ id. count_by test (f id (get h id)))
 count_ids test f zero h = refl
 count_ids test f (suc n) h =
     let a = sum_by-append (λ x. cond (test x) 1 0) (by_id f n h) (f (suc n) (get h (suc n))) in
@@ -59,13 +59,13 @@ count_unless test (Some (Sent p)) false = count_one test p ∙ all (test p)
 
 stored_is : (test : Publish → Bool) (w : World) → count_by test (stored_in w.session.core) ≡ stored test w
 stored_is test w =
-    count_ids test (λ id x. option_to_list (awaiting_ack x)) w.session.core.limit w.session.core.held
-    ∙ sum_same w.session.core.limit _ _ (λ j _ _. count_slot test (get w.session.core.held j))
+    count_ids test (λ id x. option_to_list (awaiting_ack x)) w.session.core.limit w.session.core.in_use
+    ∙ sum_same w.session.core.limit _ _ (λ j _ _. count_slot test (get w.session.core.in_use j))
 
 without_is : (test : Publish → Bool) (w : World) → count_by test (stored_without w.broker.ids w.session.core) ≡ due ExactlyOnce test w
 without_is test w =
-    count_ids test (λ id x. cond (set.contains w.broker.ids id) [] (option_to_list (awaiting_ack x))) w.session.core.limit w.session.core.held
-    ∙ sum_same w.session.core.limit _ _ (λ j _ _. count_unless test (get w.session.core.held j) (set.contains w.broker.ids j))
+    count_ids test (λ id x. cond (set.contains w.broker.ids id) [] (option_to_list (awaiting_ack x))) w.session.core.limit w.session.core.in_use
+    ∙ sum_same w.session.core.limit _ _ (λ j _ _. count_unless test (get w.session.core.in_use j) (set.contains w.broker.ids j))
 
 waiting_is : (test : Publish → Bool) (w : World) → count_by test (waiting_in w.session.core) ≡ waiting test w
 waiting_is test w = by w.session.core.waiting
@@ -80,7 +80,7 @@ one_less true false = omega arith
 one_less false b = omega arith
 
 without_less : (test : Publish → Bool) (w : World) → due ExactlyOnce test w ≤ stored test w
-without_less test w = sum_less w.session.core.limit _ _ (λ j. one_less (is_sent test (get w.session.core.held j)) (not (set.contains w.broker.ids j)))
+without_less test w = sum_less w.session.core.limit _ _ (λ j. one_less (is_sent test (get w.session.core.in_use j)) (not (set.contains w.broker.ids j)))
 
 -- ---- the counts of a class
 

@@ -1,18 +1,18 @@
 -- What was refused once stays so; and no world that is reached has a fault.
 use Rattle.std.proofs.Common.{◌≡◌, ◌≢◌, ℕ, suc, ◌<◌, List, [], ◌∷◌, ◌++◌, Option, Result, Ok, Err, refl, sym, ap, ◌∙◌, subst, length, drop, slice_index_or}
 use Rattle.std.proofs.Math.Seq.{drop-cons}
-use Rattle.mqtt5_flow.specs.declared.publish.Publish.{Publish}
+use Rattle.mqtt5_publish.specs.declared.publish.Publish.{Publish}
 use Rattle.mqtt5_codec.specs.declared.packet.Packet.{Packet}
-use Rattle.mqtt5_held.specs.declared.error.StateError.{StateError}
-use Rattle.mqtt5_held.specs.declared.error.StateError.TheVariants as errors
-use Rattle.mqtt5_held.specs.declared.event.Request.TheVariants as requests
+use Rattle.mqtt5_inflight.specs.declared.error.StateError.{StateError}
+use Rattle.mqtt5_inflight.specs.declared.error.StateError.TheVariants as errors
+use Rattle.mqtt5_inflight.specs.declared.event.Request.TheVariants as requests
 use Rattle.mqtt5_session.specs.Session.{Session}
-use Rattle.mqtt5_session.specs.Packets.{inc}
-use Rattle.mqtt5_session.specs.Requests.{out}
-use Rattle.mqtt5_session.specs.Cleaning.{Sendings, resume_of}
+use Rattle.mqtt5_session.specs.Packets.{on_packet}
+use Rattle.mqtt5_session.specs.Requests.{on_request}
+use Rattle.mqtt5_session.specs.Resuming.{Sendings, resume_of}
 use Rattle.mqtt5_world.specs.declared.event.WorldEvent.{WorldEvent}
 use Rattle.mqtt5_world.specs.declared.event.WorldEvent.TheVariants as events
-use Rattle.mqtt5_world.specs.World.{World, start, asked, heard, takes, taken_back, arrives, returns, resumed, happens, run}
+use Rattle.mqtt5_world.specs.World.{World, start, asked, after_reply, takes, taken_back, arrives, returns, resumed, happens, run}
 use Rattle.mqtt5_world.specs.Happens.{Happens}
 use Rattle.mqtt5_world.proofs.Runs.{inv_start, inv_run}
 
@@ -27,7 +27,7 @@ asked_stays : (w : World) (p : Publish) (a : Result (Option Packet) StateError) 
 asked_stays w p (Ok reply) s f = f
 asked_stays w p (Err e) s f = f
 
-heard_stays : (w : World) (a : Result (Option Packet) StateError) (s : Session) → Faulty w → Faulty (heard w a s)
+heard_stays : (w : World) (a : Result (Option Packet) StateError) (s : Session) → Faulty w → Faulty (after_reply w a s)
 heard_stays w (Ok reply) s f = f
 heard_stays w (Err e) s f = more w.faults e
 
@@ -36,7 +36,7 @@ arrives_stays w [] f = f
 arrives_stays w (p ∷ rest) f = f
 
 takes_stays : (w : World) (p : Packet) → Faulty w → Faulty (takes w p)
-takes_stays w p f = heard_stays w (inc w.session p 0).0 (inc w.session p 0).1 f
+takes_stays w p f = heard_stays w (on_packet w.session p 0).0 (on_packet w.session p 0).1 f
 
 returns_stays : (w : World) (ds : List Packet) → Faulty w → Faulty (returns w ds)
 returns_stays w [] f = f
@@ -47,7 +47,7 @@ resumed_stays w (Ok r) f = f
 resumed_stays w (Err e) f = more w.faults e
 
 happens_stays : (w : World) (e : WorldEvent) → Faulty w → Faulty (happens w e)
-happens_stays w (events.Publish p) f = asked_stays w p (out w.session (requests.Publish p) 0).0 (out w.session (requests.Publish p) 0).1 f
+happens_stays w (events.Publish p) f = asked_stays w p (on_request w.session (requests.Publish p) 0).0 (on_request w.session (requests.Publish p) 0).1 f
 happens_stays w events.Up f = arrives_stays w w.up f
 happens_stays w events.Down f = returns_stays w w.down f
 happens_stays w (events.Loss m) f =

@@ -9,21 +9,21 @@ use Rattle.std.specs.FinMap.{get}
 use Rattle.std.specs.FinSet as set
 use Rattle.mqtt5_base.specs.declared.quality.QoS.{QoS}
 use Rattle.mqtt5_base.specs.declared.quality.QoS.TheVariants.{AtMostOnce, AtLeastOnce, ExactlyOnce}
-use Rattle.mqtt5_flow.specs.declared.publish.Publish.{Publish}
+use Rattle.mqtt5_publish.specs.declared.publish.Publish.{Publish}
 use Rattle.mqtt5_codec.specs.declared.packet.Packet.{Packet}
 use Rattle.mqtt5_codec.specs.declared.packet.Packet.TheVariants as packets
-use Rattle.mqtt5_held.specs.declared.slot.Slot.{Slot}
-use Rattle.mqtt5_held.specs.declared.slot.Slot.TheVariants.{Sent, Released}
-use Rattle.mqtt5_held.specs.declared.event.Request.{Request}
-use Rattle.mqtt5_held.specs.Held.{Held}
-use Rattle.mqtt5_held.specs.Unacked.{again, slot_again, held_again, alias_again, by_id, publish_again, release_again}
-use Rattle.mqtt5_held.specs.Resent.{packet_for, packets_of}
-use Rattle.mqtt5_held.proofs.Within.{Fits, within_fits}
-use Rattle.mqtt5_held.proofs.Marked.{get_again}
+use Rattle.mqtt5_inflight.specs.declared.slot.Slot.{Slot}
+use Rattle.mqtt5_inflight.specs.declared.slot.Slot.TheVariants.{Sent, Released}
+use Rattle.mqtt5_inflight.specs.declared.event.Request.{Request}
+use Rattle.mqtt5_inflight.specs.InUse.{InUse}
+use Rattle.mqtt5_inflight.specs.Unacked.{again, slot_again, in_use_again, alias_again, by_id, publish_again, release_again}
+use Rattle.mqtt5_inflight.specs.Resent.{packet_for, packets_of}
+use Rattle.mqtt5_inflight.proofs.Within.{Fits, within_fits}
+use Rattle.mqtt5_inflight.proofs.Marked.{get_again}
 use Rattle.mqtt5_session.specs.Session.{Core, Session}
 use Rattle.mqtt5_session.specs.Requests.{release_of}
-use Rattle.mqtt5_session.specs.Packets.{inc}
-use Rattle.mqtt5_session.specs.Cleaning.{cleaned, marked, resume_of}
+use Rattle.mqtt5_session.specs.Packets.{on_packet}
+use Rattle.mqtt5_session.specs.Resuming.{cleaned, marked, resume_of}
 use Rattle.mqtt5_session.specs.Again.{after_sent, sent_unless}
 use Rattle.mqtt5_session.proofs.Resume as session
 use Rattle.mqtt5_session.proofs.Keeps.{Sound, marked_sound}
@@ -35,17 +35,17 @@ use Rattle.mqtt5_world.proofs.Returns.{counted_acked}
 
 -- ---- a list of packets built id by id
 
-abbrev packets_to : (ℕ → Option Slot → List Request) → ℕ → Held → List Packet
+abbrev packets_to : (ℕ → Option Slot → List Request) → ℕ → InUse → List Packet
 packets_to f n h = filter_map packet_for (by_id f n h)
 
 abbrev part : (ℕ → Option Slot → List Request) → ℕ → Option Slot → List Packet
 part f id slot = filter_map packet_for (f id slot)
 
-packets_next : (f : ℕ → Option Slot → List Request) (n : ℕ) (h : Held) → packets_to f (suc n) h ≡ packets_to f n h ++ part f (suc n) (get h (suc n))
+packets_next : (f : ℕ → Option Slot → List Request) (n : ℕ) (h : InUse) → packets_to f (suc n) h ≡ packets_to f n h ++ part f (suc n) (get h (suc n))
 packets_next f n h = filter_map-append packet_for (by_id f n h) (f (suc n) (get h (suc n)))
 
 -- each part has tokens of its own id alone
-module _ (f : ℕ → Option Slot → List Request) (h : Held) (own : (id : ℕ) → filter (is_token_up id) (part f id (get h id)) ≡ part f id (get h id)) (none : (id j : ℕ) → j ≢ id → filter (is_token_up j) (part f id (get h id)) ≡ []) where
+module _ (f : ℕ → Option Slot → List Request) (h : InUse) (own : (id : ℕ) → filter (is_token_up id) (part f id (get h id)) ≡ part f id (get h id)) (none : (id j : ℕ) → j ≢ id → filter (is_token_up j) (part f id (get h id)) ≡ []) where
   outside : (n k : ℕ) → ((j : ℕ) → 0 < j → j ≤ n → k ≢ j) → filter (is_token_up k) (packets_to f n h) ≡ []
   outside zero k a = refl
   outside (suc n) k a =
@@ -99,26 +99,26 @@ in_or_apart (suc n) k = ⊎_elim
     (cases_eq k (suc n))
 
 -- the tokens of an id among them
-tokens_again : (c : Core) → Sound c → (k : ℕ) → filter (is_token_up k) (packets_of c.limit c.held) ≡ again_of k (get c.held k)
+tokens_again : (c : Core) → Sound c → (k : ℕ) → filter (is_token_up k) (packets_of c.limit c.in_use) ≡ again_of k (get c.in_use k)
 tokens_again c i k =
-    ap (filter (is_token_up k)) (filter_map-append packet_for (by_id publish_again c.limit c.held) (by_id release_again c.limit c.held))
-    ∙ filter-append (is_token_up k) (packets_to publish_again c.limit c.held) (packets_to release_again c.limit c.held)
+    ap (filter (is_token_up k)) (filter_map-append packet_for (by_id publish_again c.limit c.in_use) (by_id release_again c.limit c.in_use))
+    ∙ filter-append (is_token_up k) (packets_to publish_again c.limit c.in_use) (packets_to release_again c.limit c.in_use)
     ∙ ⊎_elim
-    (λ (h : (0 < k) × (k ≤ c.limit)). ap₂ (λ x y. x ++ y) (inside publish_again c.held own none c.limit k h.0 h.1) (inside release_again c.held own' none' c.limit k h.0 h.1))
-    (λ (a : (j : ℕ) → 0 < j → j ≤ c.limit → k ≢ j). ap₂ (λ x y. x ++ y) (outside publish_again c.held own none c.limit k a) (outside release_again c.held own' none' c.limit k a) ∙ sym (nothing_apart c.limit k (get c.held k) (i.0 k) a))
+    (λ (h : (0 < k) × (k ≤ c.limit)). ap₂ (λ x y. x ++ y) (inside publish_again c.in_use own none c.limit k h.0 h.1) (inside release_again c.in_use own' none' c.limit k h.0 h.1))
+    (λ (a : (j : ℕ) → 0 < j → j ≤ c.limit → k ≢ j). ap₂ (λ x y. x ++ y) (outside publish_again c.in_use own none c.limit k a) (outside release_again c.in_use own' none' c.limit k a) ∙ sym (nothing_apart c.limit k (get c.in_use k) (i.0 k) a))
     (in_or_apart c.limit k)
   where
-    own : (id : ℕ) → filter (is_token_up id) (part publish_again id (get c.held id)) ≡ part publish_again id (get c.held id)
-    own id = sent_own c.limit id (get c.held id) (i.0 id)
+    own : (id : ℕ) → filter (is_token_up id) (part publish_again id (get c.in_use id)) ≡ part publish_again id (get c.in_use id)
+    own id = sent_own c.limit id (get c.in_use id) (i.0 id)
 
-    none : (id j : ℕ) → j ≢ id → filter (is_token_up j) (part publish_again id (get c.held id)) ≡ []
-    none id j ne = sent_none c.limit id (get c.held id) (i.0 id) j ne
+    none : (id j : ℕ) → j ≢ id → filter (is_token_up j) (part publish_again id (get c.in_use id)) ≡ []
+    none id j ne = sent_none c.limit id (get c.in_use id) (i.0 id) j ne
 
-    own' : (id : ℕ) → filter (is_token_up id) (part release_again id (get c.held id)) ≡ part release_again id (get c.held id)
-    own' id = release_own id (get c.held id)
+    own' : (id : ℕ) → filter (is_token_up id) (part release_again id (get c.in_use id)) ≡ part release_again id (get c.in_use id)
+    own' id = release_own id (get c.in_use id)
 
-    none' : (id j : ℕ) → j ≢ id → filter (is_token_up j) (part release_again id (get c.held id)) ≡ []
-    none' id j ne = release_none id (get c.held id) j ne
+    none' : (id j : ℕ) → j ≢ id → filter (is_token_up j) (part release_again id (get c.in_use id)) ≡ []
+    none' id j ne = release_none id (get c.in_use id) j ne
 
 token_again : {k : ℕ} {x : Option Slot} {b : Bool} {us ds : List Packet} → Token k x b us ds → Token k (option_map slot_again x) b (again_of k x) []
 token_again Free = Free
@@ -131,7 +131,7 @@ token_again (PubCompDown g) = PubRelUp false
 
 -- ---- the resume isn't refused
 
-none_over : (max : ℕ) (h : Held) → ((id : ℕ) → SlotAllowed max (get h id)) → (n : ℕ) → by_id (alias_again max) n h ≡ []
+none_over : (max : ℕ) (h : InUse) → ((id : ℕ) → SlotAllowed max (get h id)) → (n : ℕ) → by_id (alias_again max) n h ≡ []
 none_over max h allowed zero = refl
 none_over max h allowed (suc n) = ap₂ (λ x y. x ++ y) (none_over max h allowed n) (by (suc n) (get h (suc n)) (allowed (suc n)))
   where
@@ -140,15 +140,15 @@ none_over max h allowed (suc n) = ap₂ (λ x y. x ++ y) (none_over max h allowe
     by id (Some Released) a = refl
     by id (Some (Sent p)) a = ap option_to_list a
 
-pub sends_again : (s : Session) → Sound s.core → ((id : ℕ) → SlotAllowed s.core.alias_max (get s.core.held id)) → resume_of s 0 ≡ Ok (packets_of s.core.limit s.core.held, after_sent (packets_of s.core.limit s.core.held) (held_again s.core.held) (cleaned s) 0)
+pub sends_again : (s : Session) → Sound s.core → ((id : ℕ) → SlotAllowed s.core.alias_max (get s.core.in_use id)) → resume_of s 0 ≡ Ok (packets_of s.core.limit s.core.in_use, after_sent (packets_of s.core.limit s.core.in_use) (in_use_again s.core.in_use) (cleaned s) 0)
 sends_again s i allowed =
-    session.resumes s 0 (within_fits s.core.limit s.core.held i.0)
-    ∙ ap (λ xs. sent_unless xs (packets_of s.core.limit s.core.held) (held_again s.core.held) (cleaned s) 0) (none_over s.core.alias_max s.core.held allowed s.core.limit)
+    session.resumes s 0 (within_fits s.core.limit s.core.in_use i.0)
+    ∙ ap (λ xs. sent_unless xs (packets_of s.core.limit s.core.in_use) (in_use_again s.core.in_use) (cleaned s) 0) (none_over s.core.alias_max s.core.in_use allowed s.core.limit)
 
 -- ---- the counts over a loss
 
 -- no publish that passes is sent again, where none that is acked passes
-none_acked : (test : Publish → Bool) → IsClass AtMostOnce test → (limit : ℕ) (h : Held) → ((k : ℕ) → Fits limit k (get h k)) → (n : ℕ) → on_way test (packets_to publish_again n h) ≡ 0
+none_acked : (test : Publish → Bool) → IsClass AtMostOnce test → (limit : ℕ) (h : InUse) → ((k : ℕ) → Fits limit k (get h k)) → (n : ℕ) → on_way test (packets_to publish_again n h) ≡ 0
 none_acked test c limit h fit zero = refl
 none_acked test c limit h fit (suc n) =
     let e = ap (on_way test) (packets_next publish_again n h) in
@@ -162,7 +162,7 @@ none_acked test c limit h fit (suc n) =
     by id (Some Released) f = refl
     by id (Some (Sent p)) f = let z = ap one (of_acked c (again p) (counted_acked p.qos f.own.1)) in omega (arith, z)
 
-none_released : (test : Publish → Bool) (h : Held) (n : ℕ) → on_way test (packets_to release_again n h) ≡ 0
+none_released : (test : Publish → Bool) (h : InUse) (n : ℕ) → on_way test (packets_to release_again n h) ≡ 0
 none_released test h zero = refl
 none_released test h (suc n) =
     let e = ap (on_way test) (packets_next release_again n h) in
@@ -197,7 +197,7 @@ passes_again test c None = refl
 passes_again test c (Some Released) = refl
 passes_again test c (Some (Sent p)) = c.blind_again p
 
-still_sent : {q : QoS} (test : Publish → Bool) → IsClass q test → (h : Held) (k : ℕ) → is_sent test (get (held_again h) k) ≡ is_sent test (get h k)
+still_sent : {q : QoS} (test : Publish → Bool) → IsClass q test → (h : InUse) (k : ℕ) → is_sent test (get (in_use_again h) k) ≡ is_sent test (get h k)
 still_sent test c h k = ap (is_sent test) (get_again h k) ∙ passes_again test c (get h k)
 
 -- a publish of QoS 1 that is kept is sent again
@@ -215,32 +215,32 @@ still_due : (test : Publish → Bool) (k : ℕ) (x : Option Slot) (s b : Bool) (
 still_due test k x s b us vs same e = subst (λ y. one (is_sent test x && is_due AtLeastOnce b us) ≤ one (y && is_due AtLeastOnce b vs)) (sym same) (more_due test k x b us vs e)
 
 -- the session is the same but for its current maximum, dup of what awaits an ack, and what isn't of the core
-sent_on : (w : World) (s : Session) (m : ℕ) → s.core ≡ record (marked w.session.core) { current = m } → Inv w → Again w (record w { session = s; up = packets_of w.session.core.limit w.session.core.held; down = [] })
+sent_on : (w : World) (s : Session) (m : ℕ) → s.core ≡ record (marked w.session.core) { current = m } → Inv w → Again w (record w { session = s; up = packets_of w.session.core.limit w.session.core.in_use; down = [] })
 sent_on w s m e i =
-    subst (λ c. Again w (record w { session = record s { core = c }; up = packets_of w.session.core.limit w.session.core.held; down = [] })) (sym e)
+    subst (λ c. Again w (record w { session = record s { core = c }; up = packets_of w.session.core.limit w.session.core.in_use; down = [] })) (sym e)
     (record {
       inv = record {
         sound = marked_sound w.session.core i.sound;
-        allowed = λ k. subst (SlotAllowed w.session.core.alias_max) (sym (get_again w.session.core.held k)) (still_allowed w.session.core.alias_max (get w.session.core.held k) (i.allowed k));
+        allowed = λ k. subst (SlotAllowed w.session.core.alias_max) (sym (get_again w.session.core.in_use k)) (still_allowed w.session.core.alias_max (get w.session.core.in_use k) (i.allowed k));
         waits = i.waits;
         tokens = λ k.
-            subst (λ x. Token k x (set.contains w.broker.ids k) (filter (is_token_up k) (packets_of w.session.core.limit w.session.core.held)) []) (sym (get_again w.session.core.held k))
-            (subst (λ us. Token k (option_map slot_again (get w.session.core.held k)) (set.contains w.broker.ids k) us []) (sym (tokens_again w.session.core i.sound k)) (token_again (i.tokens k)));
+            subst (λ x. Token k x (set.contains w.broker.ids k) (filter (is_token_up k) (packets_of w.session.core.limit w.session.core.in_use)) []) (sym (get_again w.session.core.in_use k))
+            (subst (λ us. Token k (option_map slot_again (get w.session.core.in_use k)) (set.contains w.broker.ids k) us []) (sym (tokens_again w.session.core i.sound k)) (token_again (i.tokens k)));
         none = i.none;
       };
       handed = refl;
       accepted = refl;
       waiting = λ test. refl;
-      stored = λ q test c. sum_same w.session.core.limit _ _ (λ k _ _. ap one (still_sent test c w.session.core.held k));
-      due_twice = λ test c. sum_same w.session.core.limit _ _ (λ k _ _. ap (λ b. one (b && not (set.contains w.broker.ids k))) (still_sent test c w.session.core.held k));
+      stored = λ q test c. sum_same w.session.core.limit _ _ (λ k _ _. ap one (still_sent test c w.session.core.in_use k));
+      due_twice = λ test c. sum_same w.session.core.limit _ _ (λ k _ _. ap (λ b. one (b && not (set.contains w.broker.ids k))) (still_sent test c w.session.core.in_use k));
       due_once = λ test c. sum_less w.session.core.limit _ _ (λ k.
-          still_due test k (get w.session.core.held k) (is_sent test (get (held_again w.session.core.held) k)) (set.contains w.broker.ids k)
-          (filter (is_token_up k) w.up) (filter (is_token_up k) (packets_of w.session.core.limit w.session.core.held)) (still_sent test c w.session.core.held k) (tokens_again w.session.core i.sound k));
+          still_due test k (get w.session.core.in_use k) (is_sent test (get (in_use_again w.session.core.in_use) k)) (set.contains w.broker.ids k)
+          (filter (is_token_up k) w.up) (filter (is_token_up k) (packets_of w.session.core.limit w.session.core.in_use)) (still_sent test c w.session.core.in_use k) (tokens_again w.session.core i.sound k));
       none_light = λ test c.
-          let e = ap (on_way test) (filter_map-append packet_for (by_id publish_again w.session.core.limit w.session.core.held) (by_id release_again w.session.core.limit w.session.core.held)) in
-          let a = way_append test (packets_to publish_again w.session.core.limit w.session.core.held) (packets_to release_again w.session.core.limit w.session.core.held) in
-          let p = none_acked test c w.session.core.limit w.session.core.held i.sound.0 w.session.core.limit in
-          let r = none_released test w.session.core.held w.session.core.limit in
+          let e = ap (on_way test) (filter_map-append packet_for (by_id publish_again w.session.core.limit w.session.core.in_use) (by_id release_again w.session.core.limit w.session.core.in_use)) in
+          let a = way_append test (packets_to publish_again w.session.core.limit w.session.core.in_use) (packets_to release_again w.session.core.limit w.session.core.in_use) in
+          let p = none_acked test c w.session.core.limit w.session.core.in_use i.sound.0 w.session.core.limit in
+          let r = none_released test w.session.core.in_use w.session.core.limit in
           omega (arith, e, a, p, r);
     })
 
@@ -248,12 +248,12 @@ sent_on w s m e i =
 back_step : (w : World) (s : Session) (m : ℕ) → s.core ≡ record w.session.core { current = m } → Inv w → Again w (resumes (record w { session = s; up = []; down = [] }))
 back_step w s m e i =
     let sound : Sound s.core = subst Sound (sym e) i.sound in
-    let allowed : (id : ℕ) → SlotAllowed s.core.alias_max (get s.core.held id) = subst (λ (c : Core). (id : ℕ) → SlotAllowed c.alias_max (get c.held id)) (sym e) i.allowed in
-    let same : packets_of s.core.limit s.core.held ≡ packets_of w.session.core.limit w.session.core.held = ap (λ (c : Core). packets_of c.limit c.held) e in
+    let allowed : (id : ℕ) → SlotAllowed s.core.alias_max (get s.core.in_use id) = subst (λ (c : Core). (id : ℕ) → SlotAllowed c.alias_max (get c.in_use id)) (sym e) i.allowed in
+    let same : packets_of s.core.limit s.core.in_use ≡ packets_of w.session.core.limit w.session.core.in_use = ap (λ (c : Core). packets_of c.limit c.in_use) e in
     subst (λ r. Again w (resumed (record w { session = s; up = []; down = [] }) r)) (sym (sends_again s sound allowed))
-    (subst (λ ps. Again w (record w { session = after_sent (packets_of s.core.limit s.core.held) (held_again s.core.held) (cleaned s) 0; up = ps; down = [] })) (sym same) (sent_on w (after_sent (packets_of s.core.limit s.core.held) (held_again s.core.held) (cleaned s) 0) m (ap marked e) i))
+    (subst (λ ps. Again w (record w { session = after_sent (packets_of s.core.limit s.core.in_use) (in_use_again s.core.in_use) (cleaned s) 0; up = ps; down = [] })) (sym same) (sent_on w (after_sent (packets_of s.core.limit s.core.in_use) (in_use_again s.core.in_use) (cleaned s) 0) m (ap marked e) i))
 
 pub loss_step : (w : World) (m : Option ℕ) → Inv w → Again w (resumes (takes (record w { up = []; down = [] }) (taken_back m)))
-unfolding inc
+unfolding on_packet
 loss_step w None i = back_step w _ w.session.core.current refl i
 loss_step w (Some m) i = back_step w _ _ refl i

@@ -7,12 +7,12 @@ use Rattle.std.specs.Ordering.{nat_cmp, eq_by_cmp}
 use Rattle.std.specs.Cmp.{nat_cmp_total, unsigned_tied}
 use Rattle.std.specs.FinMap as map
 use Rattle.std.specs.FinSet as set
-use Rattle.mqtt5_flow.specs.declared.publish.Publish.{Publish}
+use Rattle.mqtt5_publish.specs.declared.publish.Publish.{Publish}
 use Rattle.mqtt5_codec.specs.declared.packet.Packet.{Packet}
 use Rattle.mqtt5_codec.specs.declared.packet.Packet.TheVariants as packets
-use Rattle.mqtt5_held.specs.declared.slot.Slot.{Slot}
-use Rattle.mqtt5_held.specs.Held.{Held}
-use Rattle.mqtt5_held.proofs.Within.{get_insert_same, get_insert_other}
+use Rattle.mqtt5_inflight.specs.declared.slot.Slot.{Slot}
+use Rattle.mqtt5_inflight.specs.InUse.{InUse}
+use Rattle.mqtt5_inflight.proofs.Within.{get_insert_same, get_insert_other}
 use Rattle.mqtt5_world.specs.World.{World}
 use Rattle.mqtt5_world.specs.Delivery.{is_acked, is_token_up, is_token_down, Token}
 
@@ -24,10 +24,10 @@ tied_same k = unsigned_tied k k ∙ eq-eqb k k refl
 tied_other : (j k : ℕ) → j ≢ k → eq_by_cmp nat_cmp j k ≡ false
 tied_other j k ne = unsigned_tied j k ∙ ne_eqb j k ne
 
-get_remove_same : (h : Held) (k : ℕ) → map.get (map.remove h k) k ≡ None
+get_remove_same : (h : InUse) (k : ℕ) → map.get (map.remove h k) k ≡ None
 get_remove_same h k = map.get-remove nat_cmp_total h k k ∙ ap (λ b. cond b None (map.get h k)) (tied_same k)
 
-pub get_remove_other : (h : Held) (k j : ℕ) → j ≢ k → map.get (map.remove h k) j ≡ map.get h j
+pub get_remove_other : (h : InUse) (k j : ℕ) → j ≢ k → map.get (map.remove h k) j ≡ map.get h j
 get_remove_other h k j ne = map.get-remove nat_cmp_total h k j ∙ ap (λ b. cond b None (map.get h j)) (tied_other j k ne)
 
 abbrev Ids : Type 0
@@ -78,13 +78,13 @@ publish_token p e = λ j. ap (λ b. b && (p.pkid == j)) e
 
 -- what tokens are about
 pub record View : Type 0 where
-  pub held : Held
+  pub in_use : InUse
   pub ids : Ids
   pub up : List Packet
   pub down : List Packet
 
 abbrev pub view_of : World → View
-view_of w = record { held = w.session.core.held; ids = w.broker.ids; up = w.up; down = w.down }
+view_of w = record { in_use = w.session.core.in_use; ids = w.broker.ids; up = w.up; down = w.down }
 
 pub record Place : Type 0 where
   pub slot : Option Slot
@@ -93,7 +93,7 @@ pub record Place : Type 0 where
   pub down : List Packet
 
 abbrev pub place : View → ℕ → Place
-place v id = record { slot = map.get v.held id; has = set.contains v.ids id; up = filter (is_token_up id) v.up; down = filter (is_token_down id) v.down }
+place v id = record { slot = map.get v.in_use id; has = set.contains v.ids id; up = filter (is_token_up id) v.up; down = filter (is_token_down id) v.down }
 
 abbrev pub TokenAt : ℕ → Place → Type 0
 TokenAt id p = Token id p.slot p.has p.up p.down
@@ -117,20 +117,20 @@ then_turn s t = record { before = s.before; after = t.after; elsewhere = λ j ne
 
 -- ---- turns of one part
 
-pub set_slot : {v : View} {k : ℕ} {a : Place} (x : Slot) → place v k ≡ a → Turn v (record v { held = map.insert v.held k x }) k a (record a { slot = Some x })
+pub set_slot : {v : View} {k : ℕ} {a : Place} (x : Slot) → place v k ≡ a → Turn v (record v { in_use = map.insert v.in_use k x }) k a (record a { slot = Some x })
 set_slot {v = v} {k = k} x e =
     record {
       before = e;
-      after = λ i. record (e i) { slot = get_insert_same v.held k x i };
-      elsewhere = λ j ne i. record (place v j) { slot = get_insert_other v.held k x j ne i };
+      after = λ i. record (e i) { slot = get_insert_same v.in_use k x i };
+      elsewhere = λ j ne i. record (place v j) { slot = get_insert_other v.in_use k x j ne i };
     }
 
-pub unset_slot : {v : View} {k : ℕ} {a : Place} → place v k ≡ a → Turn v (record v { held = map.remove v.held k }) k a (record a { slot = None })
+pub unset_slot : {v : View} {k : ℕ} {a : Place} → place v k ≡ a → Turn v (record v { in_use = map.remove v.in_use k }) k a (record a { slot = None })
 unset_slot {v = v} {k = k} e =
     record {
       before = e;
-      after = λ i. record (e i) { slot = get_remove_same v.held k i };
-      elsewhere = λ j ne i. record (place v j) { slot = get_remove_other v.held k j ne i };
+      after = λ i. record (e i) { slot = get_remove_same v.in_use k i };
+      elsewhere = λ j ne i. record (place v j) { slot = get_remove_other v.in_use k j ne i };
     }
 
 pub add_id : {v : View} {k : ℕ} {a : Place} → place v k ≡ a → Turn v (record v { ids = set.insert v.ids k }) k a (record a { has = true })

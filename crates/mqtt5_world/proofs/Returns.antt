@@ -5,26 +5,26 @@ use Rattle.std.specs.FinMap.{get, insert, remove}
 use Rattle.std.specs.FinSet as set
 use Rattle.mqtt5_base.specs.declared.quality.QoS.{QoS}
 use Rattle.mqtt5_base.specs.declared.quality.QoS.TheVariants.{AtMostOnce, AtLeastOnce, ExactlyOnce}
-use Rattle.mqtt5_flow.specs.declared.publish.Publish.{Publish}
-use Rattle.mqtt5_flow.specs.declared.puback.PubAck.{PubAck}
-use Rattle.mqtt5_flow.specs.declared.puback.PubAckReason.TheVariants.{Success}
-use Rattle.mqtt5_flow.specs.declared.pubrec.PubRec.{PubRec}
-use Rattle.mqtt5_flow.specs.declared.pubcomp.PubComp.{PubComp}
+use Rattle.mqtt5_publish.specs.declared.publish.Publish.{Publish}
+use Rattle.mqtt5_publish.specs.declared.puback.PubAck.{PubAck}
+use Rattle.mqtt5_publish.specs.declared.puback.PubAckReason.TheVariants.{Success}
+use Rattle.mqtt5_publish.specs.declared.pubrec.PubRec.{PubRec}
+use Rattle.mqtt5_publish.specs.declared.pubcomp.PubComp.{PubComp}
 use Rattle.mqtt5_codec.specs.declared.packet.Packet.{Packet}
 use Rattle.mqtt5_codec.specs.declared.packet.Packet.TheVariants as packets
-use Rattle.mqtt5_held.specs.declared.slot.Slot.{Slot}
-use Rattle.mqtt5_held.specs.declared.slot.Slot.TheVariants.{Sent, Released}
-use Rattle.mqtt5_held.specs.declared.event.Event.{Event}
-use Rattle.mqtt5_held.specs.declared.event.Outgoing.TheVariants as outgoing
-use Rattle.mqtt5_held.proofs.Within.{IsUsed}
-use Rattle.mqtt5_session.specs.Release.{IsCounted}
-use Rattle.mqtt5_session.specs.Session.{Session, Answer, tells}
+use Rattle.mqtt5_inflight.specs.declared.slot.Slot.{Slot}
+use Rattle.mqtt5_inflight.specs.declared.slot.Slot.TheVariants.{Sent, Released}
+use Rattle.mqtt5_inflight.specs.declared.event.Event.{Event}
+use Rattle.mqtt5_inflight.specs.declared.event.Outgoing.TheVariants as outgoing
+use Rattle.mqtt5_inflight.proofs.Within.{IsUsed}
+use Rattle.mqtt5_session.specs.Freeing.{IsCounted}
+use Rattle.mqtt5_session.specs.Session.{Session, Answer, with_event}
 use Rattle.mqtt5_session.specs.Requests.{release_of}
-use Rattle.mqtt5_session.specs.Packets.{inc, hears, freed_for, on_puback, on_received, on_pubrec, on_pubcomp, is_taken}
+use Rattle.mqtt5_session.specs.Packets.{on_packet, with_incoming, freed_for, on_puback, on_received, on_pubrec, on_pubcomp, is_taken}
 use Rattle.mqtt5_session.specs.Packets as session
 use Rattle.mqtt5_session.proofs.Owed.{choose}
 use Rattle.mqtt5_session.proofs.Keeps.{Sound, inc_sound}
-use Rattle.mqtt5_world.specs.World.{World, heard, returns}
+use Rattle.mqtt5_world.specs.World.{World, after_reply, returns}
 use Rattle.mqtt5_world.specs.Delivery.{is_acked, is_token_up, is_token_down, Free, PubRelUp}
 use Rattle.mqtt5_world.proofs.Places.{view_of, Place, place, TokenAt, IsTokenOf, then_turn, set_slot, unset_slot, push_up, pop_down, publish_token, more_up}
 use Rattle.mqtt5_world.proofs.Tokens.{ack_down, rec_down, comp_down, comes_down, place_down, stored_token}
@@ -40,7 +40,7 @@ counted_acked ExactlyOnce ne = refl
 
 -- the world after the session took the packet in front
 abbrev after : World → List Packet → Answer → World
-after w rest a = heard (record w { down = rest }) a.0 a.1
+after w rest a = after_reply (record w { down = rest }) a.0 a.1
 
 -- nothing that is said of the id is due any more
 abbrev Settled : Option Slot → Bool → Type 0
@@ -56,7 +56,7 @@ module _ (w : World) (i : Inv w) (events : List Event) (k : ℕ) (rest : List Pa
   is = used w i k slot (ap (λ (p : Place). p.slot) at)
 
   -- none goes out
-  alone_step : Sound (session.takes (record hearing { core = record w.session.core { held = remove w.session.core.held k } }) 0).1.core → Step w (after w rest (session.takes (record hearing { core = record w.session.core { held = remove w.session.core.held k } }) 0))
+  alone_step : Sound (session.takes (record hearing { core = record w.session.core { in_use = remove w.session.core.in_use k } }) 0).1.core → Step w (after w rest (session.takes (record hearing { core = record w.session.core { in_use = remove w.session.core.in_use k } }) 0))
   alone_step sound =
       let t1 = pop_down x rest own d at in
       let t2 = unset_slot t1.after in
@@ -76,8 +76,8 @@ module _ (w : World) (i : Inv w) (events : List Event) (k : ℕ) (rest : List Pa
   abbrev going : Publish → Answer
   going p = (
     Ok (Some (packets.Publish p)),
-    record (tells hearing (outgoing.Publish k)) {
-      core = record w.session.core { held = insert w.session.core.held k (Sent p); waiting = None };
+    record (with_event hearing (outgoing.Publish k)) {
+      core = record w.session.core { in_use = insert w.session.core.in_use k (Sent p); waiting = None };
       collision_pings = 0;
       last_incoming = 0;
     },
@@ -112,18 +112,18 @@ module _ (w : World) (i : Inv w) (events : List Event) (k : ℕ) (rest : List Pa
   freed_step : (o : Option Publish) → w.session.core.waiting ≡ o → Sound (freed_for o hearing k 0).1.core → Step w (after w rest (freed_for o hearing k 0))
   freed_step None e sound = alone_step sound
   freed_step (Some p) e sound =
-      choose (λ a. Sound a.1.core → Step w (after w rest a)) (p.pkid == k) (going p) (session.takes (record hearing { core = record w.session.core { held = remove w.session.core.held k } }) 0)
+      choose (λ a. Sound a.1.core → Step w (after w rest a)) (p.pkid == k) (going p) (session.takes (record hearing { core = record w.session.core { in_use = remove w.session.core.in_use k } }) 0)
       (λ same. going_step p e (eqb-true p.pkid k same))
       (λ other. alone_step)
       sound
 
 -- ---- acks
 
-puback_step : (w : World) (a : PubAck) (rest : List Packet) → w.down ≡ packets.PubAck a ∷ rest → Inv w → Sound (inc w.session (packets.PubAck a) 0).1.core → Step w (after w rest (inc w.session (packets.PubAck a) 0))
-unfolding inc
+puback_step : (w : World) (a : PubAck) (rest : List Packet) → w.down ≡ packets.PubAck a ∷ rest → Inv w → Sound (on_packet w.session (packets.PubAck a) 0).1.core → Step w (after w rest (on_packet w.session (packets.PubAck a) 0))
+unfolding on_packet
 puback_step w a rest d i sound =
-    subst (λ s. Sound (on_puback s (hears w.session x) k 0).1.core → Step w (after w rest (on_puback s (hears w.session x) k 0))) (sym f.1)
-    (freed_step w i (hears w.session x).events k rest x (Sent f.0) (λ j. refl) d at (settled f.0 f.2) w.session.core.waiting refl)
+    subst (λ s. Sound (on_puback s (with_incoming w.session x) k 0).1.core → Step w (after w rest (on_puback s (with_incoming w.session x) k 0))) (sym f.1)
+    (freed_step w i (with_incoming w.session x).events k rest x (Sent f.0) (λ j. refl) d at (settled f.0 f.2) w.session.core.waiting refl)
     sound
   where
     k : ℕ
@@ -135,7 +135,7 @@ puback_step w a rest d i sound =
     front : place (view_of w) k ≡ record (place (view_of w) k) { down = x ∷ filter (is_token_down k) rest }
     front = place_down (view_of w) x rest k (eq-eqb k k refl) d
 
-    f : (p : Publish) × (get w.session.core.held k ≡ Some (Sent p)) × (p.qos ≡ AtLeastOnce) × (set.contains w.broker.ids k ≡ false) × (filter (is_token_up k) w.up ≡ []) × (filter (is_token_down k) rest ≡ [])
+    f : (p : Publish) × (get w.session.core.in_use k ≡ Some (Sent p)) × (p.qos ≡ AtLeastOnce) × (set.contains w.broker.ids k ≡ false) × (filter (is_token_up k) w.up ≡ []) × (filter (is_token_down k) rest ≡ [])
     f = ack_down (subst (TokenAt k) front (i.tokens k))
 
     at : place (view_of w) k ≡ record { slot = Some (Sent f.0); has = false; up = []; down = x ∷ [] }
@@ -146,11 +146,11 @@ puback_step w a rest d i sound =
     settled p e AtLeastOnce test c = and_no (test p)
     settled p e ExactlyOnce test c = ap (λ b. b && true) (of_other AtLeastOnce c p e (λ y. absurd cc))
 
-pubcomp_step : (w : World) (a : PubComp) (rest : List Packet) → w.down ≡ packets.PubComp a ∷ rest → Inv w → Sound (inc w.session (packets.PubComp a) 0).1.core → Step w (after w rest (inc w.session (packets.PubComp a) 0))
-unfolding inc
+pubcomp_step : (w : World) (a : PubComp) (rest : List Packet) → w.down ≡ packets.PubComp a ∷ rest → Inv w → Sound (on_packet w.session (packets.PubComp a) 0).1.core → Step w (after w rest (on_packet w.session (packets.PubComp a) 0))
+unfolding on_packet
 pubcomp_step w a rest d i sound =
-    subst (λ s. Sound (on_pubcomp s (hears w.session x) k 0).1.core → Step w (after w rest (on_pubcomp s (hears w.session x) k 0))) (sym f.0)
-    (freed_step w i (hears w.session x).events k rest x Released (λ j. refl) d at (λ q test c. refl) w.session.core.waiting refl)
+    subst (λ s. Sound (on_pubcomp s (with_incoming w.session x) k 0).1.core → Step w (after w rest (on_pubcomp s (with_incoming w.session x) k 0))) (sym f.0)
+    (freed_step w i (with_incoming w.session x).events k rest x Released (λ j. refl) d at (λ q test c. refl) w.session.core.waiting refl)
     sound
   where
     k : ℕ
@@ -162,7 +162,7 @@ pubcomp_step w a rest d i sound =
     front : place (view_of w) k ≡ record (place (view_of w) k) { down = x ∷ filter (is_token_down k) rest }
     front = place_down (view_of w) x rest k (eq-eqb k k refl) d
 
-    f : (get w.session.core.held k ≡ Some Released) × (set.contains w.broker.ids k ≡ false) × (filter (is_token_up k) w.up ≡ []) × (filter (is_token_down k) rest ≡ [])
+    f : (get w.session.core.in_use k ≡ Some Released) × (set.contains w.broker.ids k ≡ false) × (filter (is_token_up k) w.up ≡ []) × (filter (is_token_down k) rest ≡ [])
     f = comp_down (subst (TokenAt k) front (i.tokens k))
 
     at : place (view_of w) k ≡ record { slot = Some Released; has = false; up = []; down = x ∷ [] }
@@ -192,12 +192,12 @@ released_step w i events k rest x p own d at sound =
     none_due AtLeastOnce test c = and_no (test p)
     none_due ExactlyOnce test c = and_no (test p)
 
-pubrec_step : (w : World) (a : PubRec) (rest : List Packet) → w.down ≡ packets.PubRec a ∷ rest → Inv w → Sound (inc w.session (packets.PubRec a) 0).1.core → Step w (after w rest (inc w.session (packets.PubRec a) 0))
-unfolding inc
+pubrec_step : (w : World) (a : PubRec) (rest : List Packet) → w.down ≡ packets.PubRec a ∷ rest → Inv w → Sound (on_packet w.session (packets.PubRec a) 0).1.core → Step w (after w rest (on_packet w.session (packets.PubRec a) 0))
+unfolding on_packet
 pubrec_step w a rest d i sound =
-    subst (λ s. Sound (on_pubrec s (hears w.session x) a.reason k 0).1.core → Step w (after w rest (on_pubrec s (hears w.session x) a.reason k 0))) (sym f.1)
-    (subst (λ b. Sound (on_received b (hears w.session x) k 0).1.core → Step w (after w rest (on_received b (hears w.session x) k 0))) (sym (ap is_taken f.6))
-    (released_step w i (hears w.session x).events k rest x f.0 (λ j. refl) d at))
+    subst (λ s. Sound (on_pubrec s (with_incoming w.session x) a.reason k 0).1.core → Step w (after w rest (on_pubrec s (with_incoming w.session x) a.reason k 0))) (sym f.1)
+    (subst (λ b. Sound (on_received b (with_incoming w.session x) k 0).1.core → Step w (after w rest (on_received b (with_incoming w.session x) k 0))) (sym (ap is_taken f.6))
+    (released_step w i (with_incoming w.session x).events k rest x f.0 (λ j. refl) d at))
     sound
   where
     k : ℕ
@@ -209,7 +209,7 @@ pubrec_step w a rest d i sound =
     front : place (view_of w) k ≡ record (place (view_of w) k) { down = x ∷ filter (is_token_down k) rest }
     front = place_down (view_of w) x rest k (eq-eqb k k refl) d
 
-    f : (p : Publish) × (get w.session.core.held k ≡ Some (Sent p)) × (p.qos ≡ ExactlyOnce) × (set.contains w.broker.ids k ≡ true) × (filter (is_token_up k) w.up ≡ []) × (filter (is_token_down k) rest ≡ []) × (a.reason ≡ Success)
+    f : (p : Publish) × (get w.session.core.in_use k ≡ Some (Sent p)) × (p.qos ≡ ExactlyOnce) × (set.contains w.broker.ids k ≡ true) × (filter (is_token_up k) w.up ≡ []) × (filter (is_token_down k) rest ≡ []) × (a.reason ≡ Success)
     f = rec_down (subst (TokenAt k) front (i.tokens k))
 
     at : place (view_of w) k ≡ record { slot = Some (Sent f.0); has = true; up = []; down = x ∷ [] }

@@ -5,8 +5,8 @@ use Rattle.std.specs.FinMap.{get, get-empty}
 use Rattle.std.specs.FinSet as set
 use Rattle.mqtt5_base.specs.declared.quality.QoS.{QoS}
 use Rattle.mqtt5_base.specs.declared.quality.QoS.TheVariants.{AtMostOnce, AtLeastOnce, ExactlyOnce}
-use Rattle.mqtt5_flow.specs.declared.publish.Publish.{Publish}
-use Rattle.mqtt5_held.proofs.Within.{no_ids, Fits}
+use Rattle.mqtt5_publish.specs.declared.publish.Publish.{Publish}
+use Rattle.mqtt5_inflight.proofs.Within.{no_ids, Fits}
 use Rattle.mqtt5_world.specs.declared.event.WorldEvent.{WorldEvent}
 use Rattle.mqtt5_world.specs.declared.event.WorldEvent.TheVariants as events
 use Rattle.mqtt5_world.specs.World.{World, start, happens, run, losses}
@@ -25,16 +25,16 @@ no_id = set.empty
 none_has : (k : ℕ) → set.contains no_id k ≡ false
 none_has k = set.contains-empty nat_cmp k
 
-none_held : (k : ℕ) → get no_ids k ≡ None
-none_held k = get-empty nat_cmp k
+none_in_use : (k : ℕ) → get no_ids k ≡ None
+none_in_use k = get-empty nat_cmp k
 
 pub inv_start : (limit : ℕ) → Inv (start limit)
 inv_start limit =
     record {
-      sound = (λ k. subst (Fits limit k) (sym (none_held k)) (tt {0}), tt {0});
-      allowed = λ k. subst (SlotAllowed 0) (sym (none_held k)) (tt {0});
+      sound = (λ k. subst (Fits limit k) (sym (none_in_use k)) (tt {0}), tt {0});
+      allowed = λ k. subst (SlotAllowed 0) (sym (none_in_use k)) (tt {0});
       waits = tt {0};
-      tokens = λ k. subst (λ x. Token k x (set.contains no_id k) [] []) (sym (none_held k)) (subst (λ b. Token k None b [] []) (sym (none_has k)) Free);
+      tokens = λ k. subst (λ x. Token k x (set.contains no_id k) [] []) (sym (none_in_use k)) (subst (λ b. Token k None b [] []) (sym (none_has k)) Free);
       none = refl;
     }
 
@@ -111,7 +111,7 @@ one_and true false = omega arith
 one_and false b = omega arith
 
 due_stored : (q : QoS) (test : Publish → Bool) (w : World) → due q test w ≤ stored test w
-due_stored q test w = sum_less w.session.core.limit _ _ (λ j. one_and (is_sent test (get w.session.core.held j)) _)
+due_stored q test w = sum_less w.session.core.limit _ _ (λ j. one_and (is_sent test (get w.session.core.in_use j)) _)
 
 once_loss : (n : ℕ) (test : Publish → Bool) → IsClass AtLeastOnce test → (w w' : World) → Again w w' → Once n test w → Once (n + 1) test w'
 once_loss n test c w w' a o =
@@ -160,10 +160,10 @@ light_run test c (e ∷ es) w i t = light_run test c es (happens w e) (inv_next 
 -- ---- from the start
 
 none_due : (q : QoS) (test : Publish → Bool) (limit : ℕ) → due q test (start limit) ≡ 0
-none_due q test limit = sum_none limit _ (λ j. ap (λ x. one (is_sent test x && is_due q (set.contains no_id j) [])) (none_held j))
+none_due q test limit = sum_none limit _ (λ j. ap (λ x. one (is_sent test x && is_due q (set.contains no_id j) [])) (none_in_use j))
 
 none_stored : (test : Publish → Bool) (limit : ℕ) → stored test (start limit) ≡ 0
-none_stored test limit = sum_none limit _ (λ j. ap (λ x. one (is_sent test x)) (none_held j))
+none_stored test limit = sum_none limit _ (λ j. ap (λ x. one (is_sent test x)) (none_in_use j))
 
 -- of QoS 0
 pub most : (test : Publish → Bool) → IsClass AtMostOnce test → (limit : ℕ) (es : List WorldEvent) → handed test (run es (start limit)) ≤ accepted test (run es (start limit))

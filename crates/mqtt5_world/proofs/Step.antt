@@ -6,12 +6,12 @@ use Rattle.std.proofs.lemmas.Bool.{cases_eq, false_from_ne_true}
 use Rattle.std.proofs.lemmas.List.Sums.{sum_by-append}
 use Rattle.mqtt5_base.specs.declared.quality.QoS.{QoS}
 use Rattle.mqtt5_base.specs.declared.quality.QoS.TheVariants.{AtMostOnce, AtLeastOnce, ExactlyOnce}
-use Rattle.mqtt5_flow.specs.declared.publish.Publish.{Publish}
+use Rattle.mqtt5_publish.specs.declared.publish.Publish.{Publish}
 use Rattle.mqtt5_codec.specs.declared.packet.Packet.{Packet}
 use Rattle.mqtt5_codec.specs.declared.packet.Packet.TheVariants as packets
-use Rattle.mqtt5_held.specs.declared.slot.Slot.{Slot}
-use Rattle.mqtt5_held.specs.declared.slot.Slot.TheVariants.{Sent}
-use Rattle.mqtt5_held.specs.Aliases.{alias_of, alias_over}
+use Rattle.mqtt5_inflight.specs.declared.slot.Slot.{Slot}
+use Rattle.mqtt5_inflight.specs.declared.slot.Slot.TheVariants.{Sent}
+use Rattle.mqtt5_inflight.specs.Aliases.{alias_of, alias_over}
 use Rattle.mqtt5_session.proofs.Keeps.{Sound}
 use Rattle.mqtt5_world.specs.World.{World}
 use Rattle.mqtt5_world.specs.Delivery.{is_acked, IsClass}
@@ -137,7 +137,7 @@ WaitsAllowed max (Some p) = Allowed max p
 -- of every world that is reached
 pub record Inv (w : World) : Type 0 where
   pub sound : Sound w.session.core
-  pub allowed : (id : ℕ) → SlotAllowed w.session.core.alias_max (get w.session.core.held id)
+  pub allowed : (id : ℕ) → SlotAllowed w.session.core.alias_max (get w.session.core.in_use id)
   pub waits : WaitsAllowed w.session.core.alias_max w.session.core.waiting
   pub tokens : (id : ℕ) → TokenAt id (place (view_of w) id)
   pub none : w.faults ≡ []
@@ -186,8 +186,8 @@ pub record Change (w w' : World) (k : ℕ) (a b : Place) : Type 0 where
   pub ledger : (q : QoS) (test : Publish → Bool) → AckedClass q test → Ledger q test w w' a b
   pub even : (test : Publish → Bool) → IsClass AtMostOnce test → Even test w w'
 
-still_allowed : (w w' : World) → Stays w w' → Inv w → (id : ℕ) → SlotAllowed w'.session.core.alias_max (get w.session.core.held id)
-still_allowed w w' s i id = subst (λ max. SlotAllowed max (get w.session.core.held id)) (sym s.max) (i.allowed id)
+still_allowed : (w w' : World) → Stays w w' → Inv w → (id : ℕ) → SlotAllowed w'.session.core.alias_max (get w.session.core.in_use id)
+still_allowed w w' s i id = subst (λ max. SlotAllowed max (get w.session.core.in_use id)) (sym s.max) (i.allowed id)
 
 -- a sum over ids when one of them changes
 sum_changes : (f : Place → ℕ) (w w' : World) {k : ℕ} {a b : Place} → Turn (view_of w) (view_of w') k a b → 0 < k → k ≤ w.session.core.limit → w'.session.core.limit ≡ w.session.core.limit → sum_to w'.session.core.limit (λ id. f (place (view_of w') id)) + f a ≡ sum_to w.session.core.limit (λ id. f (place (view_of w) id)) + f b

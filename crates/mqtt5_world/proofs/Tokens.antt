@@ -2,16 +2,16 @@
 use Rattle.std.proofs.Common.{◌≡◌, ℕ, Bool, true, false, List, [], ◌∷◌, filter, Option, Some, None, refl, ap, ◌∙◌}
 use Rattle.mqtt5_base.specs.declared.quality.QoS.{QoS}
 use Rattle.mqtt5_base.specs.declared.quality.QoS.TheVariants.{AtMostOnce, AtLeastOnce, ExactlyOnce}
-use Rattle.mqtt5_flow.specs.declared.publish.Publish.{Publish}
-use Rattle.mqtt5_flow.specs.declared.puback.PubAck.{PubAck}
-use Rattle.mqtt5_flow.specs.declared.puback.PubAckReason.TheVariants.{Success}
-use Rattle.mqtt5_flow.specs.declared.pubrec.PubRec.{PubRec}
-use Rattle.mqtt5_flow.specs.declared.pubrel.PubRel.{PubRel}
-use Rattle.mqtt5_flow.specs.declared.pubcomp.PubComp.{PubComp}
+use Rattle.mqtt5_publish.specs.declared.publish.Publish.{Publish}
+use Rattle.mqtt5_publish.specs.declared.puback.PubAck.{PubAck}
+use Rattle.mqtt5_publish.specs.declared.puback.PubAckReason.TheVariants.{Success}
+use Rattle.mqtt5_publish.specs.declared.pubrec.PubRec.{PubRec}
+use Rattle.mqtt5_publish.specs.declared.pubrel.PubRel.{PubRel}
+use Rattle.mqtt5_publish.specs.declared.pubcomp.PubComp.{PubComp}
 use Rattle.mqtt5_codec.specs.declared.packet.Packet.{Packet}
 use Rattle.mqtt5_codec.specs.declared.packet.Packet.TheVariants as packets
-use Rattle.mqtt5_held.specs.declared.slot.Slot.{Slot}
-use Rattle.mqtt5_held.specs.declared.slot.Slot.TheVariants.{Sent, Released}
+use Rattle.mqtt5_inflight.specs.declared.slot.Slot.{Slot}
+use Rattle.mqtt5_inflight.specs.declared.slot.Slot.TheVariants.{Sent, Released}
 use Rattle.mqtt5_world.specs.Delivery.{is_acked, is_token_up, is_token_down, Token, Free, PublishUp, PubAckDown, PublishTwiceUp, PubRecDown, PubRelUp, PubCompDown}
 use Rattle.mqtt5_world.proofs.Places.{View, place, front_here}
 

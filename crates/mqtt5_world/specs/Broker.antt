@@ -4,9 +4,9 @@ use Rattle.std.specs.Ordering.{nat_cmp}
 use Rattle.std.specs.FinSet as set
 use Rattle.mqtt5_base.specs.declared.quality.QoS.{QoS}
 use Rattle.mqtt5_base.specs.declared.quality.QoS.TheVariants.{AtMostOnce, AtLeastOnce, ExactlyOnce}
-use Rattle.mqtt5_flow.specs.declared.publish.Publish.{Publish}
-use Rattle.mqtt5_flow.specs.declared.pubrel.PubRelReason.{PubRelReason}
-use Rattle.mqtt5_flow.specs.declared.pubrel.PubRelReason.TheVariants.{Success, PacketIdentifierNotFound}
+use Rattle.mqtt5_publish.specs.declared.publish.Publish.{Publish}
+use Rattle.mqtt5_publish.specs.declared.pubrel.PubRelReason.{PubRelReason}
+use Rattle.mqtt5_publish.specs.declared.pubrel.PubRelReason.TheVariants.{Success, PacketIdentifierNotFound}
 use Rattle.mqtt5_codec.specs.declared.packet.Packet.{Packet}
 use Rattle.mqtt5_codec.specs.declared.packet.Packet.TheVariants as packets
 use Rattle.mqtt5_session.specs.Packets.{puback_of, pubrec_of, pubcomp_of}

@@ -7,14 +7,14 @@ use Rattle.std.specs.FinMap as map
 use Rattle.std.specs.FinSet as set
 use Rattle.mqtt5_base.specs.declared.quality.QoS.{QoS}
 use Rattle.mqtt5_base.specs.declared.quality.QoS.TheVariants.{AtMostOnce, AtLeastOnce, ExactlyOnce}
-use Rattle.mqtt5_flow.specs.declared.publish.Publish.{Publish}
-use Rattle.mqtt5_flow.specs.contracts.publish.PublishPartialEq.TheImpl as publish
+use Rattle.mqtt5_publish.specs.declared.publish.Publish.{Publish}
+use Rattle.mqtt5_publish.specs.contracts.publish.PublishPartialEq.TheImpl as publish
 use Rattle.mqtt5_codec.specs.declared.packet.Packet.{Packet}
 use Rattle.mqtt5_codec.specs.declared.packet.Packet.TheVariants as packets
-use Rattle.mqtt5_held.specs.declared.slot.Slot.{Slot}
-use Rattle.mqtt5_held.specs.declared.slot.Slot.TheVariants.{Sent, Released}
-use Rattle.mqtt5_held.specs.Held.{awaiting_ack}
-use Rattle.mqtt5_held.specs.Unacked.{again, by_id}
+use Rattle.mqtt5_inflight.specs.declared.slot.Slot.{Slot}
+use Rattle.mqtt5_inflight.specs.declared.slot.Slot.TheVariants.{Sent, Released}
+use Rattle.mqtt5_inflight.specs.InUse.{awaiting_ack}
+use Rattle.mqtt5_inflight.specs.Unacked.{again, by_id}
 use Rattle.mqtt5_session.specs.Session.{Core}
 use Rattle.mqtt5_session.specs.Requests.{release_of}
 use Rattle.mqtt5_session.specs.Packets.{puback_of, pubrec_of, pubcomp_of}
@@ -55,17 +55,17 @@ pub data Token (id : ℕ) : Option Slot → Bool → List Packet → List Packet
 
 -- so it is with an id of a world
 abbrev pub HasOneToken : World → ℕ → Type 0
-HasOneToken w id = Token id (map.get w.session.core.held id) (set.contains w.broker.ids id) (filter (is_token_up id) w.up) (filter (is_token_down id) w.down)
+HasOneToken w id = Token id (map.get w.session.core.in_use id) (set.contains w.broker.ids id) (filter (is_token_up id) w.up) (filter (is_token_down id) w.down)
 
 -- ---- counts
 
 -- the publishes that await an ack, by rising id (4.3.2, 4.3.3)
 abbrev pub stored_in : Core → List Publish
-stored_in c = by_id (λ id slot. option_to_list (awaiting_ack slot)) c.limit c.held
+stored_in c = by_id (λ id slot. option_to_list (awaiting_ack slot)) c.limit c.in_use
 
 -- of them those under an id that isn't among these
 abbrev pub stored_without : set.FinSet nat_cmp → Core → List Publish
-stored_without ids c = by_id (λ id slot. if set.contains ids id then [] else option_to_list (awaiting_ack slot)) c.limit c.held
+stored_without ids c = by_id (λ id slot. if set.contains ids id then [] else option_to_list (awaiting_ack slot)) c.limit c.in_use
 
 -- the publish that waits for its id
 abbrev pub waiting_in : Core → List Publish

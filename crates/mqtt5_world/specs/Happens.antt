@@ -1,7 +1,7 @@
 -- This file serves the logic alone: what a function that plays events answers, and what a report is of.
 use Rattle.std.specs.Prelude.{◌≡◌, ◌≢◌, [], Result, Ok, Err}
-use Rattle.mqtt5_held.specs.declared.error.StateError.{StateError}
-use Rattle.mqtt5_held.specs.declared.error.StateError.TheVariants as errors
+use Rattle.mqtt5_inflight.specs.declared.error.StateError.{StateError}
+use Rattle.mqtt5_inflight.specs.declared.error.StateError.TheVariants as errors
 use Rattle.mqtt5_world.specs.declared.event.Report.{Report}
 use Rattle.mqtt5_world.specs.World.{World}
 

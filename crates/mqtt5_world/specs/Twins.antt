@@ -1,14 +1,14 @@
 -- Two runs of the same calls, of which one takes up its session between them (MQTT 5.0 section 4.4).
 use Rattle.std.specs.Prelude.{◌≡◌, ℕ, List, [], ◌∷◌, Option, Result, map}
 use Rattle.mqtt5_codec.specs.declared.packet.Packet.{Packet}
-use Rattle.mqtt5_held.specs.declared.event.Request.{Request}
-use Rattle.mqtt5_held.specs.declared.event.Request.TheVariants as requests
-use Rattle.mqtt5_held.specs.declared.error.StateError.{StateError}
-use Rattle.mqtt5_held.specs.Unacked.{alias_again, by_id, requests_of}
+use Rattle.mqtt5_inflight.specs.declared.event.Request.{Request}
+use Rattle.mqtt5_inflight.specs.declared.event.Request.TheVariants as requests
+use Rattle.mqtt5_inflight.specs.declared.error.StateError.{StateError}
+use Rattle.mqtt5_inflight.specs.Unacked.{alias_again, by_id, requests_of}
 use Rattle.mqtt5_session.specs.Session.{Session}
-use Rattle.mqtt5_session.specs.Requests.{out, protocol_error}
-use Rattle.mqtt5_session.specs.Packets.{inc}
-use Rattle.mqtt5_session.specs.Cleaning.{cleaned, resume_of}
+use Rattle.mqtt5_session.specs.Requests.{on_request, protocol_error}
+use Rattle.mqtt5_session.specs.Packets.{on_packet}
+use Rattle.mqtt5_session.specs.Resuming.{cleaned, resume_of}
 use Rattle.mqtt5_session.specs.Ledger.{kept_by}
 use Rattle.mqtt5_world.specs.declared.calls.Call.{Call}
 use Rattle.mqtt5_world.specs.declared.calls.Call.TheVariants as calls
@@ -33,15 +33,15 @@ all_said rs = map said rs
 
 -- what a session says to a call (3 and 4.3)
 abbrev pub reply_of : Session → Call → Said
-reply_of s (calls.Outgoing request at) = Answered (out s request at).0
-reply_of s (calls.Incoming packet at) = Answered (inc s packet at).0
-reply_of s calls.Clean = GivenBack (requests_of s.core.limit s.core.held)
+reply_of s (calls.Outgoing request at) = Answered (on_request s request at).0
+reply_of s (calls.Incoming packet at) = Answered (on_packet s packet at).0
+reply_of s calls.Clean = GivenBack (requests_of s.core.limit s.core.in_use)
 reply_of s calls.ProtocolError = Answered (protocol_error s).0
 
 -- the session after it
 abbrev pub after_call : Session → Call → Session
-after_call s (calls.Outgoing request at) = (out s request at).1
-after_call s (calls.Incoming packet at) = (inc s packet at).1
+after_call s (calls.Outgoing request at) = (on_request s request at).1
+after_call s (calls.Incoming packet at) = (on_packet s packet at).1
 after_call s calls.Clean = cleaned s
 after_call s calls.ProtocolError = (protocol_error s).1
 
@@ -63,7 +63,7 @@ taken_up s at = kept_by s (resume_of s at)
 
 -- the topic aliases of publishes that await an ack, by rising id, that are above the broker's maximum (3.2.2.3.8)
 abbrev pub aliases_over : Session → List ℕ
-aliases_over s = by_id (alias_again s.core.alias_max) s.core.limit s.core.held
+aliases_over s = by_id (alias_again s.core.alias_max) s.core.limit s.core.in_use
 
 -- ---- the same replies
 

@@ -1,17 +1,17 @@
 -- A client's session and a broker, over two ordered ways that a lost connection empties (MQTT 5.0 sections 4.2 to 4.4).
 use Rattle.std.specs.Prelude.{ℕ, ◌+◌, true, false, List, [], ◌∷◌, ◌++◌, Option, Some, None, Result, Ok, Err, option_map}
 use Rattle.std.specs.Option.{option_to_list}
-use Rattle.mqtt5_flow.specs.declared.publish.Publish.{Publish}
-use Rattle.mqtt5_link.specs.declared.connack.ConnAckProperties.{ConnAckProperties}
-use Rattle.mqtt5_link.specs.declared.connack.ConnectReturnCode.TheVariants.{Success}
+use Rattle.mqtt5_publish.specs.declared.publish.Publish.{Publish}
+use Rattle.mqtt5_control.specs.declared.connack.ConnAckProperties.{ConnAckProperties}
+use Rattle.mqtt5_control.specs.declared.connack.ConnectReturnCode.TheVariants.{Success}
 use Rattle.mqtt5_codec.specs.declared.packet.Packet.{Packet}
 use Rattle.mqtt5_codec.specs.declared.packet.Packet.TheVariants as packets
-use Rattle.mqtt5_held.specs.declared.event.Request.TheVariants as requests
-use Rattle.mqtt5_held.specs.declared.error.StateError.{StateError}
+use Rattle.mqtt5_inflight.specs.declared.event.Request.TheVariants as requests
+use Rattle.mqtt5_inflight.specs.declared.error.StateError.{StateError}
 use Rattle.mqtt5_session.specs.Session.{Session, fresh}
-use Rattle.mqtt5_session.specs.Requests.{out}
-use Rattle.mqtt5_session.specs.Packets.{inc}
-use Rattle.mqtt5_session.specs.Cleaning.{Sendings, resume_of}
+use Rattle.mqtt5_session.specs.Requests.{on_request}
+use Rattle.mqtt5_session.specs.Packets.{on_packet}
+use Rattle.mqtt5_session.specs.Resuming.{Sendings, resume_of}
 use Rattle.mqtt5_world.specs.declared.event.WorldEvent.{WorldEvent}
 use Rattle.mqtt5_world.specs.declared.event.WorldEvent.TheVariants as events
 use Rattle.mqtt5_world.specs.Broker.{Broker, Served, idle, serve}
@@ -38,7 +38,7 @@ asked w p (Err e) s = record w { session = s; refused = w.refused ++ (p, e) ∷ 
 
 -- a publish is asked for, at moment 0
 abbrev pub asks : World → Publish → World
-asks w p = asked w p (out w.session (requests.Publish p) 0).0 (out w.session (requests.Publish p) 0).1
+asks w p = asked w p (on_request w.session (requests.Publish p) 0).0 (on_request w.session (requests.Publish p) 0).1
 
 -- the broker took a packet: its reply goes down
 abbrev pub served : World → Served → World
@@ -50,13 +50,13 @@ arrives w [] = w
 arrives w (p ∷ rest) = served (record w { up = rest }) (serve w.broker p)
 
 -- the session took a packet: its reply goes up, or it is refused
-abbrev pub heard : World → Result (Option Packet) StateError → Session → World
-heard w (Ok reply) s = record w { session = s; up = w.up ++ option_to_list reply }
-heard w (Err e) s = record w { session = s; faults = w.faults ++ e ∷ [] }
+abbrev pub after_reply : World → Result (Option Packet) StateError → Session → World
+after_reply w (Ok reply) s = record w { session = s; up = w.up ++ option_to_list reply }
+after_reply w (Err e) s = record w { session = s; faults = w.faults ++ e ∷ [] }
 
 -- the session takes a packet, at moment 0
 abbrev pub takes : World → Packet → World
-takes w p = heard w (inc w.session p 0).0 (inc w.session p 0).1
+takes w p = after_reply w (on_packet w.session p 0).0 (on_packet w.session p 0).1
 
 -- the first packet on its way down arrives, if there is one
 abbrev pub returns : World → List Packet → World

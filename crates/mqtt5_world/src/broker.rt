@@ -7,7 +7,7 @@ ghost use Rattle.mqtt5_world.specs.Broker.{idle, serve, serve_publish, reason_fo
 
 use mqtt5_base::{QoS, copied};
 use mqtt5_codec::Packet;
-use mqtt5_flow::{PubAck, PubComp, PubCompReason, PubRec, Publish};
+use mqtt5_publish::{PubAck, PubComp, PubCompReason, PubRec, Publish};
 use mqtt5_session::Ids;
 use std::alloc::{AllocError, Global};
 use std::marker::Model;
@@ -21,8 +21,8 @@ pub struct Broker {
 
 impl Model for Broker {
     ghost use Rattle.std.specs.Coded.{codes};
-    ghost use Rattle.mqtt5_flow.specs.contracts.publish.Publish as publish;
-    ghost use Rattle.mqtt5_held.specs.Codes.{coded_incoming};
+    ghost use Rattle.mqtt5_publish.specs.contracts.publish.Publish as publish;
+    ghost use Rattle.mqtt5_inflight.specs.Codes.{coded_incoming};
     ghost use Rattle.mqtt5_world.specs.Broker as model;
 
     ghost Value = { model.Broker };
@@ -63,8 +63,10 @@ impl Broker {
     }
 
     fn serve_publish(&mut self, publish: &Publish) -> Result<Option<Packet>, AllocError>
-        ensures reply { IfOk result (λ reply. reply ≡ (serve_publish publish.now.qos self.old publish.now).0) }
-        ensures broker { OnOk result (self.new ≡ (serve_publish publish.now.qos self.old publish.now).1) }
+        ensures reply { IfOk result (λ reply. reply
+            ≡ (serve_publish publish.now.qos self.old publish.now).0) }
+        ensures broker { OnOk result
+            (self.new ≡ (serve_publish publish.now.qos self.old publish.now).1) }
     {
         let id = publish.pkid;
         match publish.qos {
@@ -88,7 +90,8 @@ impl Broker {
 
     /// Hands a publish on.
     fn hand_on(&mut self, publish: &Publish) -> Result<(), AllocError>
-        ensures { OnOk result (self.new ≡ record self.old { handed = self.old.handed ++ publish.now ∷ [] }) }
+        ensures { OnOk result
+            (self.new ≡ record self.old { handed = self.old.handed ++ publish.now ∷ [] }) }
     {
         let publish = copied(publish)?;
         self.handed.push(publish)?;

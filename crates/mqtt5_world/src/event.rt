@@ -1,6 +1,6 @@
 //! What happens in a world, and what comes of it.
 
-use mqtt5_flow::Publish;
+use mqtt5_publish::Publish;
 use mqtt5_session::{MqttState, StateError};
 
 /// What happens.

@@ -2,7 +2,7 @@
 
 ghost use Rattle.std.specs.Prelude.{◌≡◌, ◌≢◌, ◌<◌, ◌⊎◌, ℕ, Bool, List, [], ◌∷◌, ◌++◌, IfOk, IfErr, OnOk, IsOk};
 ghost use Rattle.mqtt5_session.specs.Session.{Session, fresh};
-ghost use Rattle.mqtt5_session.specs.Cleaning.{marked, resume_of};
+ghost use Rattle.mqtt5_session.specs.Resuming.{marked, resume_of};
 ghost use Rattle.mqtt5_world.specs.declared.calls.Call.{Call};
 ghost use Rattle.mqtt5_world.specs.Twins.{Answered, said, all_said, reply_of, after_call, after_calls, replies_of, taken_up, aliases_over, SameReplies};
 
@@ -16,14 +16,22 @@ use std::alloc::Global;
 /// sends again what is stored, so on a connection that stands it would send it twice (MQTT 5.0 section 4.4).
 pub fn twin_law()
     // Where no stored alias is above the broker's maximum, the resume is accepted.
-    ensures within { (limit at : ℕ) (manual : Bool) (calls : List Call) → aliases_over (after_calls calls (fresh limit manual)) ≡ [] → IsOk (resume_of (after_calls calls (fresh limit manual)) at) }
+    ensures within { (limit at : ℕ) (manual : Bool) (calls : List Call)
+        → aliases_over (after_calls calls (fresh limit manual)) ≡ []
+        → IsOk (resume_of (after_calls calls (fresh limit manual)) at) }
     // Else the first such alias is why it is refused.
-    ensures over { (limit at alias : ℕ) (manual : Bool) (calls : List Call) (others : List ℕ) → aliases_over (after_calls calls (fresh limit manual)) ≡ alias ∷ others
-        → resume_of (after_calls calls (fresh limit manual)) at ≡ Err (StateError.InvalidAlias alias (after_calls calls (fresh limit manual)).core.alias_max) }
+    ensures over { (limit at alias : ℕ) (manual : Bool) (calls : List Call) (others : List ℕ)
+        → aliases_over (after_calls calls (fresh limit manual)) ≡ alias ∷ others
+        → resume_of (after_calls calls (fresh limit manual)) at
+        ≡ Err
+        (StateError.InvalidAlias alias (after_calls calls (fresh limit manual)).core.alias_max) }
     // It keeps the core, but for dup of the publishes that await their acks.
-    ensures core { (limit at : ℕ) (manual : Bool) (calls : List Call) → marked (taken_up (after_calls calls (fresh limit manual)) at).core ≡ marked (after_calls calls (fresh limit manual)).core }
+    ensures core { (limit at : ℕ) (manual : Bool) (calls : List Call)
+        → marked (taken_up (after_calls calls (fresh limit manual)) at).core
+        ≡ marked (after_calls calls (fresh limit manual)).core }
     // Sessions of one core, but for that, reply the same to any calls.
-    ensures alike { (calls : List Call) (s t : Session) → marked s.core ≡ marked t.core → SameReplies calls (replies_of calls s) (replies_of calls t) }
+    ensures alike { (calls : List Call) (s t : Session) → marked s.core ≡ marked t.core
+        → SameReplies calls (replies_of calls s) (replies_of calls t) }
 {}
 
 /// Runs calls on a new session and then others, without a resume between them and with one at moment 0. `limit`, at
@@ -38,14 +46,19 @@ pub fn twin(
 ) -> Result<Twin, StateError>
     requires { 0 < limit }
     // The replies are those of the session after the first calls, and of the same session resumed.
-    ensures plain { IfOk result (λ t. all_said t.plain.items ≡ replies_of after.now (after_calls before.now (fresh limit manual))) }
-    ensures resumed { IfOk result (λ t. all_said t.resumed.items ≡ replies_of after.now (taken_up (after_calls before.now (fresh limit manual)) 0)) }
+    ensures plain { IfOk result (λ t. all_said t.plain.items
+        ≡ replies_of after.now (after_calls before.now (fresh limit manual))) }
+    ensures resumed { IfOk result (λ t. all_said t.resumed.items
+        ≡ replies_of after.now (taken_up (after_calls before.now (fresh limit manual)) 0)) }
     // What is sent again is the resume's.
-    ensures resent { IfOk result (λ t. resume_of (after_calls before.now (fresh limit manual)) 0 ≡ Ok (t.resent.items, taken_up (after_calls before.now (fresh limit manual)) 0)) }
+    ensures resent { IfOk result (λ t. resume_of (after_calls before.now (fresh limit manual)) 0
+        ≡ Ok (t.resent.items, taken_up (after_calls before.now (fresh limit manual)) 0)) }
     // The replies are the same, but for those to pings.
-    ensures alike { IfOk result (λ t. SameReplies after.now (all_said t.plain.items) (all_said t.resumed.items)) }
+    ensures alike { IfOk result (λ t. SameReplies after.now (all_said t.plain.items)
+        (all_said t.resumed.items)) }
     // Memory or the resume is refused.
-    ensures err { IfErr result (λ e. (e ≡ StateError.OutOfMemory) ⊎ (resume_of (after_calls before.now (fresh limit manual)) 0 ≡ Err e)) }
+    ensures err { IfErr result (λ e. (e ≡ StateError.OutOfMemory)
+        ⊎ (resume_of (after_calls before.now (fresh limit manual)) 0 ≡ Err e)) }
 {
     let mut state = started(alloc, limit, manual, before)?;
     let twin = both(alloc, &mut state, after);
@@ -75,9 +88,12 @@ fn started(alloc: Global, limit: u16, manual: bool, calls: &[Call]) -> Result<Mq
 /// Runs calls without a resume and with one.
 fn both(alloc: Global, state: &mut MqttState, calls: &[Call]) -> Result<Twin, StateError>
     ensures plain { IfOk result (λ t. all_said t.plain.items ≡ replies_of calls.now state.old) }
-    ensures resumed { IfOk result (λ t. all_said t.resumed.items ≡ replies_of calls.now (taken_up state.old 0)) }
-    ensures resent { IfOk result (λ t. resume_of state.old 0 ≡ Ok (t.resent.items, taken_up state.old 0)) }
-    ensures err { IfErr result (λ e. (e ≡ StateError.OutOfMemory) ⊎ (resume_of state.old 0 ≡ Err e)) }
+    ensures resumed { IfOk result (λ t. all_said t.resumed.items
+        ≡ replies_of calls.now (taken_up state.old 0)) }
+    ensures resent { IfOk result (λ t. resume_of state.old 0
+        ≡ Ok (t.resent.items, taken_up state.old 0)) }
+    ensures err { IfErr result (λ e. (e ≡ StateError.OutOfMemory)
+        ⊎ (resume_of state.old 0 ≡ Err e)) }
 {
     let plain = run_copy(alloc, state, calls)?;
     let resent = state.resume(0)?;
@@ -117,7 +133,8 @@ fn run_all(
     calls: &[Call],
     replies: &mut Vec<Reply>,
 ) -> Result<(), StateError>
-    ensures ok { OnOk result (all_said replies.new.items ≡ all_said replies.old.items ++ replies_of calls.now state.old) }
+    ensures ok { OnOk result (all_said replies.new.items
+        ≡ all_said replies.old.items ++ replies_of calls.now state.old) }
     ensures state { OnOk result (state.new ≡ after_calls calls.now state.old) }
     ensures err { IfErr result (λ e. e ≡ StateError.OutOfMemory) }
 {
@@ -129,7 +146,8 @@ fn run_all(
 
 /// Runs a call, and puts the reply after others. S12.
 fn run_one(state: &mut MqttState, call: &Call, replies: &mut Vec<Reply>) -> Result<(), StateError>
-    ensures ok { OnOk result (all_said replies.new.items ≡ all_said replies.old.items ++ reply_of state.old call.now ∷ []) }
+    ensures ok { OnOk result (all_said replies.new.items
+        ≡ all_said replies.old.items ++ reply_of state.old call.now ∷ []) }
     ensures state { OnOk result (state.new ≡ after_call state.old call.now) }
     ensures err { IfErr result (λ e. e ≡ StateError.OutOfMemory) }
 {
@@ -145,14 +163,14 @@ fn reply_of(state: &mut MqttState, call: &Call) -> Result<Reply, StateError>
     ensures err { IfErr result (λ e. e ≡ StateError.OutOfMemory) }
 {
     match call {
-        Call::Outgoing(request, at) => ask(state, request, *at),
-        Call::Incoming(packet, at) => hear(state, packet, *at),
+        Call::Outgoing(request, at) => send_request(state, request, *at),
+        Call::Incoming(packet, at) => receive_packet(state, packet, *at),
         Call::Clean => Ok(Reply::Cleaned(state.clean()?)),
         Call::ProtocolError => unless_memory(state.handle_protocol_error()),
     }
 }
 
-fn ask(state: &mut MqttState, request: &Request, at: u64) -> Result<Reply, StateError>
+fn send_request(state: &mut MqttState, request: &Request, at: u64) -> Result<Reply, StateError>
     ensures ok { IfOk result (λ r. said r ≡ reply_of state.old (Call.Outgoing request.now at)) }
     ensures state { OnOk result (state.new ≡ after_call state.old (Call.Outgoing request.now at)) }
     ensures err { IfErr result (λ e. e ≡ StateError.OutOfMemory) }
@@ -161,7 +179,7 @@ fn ask(state: &mut MqttState, request: &Request, at: u64) -> Result<Reply, State
     unless_memory(state.handle_outgoing_packet(request, at))
 }
 
-fn hear(state: &mut MqttState, packet: &Packet, at: u64) -> Result<Reply, StateError>
+fn receive_packet(state: &mut MqttState, packet: &Packet, at: u64) -> Result<Reply, StateError>
     ensures ok { IfOk result (λ r. said r ≡ reply_of state.old (Call.Incoming packet.now at)) }
     ensures state { OnOk result (state.new ≡ after_call state.old (Call.Incoming packet.now at)) }
     ensures err { IfErr result (λ e. e ≡ StateError.OutOfMemory) }

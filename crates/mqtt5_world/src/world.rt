@@ -10,8 +10,8 @@ use crate::broker::Broker;
 use crate::event::{Report, WorldEvent};
 use mqtt5_base::copied;
 use mqtt5_codec::Packet;
-use mqtt5_flow::Publish;
-use mqtt5_link::{ConnAck, ConnAckProperties, ConnectReturnCode};
+use mqtt5_control::{ConnAck, ConnAckProperties, ConnectReturnCode};
+use mqtt5_publish::Publish;
 use mqtt5_session::{MqttState, Request, StateError};
 use std::alloc::{AllocError, Global};
 use std::collections::VecDeque;
@@ -31,16 +31,16 @@ pub struct World {
 impl Model for World {
     ghost use Rattle.std.specs.Prelude.{[]};
     ghost use Rattle.std.specs.Coded.{codes};
-    ghost use Rattle.mqtt5_flow.specs.contracts.publish.Publish as publish;
+    ghost use Rattle.mqtt5_publish.specs.contracts.publish.Publish as publish;
     ghost use Rattle.mqtt5_codec.specs.contracts.packet.Packet as packet;
-    ghost use Rattle.mqtt5_held.specs.contracts.error.StateError as error;
-    ghost use Rattle.mqtt5_held.specs.Codes.{coded_held, coded_aliases, coded_incoming};
-    ghost use Rattle.mqtt5_held.specs.contracts.event.Event as event;
+    ghost use Rattle.mqtt5_inflight.specs.contracts.error.StateError as error;
+    ghost use Rattle.mqtt5_inflight.specs.Codes.{coded_in_use, coded_aliases, coded_incoming};
+    ghost use Rattle.mqtt5_inflight.specs.contracts.event.Event as event;
     ghost use Rattle.mqtt5_world.specs.World as model;
 
     ghost Value = { model.World };
 
-    ghost coded = { Prim.hlevel (codes, coded_held, coded_aliases, coded_incoming, event.the_row.coded, packet.the_row.coded, error.the_row.coded, publish.the_row.coded) };
+    ghost coded = { Prim.hlevel (codes, coded_in_use, coded_aliases, coded_incoming, event.the_row.coded, packet.the_row.coded, error.the_row.coded, publish.the_row.coded) };
 
     ghost view = { λ a. record {
       session = a.state;
@@ -114,14 +114,14 @@ impl World {
         ensures { Happens result self.new (happens self.old event.now) }
     {
         match event {
-            WorldEvent::Publish(publish) => self.ask(publish),
+            WorldEvent::Publish(publish) => self.send_request(publish),
             WorldEvent::Up => self.go_up(),
             WorldEvent::Down => self.come_down(),
             WorldEvent::Loss(receive_max) => self.lose(alloc, *receive_max),
         }
     }
 
-    fn ask(&mut self, publish: &Publish) -> Result<(), StateError>
+    fn send_request(&mut self, publish: &Publish) -> Result<(), StateError>
         ensures { Happens result self.new (asks self.old publish.now) }
     {
         let asked = copied(publish)?;
@@ -143,7 +143,12 @@ impl World {
     }
 
     fn accept(&mut self, publish: Publish, reply: Option<Packet>) -> Result<(), StateError>
-        ensures ok { OnOk result (self.new ≡ record self.old { up = self.old.up ++ option_to_list reply; accepted = self.old.accepted ++ publish ∷ [] }) }
+        ensures ok { OnOk result
+            (self.new
+            ≡ record self.old {
+              up = self.old.up ++ option_to_list reply;
+              accepted = self.old.accepted ++ publish ∷ [];
+            }) }
         ensures err { IfErr result (λ e. e ≡ StateError.OutOfMemory) }
     {
         if let Err(refused) = send(&mut self.up, reply) {
@@ -155,7 +160,8 @@ impl World {
     }
 
     fn refuse(&mut self, publish: Publish, error: StateError) -> Result<(), StateError>
-        ensures ok { OnOk result (self.new ≡ record self.old { refused = self.old.refused ++ (publish, error) ∷ [] }) }
+        ensures ok { OnOk result
+            (self.new ≡ record self.old { refused = self.old.refused ++ (publish, error) ∷ [] }) }
         ensures err { IfErr result (λ e. e ≡ StateError.OutOfMemory) }
     {
         self.refused.push((publish, error))?;

@@ -5,8 +5,8 @@ use bytes::BytesMut;
 use mqtt5_base::{Error, Sequence};
 use mqtt5_codec::Packet;
 use mqtt5_connect::Login;
-use mqtt5_link::{ConnectReturnCode, DisconnectProperties};
-use mqtt5_subs::{SubAck, Subscribe, SubscribeProperties, SubscribeReasonCode};
+use mqtt5_control::{ConnectReturnCode, DisconnectProperties};
+use mqtt5_subscribe::{SubAck, Subscribe, SubscribeProperties, SubscribeReasonCode};
 use std::alloc::Global;
 use std::test::Fail;
 

@@ -4,8 +4,8 @@ use super::Notes;
 use bytes::Bytes;
 use mqtt5_base::{Error, QoS};
 use mqtt5_codec::Packet;
-use mqtt5_flow::{PingReq, PingResp, PubAck, PubComp, PubCompReason, PubRec, PubRel, Publish};
-use mqtt5_link::{Auth, AuthReasonCode, Disconnect, DisconnectReasonCode};
+use mqtt5_control::{Auth, AuthReasonCode, Disconnect, DisconnectReasonCode};
+use mqtt5_publish::{PingReq, PingResp, PubAck, PubComp, PubCompReason, PubRec, PubRel, Publish};
 use std::alloc::Global;
 use std::test::Fail;
 

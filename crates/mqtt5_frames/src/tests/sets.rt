@@ -2,7 +2,7 @@
 
 use bytes::{Bytes, BytesMut};
 use mqtt5_base::{Error, PropertyBlock, block_len, read_block};
-use mqtt5_flow::AckProperties;
+use mqtt5_publish::AckProperties;
 use std::alloc::Global;
 use std::test::Fail;
 

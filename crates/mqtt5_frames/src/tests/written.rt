@@ -3,7 +3,7 @@
 use super::made::publish_hi;
 use bytes::{Bytes, BytesMut};
 use mqtt5_base::{Error, QoS, Sequence, Text};
-use mqtt5_flow::{AckProperties, PubRec, Publish};
+use mqtt5_publish::{AckProperties, PubRec, Publish};
 use std::alloc::Global;
 use std::test::Fail;
 

@@ -2,9 +2,9 @@
 
 use bytes::Bytes;
 use mqtt5_base::{Error, FixedHeader, QoS};
-use mqtt5_flow::{PingReq, PingResp, PubAckReason, PubRelReason};
-use mqtt5_link::{AuthReasonCode, ConnectReturnCode, Disconnect, DisconnectReasonCode};
-use mqtt5_subs::{RetainForwardRule, SubscribeReasonCode, UnsubAckReason};
+use mqtt5_control::{AuthReasonCode, ConnectReturnCode, Disconnect, DisconnectReasonCode};
+use mqtt5_publish::{PingReq, PingResp, PubAckReason, PubRelReason};
+use mqtt5_subscribe::{RetainForwardRule, SubscribeReasonCode, UnsubAckReason};
 use std::alloc::Global;
 
 fn codes_of_subscribing() -> [u8; 8] {

@@ -2,8 +2,8 @@
 
 use bytes::Bytes;
 use mqtt5_base::{Error, QoS};
-use mqtt5_flow::{Publish, PublishProperties};
-use mqtt5_held::{Aliases, Ids, Slot, Slots, alias_of, alias_over};
+use mqtt5_inflight::{Aliases, Ids, Slot, Slots, alias_of, alias_over};
+use mqtt5_publish::{Publish, PublishProperties};
 use std::alloc::Global;
 use std::test::Fail;
 

@@ -94,7 +94,8 @@ fn connect_numbers(
 
 /// A chain of setters changes what they set, and nothing else.
 fn chain(options: &mut MqttOptions)
-    ensures { options.new ≡ with_properties (record (options.old) { clean_start = false }) (record (properties_of options.old) { topic_alias_max = Some 5 }) }
+    ensures { options.new ≡ with_properties (record (options.old) { clean_start = false })
+        (record (properties_of options.old) { topic_alias_max = Some 5 }) }
 {
     options.set_clean_start(false).set_topic_alias_max(Some(5));
 }

@@ -3,7 +3,7 @@
 use super::{bytes_of, cut, digits_of, show, write_line};
 use bytes::BytesMut;
 use mqtt5_base::{Error, QoS, Sequence};
-use mqtt5_subs::{Filter, RetainForwardRule, Subscribe, Unsubscribe, default_rule};
+use mqtt5_subscribe::{Filter, RetainForwardRule, Subscribe, Unsubscribe, default_rule};
 use std::alloc::Global;
 use std::test::Fail;
 

@@ -5,17 +5,17 @@ ghost use Rattle.std.specs.Prelude.{◌≡◌, ◌+◌, ◌<◌, ◌≤◌, [], 
 ghost use Rattle.std.specs.FinMap as map;
 ghost use Rattle.std.specs.VecDeque.{deque_len, deque_capacity};
 ghost use Rattle.mqtt5_base.specs.declared.quality.QoS.TheVariants.{ExactlyOnce};
-ghost use Rattle.mqtt5_held.specs.Aliases.{alias_of};
-ghost use Rattle.mqtt5_session.specs.Packets.{hears};
-ghost use Rattle.mqtt5_session.specs.Frequent.{held_by, ids_by, awaits_by, told_of, events_by, does, FitsIn, IsAll};
+ghost use Rattle.mqtt5_inflight.specs.Aliases.{alias_of};
+ghost use Rattle.mqtt5_session.specs.Packets.{with_incoming};
+ghost use Rattle.mqtt5_session.specs.Frequent.{in_use_by, ids_by, awaits_by, outgoing_of, events_by, does, FitsIn, IsAll};
 
 use super::MqttState;
 use super::packets::is_taken;
 use crate::reply::Reply;
 use mqtt5_base::QoS;
 use mqtt5_codec::Packet;
-use mqtt5_flow::{PubAck, PubComp, PubCompReason, PubRec, PubRel, PubRelReason, Publish};
-use mqtt5_held::{Event, Ids, Outgoing, Slot, Slots, alias_of};
+use mqtt5_inflight::{Event, Ids, Outgoing, Slot, Slots, alias_of};
+use mqtt5_publish::{PubAck, PubComp, PubCompReason, PubRec, PubRel, PubRelReason, Publish};
 use std::alloc::AllocError;
 use std::collections::VecDeque;
 
@@ -45,7 +45,7 @@ pub(super) struct Effect {
 impl MqttState {
     /// What a packet does beside its event; None for one that may do more.
     #[inline(never)]
-    #[tactic(auto, unfolding(crate::specs::Packets::inc))]
+    #[tactic(auto, unfolding(crate::specs::Packets::on_packet))]
     pub(super) fn prepare(&self, packet: &Packet, at: u64) -> Option<Effect>
         ensures { IfSome result (λ e. IsAll self.now packet.now at e) }
     {
@@ -64,7 +64,7 @@ impl MqttState {
     }
 
     /// A publish without an alias.
-    #[tactic(auto, unfolding(crate::specs::Packets::inc))]
+    #[tactic(auto, unfolding(crate::specs::Packets::on_packet))]
     fn prepare_publish(&self, publish: &Publish, at: u64) -> Option<Effect>
         ensures { IfSome result (λ e. IsAll self.now (Packet.Publish publish.now) at e) }
     {
@@ -85,7 +85,7 @@ impl MqttState {
     }
 
     /// A publish of QoS 2 without an alias, unless it is a duplicate.
-    #[tactic(auto, unfolding(crate::specs::Packets::inc))]
+    #[tactic(auto, unfolding(crate::specs::Packets::on_packet))]
     fn prepare_exactly(&self, publish: &Publish, at: u64) -> Option<Effect>
         requires plain { alias_of publish.now ≡ None }
         requires exactly { publish.now.qos ≡ ExactlyOnce }
@@ -113,7 +113,7 @@ impl MqttState {
     }
 
     /// The ack of a publish, while none waits.
-    #[tactic(auto, unfolding(crate::specs::Packets::inc))]
+    #[tactic(auto, unfolding(crate::specs::Packets::on_packet))]
     fn prepare_puback(&self, ack: &PubAck, at: u64) -> Option<Effect>
         ensures { IfSome result (λ e. IsAll self.now (Packet.PubAck ack.now) at e) }
     {
@@ -128,7 +128,7 @@ impl MqttState {
     }
 
     /// The first ack of a publish that was taken.
-    #[tactic(auto, unfolding(crate::specs::Packets::inc))]
+    #[tactic(auto, unfolding(crate::specs::Packets::on_packet))]
     fn prepare_pubrec(&self, ack: &PubRec, at: u64) -> Option<Effect>
         ensures { IfSome result (λ e. IsAll self.now (Packet.PubRec ack.now) at e) }
     {
@@ -143,7 +143,7 @@ impl MqttState {
     }
 
     /// The release of an id that is there.
-    #[tactic(auto, unfolding(crate::specs::Packets::inc))]
+    #[tactic(auto, unfolding(crate::specs::Packets::on_packet))]
     fn prepare_pubrel(&self, release: &PubRel, at: u64) -> Option<Effect>
         ensures { IfSome result (λ e. IsAll self.now (Packet.PubRel release.now) at e) }
     {
@@ -158,7 +158,7 @@ impl MqttState {
     }
 
     /// The ack of a release, while no publish waits.
-    #[tactic(auto, unfolding(crate::specs::Packets::inc))]
+    #[tactic(auto, unfolding(crate::specs::Packets::on_packet))]
     fn prepare_pubcomp(&self, ack: &PubComp, at: u64) -> Option<Effect>
         ensures { IfSome result (λ e. IsAll self.now (Packet.PubComp ack.now) at e) }
     {
@@ -181,7 +181,7 @@ impl MqttState {
         at: u64,
     ) -> Result<(), AllocError>
         requires { FitsIn self.old.core.limit effect.change }
-        ensures ok { OnOk result (self.new ≡ does effect (hears self.old packet) at) }
+        ensures ok { OnOk result (self.new ≡ does effect (with_incoming self.old packet) at) }
         ensures err { OnErr result (self.new ≡ self.old) }
     {
         if let Err(refused) = make_room(
@@ -212,7 +212,8 @@ fn make_room(
     requires { FitsIn slots.old.limit change }
     ensures events { events.new.items ≡ events.old.items }
     ensures room { OnOk result (deque_len events.new + 2 ≤ deque_capacity events.new) }
-    ensures slots { OnOk result (slots.new ≡ record slots.old { held = held_by change slots.old.held }) }
+    ensures slots { OnOk result
+        (slots.new ≡ record slots.old { in_use = in_use_by change slots.old.in_use }) }
     ensures ids { OnOk result (ids.new ≡ ids_by change ids.old) }
     ensures slots_stay { OnErr result (slots.new ≡ slots.old) }
     ensures ids_stay { OnErr result (ids.new ≡ ids.old) }
@@ -225,7 +226,8 @@ fn make_room(
 #[inline(always)]
 fn change_ids(slots: &mut Slots, ids: &mut Ids, change: Change) -> Result<(), AllocError>
     requires { FitsIn slots.old.limit change }
-    ensures slots { OnOk result (slots.new ≡ record slots.old { held = held_by change slots.old.held }) }
+    ensures slots { OnOk result
+        (slots.new ≡ record slots.old { in_use = in_use_by change slots.old.in_use }) }
     ensures ids { OnOk result (ids.new ≡ ids_by change ids.old) }
     ensures slots_stay { OnErr result (slots.new ≡ slots.old) }
     ensures ids_stay { OnErr result (ids.new ≡ ids.old) }
@@ -250,7 +252,8 @@ fn change_ids(slots: &mut Slots, ids: &mut Ids, change: Change) -> Result<(), Al
 fn release(slots: &mut Slots, id: u16) -> Result<(), AllocError>
     requires low { 0 < id }
     requires high { id ≤ slots.old.limit }
-    ensures ok { OnOk result (slots.new ≡ record slots.old { held = map.insert slots.old.held id Slot.Released }) }
+    ensures ok { OnOk result
+        (slots.new ≡ record slots.old { in_use = map.insert slots.old.in_use id Slot.Released }) }
     ensures err { OnErr result (slots.new ≡ slots.old) }
 {
     slots.insert(id, Slot::Released)
@@ -260,17 +263,17 @@ fn release(slots: &mut Slots, id: u16) -> Result<(), AllocError>
 #[inline(always)]
 fn tell_ack(events: &mut VecDeque<Event>, ack: Reply)
     requires { deque_len events.old < deque_capacity events.old }
-    ensures { events.new.items ≡ events_by (told_of ack) events.old.items }
+    ensures { events.new.items ≡ events_by (outgoing_of ack) events.old.items }
 {
-    if let Some(outgoing) = told_of(ack) {
+    if let Some(outgoing) = outgoing_of(ack) {
         tell(events, outgoing);
     }
 }
 
 /// What is told of an ack.
 #[inline(always)]
-fn told_of(ack: Reply) -> Option<Outgoing>
-    ensures { result ≡ told_of ack }
+fn outgoing_of(ack: Reply) -> Option<Outgoing>
+    ensures { result ≡ outgoing_of ack }
 {
     match ack {
         Reply::Nothing | Reply::Publish(_) | Reply::Disconnect(_) => None,

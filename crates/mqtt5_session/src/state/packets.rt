@@ -2,11 +2,11 @@
 
 ghost use Rattle.std.specs.Prelude.{◌≡◌, ◌<◌, ◌≤◌, IfOk, OnOk, OnErr, Ok, Err, Some, None, is_some, true, false, unwrap_or, option_map, cond, ◌&&◌};
 ghost use Rattle.std.specs.FinSet as set;
-ghost use Rattle.mqtt5_held.specs.Aliases.{alias_of};
-ghost use Rattle.mqtt5_session.specs.Release.{sent_for, held_after, waiting_after, IsCounted};
-ghost use Rattle.mqtt5_session.specs.Session.{Session, Hears, tells};
+ghost use Rattle.mqtt5_inflight.specs.Aliases.{alias_of};
+ghost use Rattle.mqtt5_session.specs.Freeing.{sent_for, in_use_after, waiting_after, IsCounted};
+ghost use Rattle.mqtt5_session.specs.Session.{Session, Receives, with_event};
 ghost use Rattle.mqtt5_session.specs.Requests.{disconnect_of};
-ghost use Rattle.mqtt5_session.specs.Packets.{hears, notes, takes, heard, told, is_exactly_once, freed_for, is_taken, on_received, pubcomp_of, topic_under, topics_with, ids_with, on_qos, aliases_allowed, current_allowed, on_connack, reason_in};
+ghost use Rattle.mqtt5_session.specs.Packets.{with_incoming, with_notice, takes, answer_to, event_of, is_exactly_once, freed_for, is_taken, on_received, pubcomp_of, topic_under, topics_with, ids_with, on_qos, aliases_allowed, current_allowed, on_connack, reason_in};
 
 use super::MqttState;
 use crate::packed::{
@@ -16,20 +16,20 @@ use crate::packed::{
 use bytes::Bytes;
 use mqtt5_base::{QoS, Text, copied};
 use mqtt5_codec::Packet;
-use mqtt5_flow::{
-    PubAck, PubComp, PubCompReason, PubRec, PubRecReason, PubRel, PubRelReason, Publish,
-};
-use mqtt5_held::{Aliases, Event, Ids, Outgoing, Slot, Slots, StateError, alias_of};
-use mqtt5_link::{
+use mqtt5_control::{
     ConnAck, ConnAckProperties, ConnectReturnCode, Disconnect, DisconnectProperties,
     DisconnectReasonCode,
+};
+use mqtt5_inflight::{Aliases, Event, Ids, Outgoing, Slot, Slots, StateError, alias_of};
+use mqtt5_publish::{
+    PubAck, PubComp, PubCompReason, PubRec, PubRecReason, PubRel, PubRelReason, Publish,
 };
 use std::alloc::AllocError;
 
 impl MqttState {
     /// Adds the event of a packet.
-    fn note(&mut self, packet: Packet) -> Result<(), AllocError>
-        ensures ok { OnOk result (self.new ≡ hears self.old packet) }
+    fn push_incoming(&mut self, packet: Packet) -> Result<(), AllocError>
+        ensures ok { OnOk result (self.new ≡ with_incoming self.old packet) }
         ensures err { OnErr result (self.new ≡ self.old) }
     {
         if let Err(refused) = self.events.reserve(1) {
@@ -41,8 +41,10 @@ impl MqttState {
     }
 
     /// Adds the event of a packet and that of its answer.
-    fn note_both(&mut self, packet: Packet, answer: Outgoing, at: u64) -> Result<(), AllocError>
-        ensures ok { OnOk result (self.new ≡ record (tells (hears self.old packet) answer) { last_incoming = at }) }
+    fn push_both(&mut self, packet: Packet, answer: Outgoing, at: u64) -> Result<(), AllocError>
+        ensures ok { OnOk result
+            (self.new ≡ record (with_event (with_incoming self.old packet) answer)
+            { last_incoming = at }) }
         ensures err { OnErr result (self.new ≡ self.old) }
     {
         if let Err(refused) = self.events.reserve(2) {
@@ -57,17 +59,22 @@ impl MqttState {
 
     /// A packet of a type that the session doesn't take.
     pub(super) fn refuse(&mut self, packet: Packet) -> Result<Option<Packet>, StateError>
-        ensures { Hears result self.old self.new (Err StateError.WrongPacket, hears self.old packet) }
+        ensures { Receives result self.old self.new
+            (Err StateError.WrongPacket, with_incoming self.old packet) }
     {
-        self.note(packet)?;
+        self.push_incoming(packet)?;
         Err(StateError::WrongPacket)
     }
 
     /// A packet that has no answer.
-    pub(super) fn take(&mut self, packet: Packet, at: u64) -> Result<Option<Packet>, StateError>
-        ensures { Hears result self.old self.new (takes (hears self.old packet) at) }
+    pub(super) fn accept_silently(
+        &mut self,
+        packet: Packet,
+        at: u64,
+    ) -> Result<Option<Packet>, StateError>
+        ensures { Receives result self.old self.new (takes (with_incoming self.old packet) at) }
     {
-        self.note(packet)?;
+        self.push_incoming(packet)?;
         self.last_incoming = at;
         Ok(None)
     }
@@ -77,35 +84,38 @@ impl MqttState {
         packet: Packet,
         at: u64,
     ) -> Result<Option<Packet>, StateError>
-        ensures { Hears result self.old self.new (takes (record (hears self.old packet) { awaits_ping = false }) at) }
+        ensures { Receives result self.old self.new
+            (takes (record (with_incoming self.old packet) { awaits_ping = false }) at) }
     {
-        self.note(packet)?;
+        self.push_incoming(packet)?;
         self.awaits_ping = false;
         self.last_incoming = at;
         Ok(None)
     }
 
     pub(super) fn hear_puback(&mut self, ack: PubAck, at: u64) -> Result<Option<Packet>, StateError>
-        ensures { Hears result self.old self.new (heard (hears self.old (Packet.PubAck ack)) (Packet.PubAck ack) at) }
+        ensures { Receives result self.old self.new
+            (answer_to (with_incoming self.old (Packet.PubAck ack)) (Packet.PubAck ack) at) }
     {
         let id = ack.pkid;
         if self.slots.sent(id).is_none() {
-            self.note(as_puback(ack))?;
+            self.push_incoming(as_puback(ack))?;
             return Err(StateError::Unsolicited(id));
         }
-        self.free(as_puback(ack), id, at)
+        self.end_id(as_puback(ack), id, at)
     }
 
     pub(super) fn hear_pubrec(&mut self, ack: PubRec, at: u64) -> Result<Option<Packet>, StateError>
-        ensures { Hears result self.old self.new (heard (hears self.old (Packet.PubRec ack)) (Packet.PubRec ack) at) }
+        ensures { Receives result self.old self.new
+            (answer_to (with_incoming self.old (Packet.PubRec ack)) (Packet.PubRec ack) at) }
     {
         let id = ack.pkid;
         if self.slots.sent(id).is_none() {
-            self.note(as_pubrec(ack))?;
+            self.push_incoming(as_pubrec(ack))?;
             return Err(StateError::Unsolicited(id));
         }
         if !is_taken(ack.reason) {
-            return self.free(as_pubrec(ack), id, at);
+            return self.end_id(as_pubrec(ack), id, at);
         }
         self.release_sent(ack, id, at)
     }
@@ -115,21 +125,23 @@ impl MqttState {
         ack: PubComp,
         at: u64,
     ) -> Result<Option<Packet>, StateError>
-        ensures { Hears result self.old self.new (heard (hears self.old (Packet.PubComp ack)) (Packet.PubComp ack) at) }
+        ensures { Receives result self.old self.new
+            (answer_to (with_incoming self.old (Packet.PubComp ack)) (Packet.PubComp ack) at) }
     {
         let id = ack.pkid;
         if !self.slots.is_released(id) {
-            self.note(as_pubcomp(ack))?;
+            self.push_incoming(as_pubcomp(ack))?;
             return Err(StateError::Unsolicited(id));
         }
-        self.free(as_pubcomp(ack), id, at)
+        self.end_id(as_pubcomp(ack), id, at)
     }
 
     /// Makes an id free, and sends the publish that waits for it.
-    fn free(&mut self, packet: Packet, id: u16, at: u64) -> Result<Option<Packet>, StateError>
+    fn end_id(&mut self, packet: Packet, id: u16, at: u64) -> Result<Option<Packet>, StateError>
         requires low { 0 < id }
         requires high { id ≤ self.old.core.limit }
-        ensures { Hears result self.old self.new (freed_for self.old.core.waiting (hears self.old packet) id at) }
+        ensures { Receives result self.old self.new
+            (freed_for self.old.core.waiting (with_incoming self.old packet) id at) }
     {
         if let Err(refused) = self.events.reserve(2) {
             drop(packet);
@@ -156,7 +168,8 @@ impl MqttState {
     fn release_sent(&mut self, ack: PubRec, id: u16, at: u64) -> Result<Option<Packet>, StateError>
         requires low { 0 < id }
         requires high { id ≤ self.old.core.limit }
-        ensures { Hears result self.old self.new (on_received true (hears self.old (Packet.PubRec ack)) id at) }
+        ensures { Receives result self.old self.new
+            (on_received true (with_incoming self.old (Packet.PubRec ack)) id at) }
     {
         self.events.reserve(2)?;
         self.slots.insert(id, Slot::Released)?;
@@ -173,31 +186,38 @@ impl MqttState {
         release: PubRel,
         at: u64,
     ) -> Result<Option<Packet>, StateError>
-        ensures { Hears result self.old self.new (heard (hears self.old (Packet.PubRel release)) (Packet.PubRel release) at) }
+        ensures { Receives result self.old self.new
+            (answer_to (with_incoming self.old (Packet.PubRel release))
+            (Packet.PubRel release) at) }
     {
         let id = release.pkid;
         if !self.incoming.contains(id) {
-            return self.complete(release, PubCompReason::PacketIdentifierNotFound, at);
+            return self.answer_release(release, PubCompReason::PacketIdentifierNotFound, at);
         }
         if release.reason != PubRelReason::Success {
-            return self.drop_id(release, at);
+            return self.forget_id(release, at);
         }
-        let answer = self.complete(release, PubCompReason::Success, at)?;
+        let answer = self.answer_release(release, PubCompReason::Success, at)?;
         self.incoming.remove(id);
         Ok(answer)
     }
 
     /// Answers a release.
-    fn complete(
+    fn answer_release(
         &mut self,
         release: PubRel,
         reason: PubCompReason,
         at: u64,
     ) -> Result<Option<Packet>, StateError>
-        ensures { Hears result self.old self.new (Ok (Some (pubcomp_of release.pkid reason)), record (tells (hears self.old (Packet.PubRel release)) (Outgoing.PubComp release.pkid)) { last_incoming = at }) }
+        ensures { Receives result self.old self.new (
+          Ok (Some (pubcomp_of release.pkid reason)),
+          record
+              (with_event (with_incoming self.old (Packet.PubRel release))
+              (Outgoing.PubComp release.pkid)) { last_incoming = at },
+        ) }
     {
         let pkid = release.pkid;
-        self.note_both(as_pubrel(release), Outgoing::PubComp(pkid), at)?;
+        self.push_both(as_pubrel(release), Outgoing::PubComp(pkid), at)?;
         Ok(Some(as_pubcomp(PubComp {
             pkid,
             reason,
@@ -206,11 +226,16 @@ impl MqttState {
     }
 
     /// Takes out the id of a publish that the broker doesn't go on with.
-    fn drop_id(&mut self, release: PubRel, at: u64) -> Result<Option<Packet>, StateError>
-        ensures { Hears result self.old self.new (takes (record (hears self.old (Packet.PubRel release)) { core = record self.old.core { incoming = set.remove self.old.core.incoming release.pkid } }) at) }
+    fn forget_id(&mut self, release: PubRel, at: u64) -> Result<Option<Packet>, StateError>
+        ensures { Receives result self.old self.new
+            (takes
+            (record (with_incoming self.old (Packet.PubRel release)) {
+              core = record self.old.core
+                  { incoming = set.remove self.old.core.incoming release.pkid };
+            }) at) }
     {
         let pkid = release.pkid;
-        self.note(as_pubrel(release))?;
+        self.push_incoming(as_pubrel(release))?;
         self.incoming.remove(pkid);
         self.last_incoming = at;
         Ok(None)
@@ -221,26 +246,37 @@ impl MqttState {
         mut publish: Publish,
         at: u64,
     ) -> Result<Option<Packet>, StateError>
-        ensures { Hears result self.old self.new (heard (notes self.old (told self.old (Packet.Publish publish))) (Packet.Publish publish) at) }
+        ensures { Receives result self.old self.new
+            (answer_to (with_notice self.old (event_of self.old (Packet.Publish publish)))
+            (Packet.Publish publish) at) }
     {
         let topic = copied(&publish.topic)?;
         let alias = alias_of(&publish);
         let id = publish.pkid;
         let qos = publish.qos;
-        let is_known = name(&self.aliases, &mut publish)?;
-        let told = unless_again(publish, self.incoming.contains(id));
+        let is_known = resolve_topic(&self.aliases, &mut publish)?;
+        let notice = without_duplicate(publish, self.incoming.contains(id));
         if !is_known {
-            return self.refuse_alias(told, at);
+            return self.refuse_alias(notice, at);
         }
-        self.take_publish(told, alias, topic, qos, id, at)
+        self.take_publish(notice, alias, topic, qos, id, at)
     }
 
     /// Answers a publish under an alias that isn't known.
-    fn refuse_alias(&mut self, told: Option<Publish>, at: u64) -> Result<Option<Packet>, StateError>
-        ensures { Hears result self.old self.new (Ok (Some (disconnect_of DisconnectReasonCode.ProtocolError)), record (tells (notes self.old (option_map Packet.Publish told)) Outgoing.Disconnect) { last_incoming = at }) }
+    fn refuse_alias(
+        &mut self,
+        notice: Option<Publish>,
+        at: u64,
+    ) -> Result<Option<Packet>, StateError>
+        ensures { Receives result self.old self.new (
+          Ok (Some (disconnect_of DisconnectReasonCode.ProtocolError)),
+          record
+              (with_event (with_notice self.old (option_map Packet.Publish notice))
+              Outgoing.Disconnect) { last_incoming = at },
+        ) }
     {
         self.events.reserve(2)?;
-        if let Some(publish) = told {
+        if let Some(publish) = notice {
             self.events
                 .push_back_reserved(Event::Incoming(as_publish(publish)));
         }
@@ -253,18 +289,25 @@ impl MqttState {
     /// Keeps the alias and the id of a publish, and answers it.
     fn take_publish(
         &mut self,
-        told: Option<Publish>,
+        notice: Option<Publish>,
         alias: Option<u16>,
         topic: Bytes,
         qos: QoS,
         id: u16,
         at: u64,
     ) -> Result<Option<Packet>, StateError>
-        ensures { Hears result self.old self.new (on_qos qos (record (notes self.old (option_map Packet.Publish told)) { core = record self.old.core { aliases = topics_with alias topic self.old.core.aliases; incoming = ids_with qos self.old.core.incoming id } }) id at) }
+        ensures { Receives result self.old self.new
+            (on_qos qos
+            (record (with_notice self.old (option_map Packet.Publish notice)) {
+              core = record self.old.core {
+                aliases = topics_with alias topic self.old.core.aliases;
+                incoming = ids_with qos self.old.core.incoming id;
+              };
+            }) id at) }
     {
         self.events.reserve(2)?;
-        keep(&mut self.aliases, &mut self.incoming, alias, topic, qos, id)?;
-        if let Some(publish) = told {
+        keep_id_and_topic(&mut self.aliases, &mut self.incoming, alias, topic, qos, id)?;
+        if let Some(publish) = notice {
             self.events
                 .push_back_reserved(Event::Incoming(as_publish(publish)));
         }
@@ -287,23 +330,24 @@ impl MqttState {
         ack: ConnAck,
         at: u64,
     ) -> Result<Option<Packet>, StateError>
-        ensures { Hears result self.old self.new (on_connack ack.code ack.properties (hears self.old (Packet.ConnAck ack)) at) }
+        ensures { Receives result self.old self.new
+            (on_connack ack.code ack.properties (with_incoming self.old (Packet.ConnAck ack)) at) }
     {
         match ack.code {
             ConnectReturnCode::Success => {
                 let alias_max = aliases_allowed(&ack.properties, self.alias_max);
                 let current = current_allowed(&ack.properties, self.slots.limit(), self.current);
-                self.allow(as_connack(ack), alias_max, current, at)
+                self.set_broker_limits(as_connack(ack), alias_max, current, at)
             }
             reason => {
-                self.note(as_connack(ack))?;
+                self.push_incoming(as_connack(ack))?;
                 Err(StateError::ConnFail { reason })
             }
         }
     }
 
     /// Keeps what the broker allows.
-    fn allow(
+    fn set_broker_limits(
         &mut self,
         packet: Packet,
         alias_max: u16,
@@ -311,9 +355,12 @@ impl MqttState {
         at: u64,
     ) -> Result<Option<Packet>, StateError>
         requires { current ≤ self.old.core.limit }
-        ensures { Hears result self.old self.new (takes (record (hears self.old packet) { core = record self.old.core { alias_max = alias_max; current = current } }) at) }
+        ensures { Receives result self.old self.new
+            (takes
+            (record (with_incoming self.old packet)
+            { core = record self.old.core { alias_max = alias_max; current = current } }) at) }
     {
-        self.note(packet)?;
+        self.push_incoming(packet)?;
         self.alias_max = alias_max;
         self.current = current;
         self.last_incoming = at;
@@ -324,11 +371,16 @@ impl MqttState {
         &mut self,
         disconnect: Disconnect,
     ) -> Result<Option<Packet>, StateError>
-        ensures { Hears result self.old self.new (Err (StateError.ServerDisconnect disconnect.reason_code (reason_in disconnect.properties)), hears self.old (Packet.Disconnect disconnect)) }
+        ensures { Receives result self.old self.new (
+          Err (StateError.ServerDisconnect disconnect.reason_code
+              (reason_in disconnect.properties)),
+          with_incoming self.old (Packet.Disconnect
+              disconnect),
+        ) }
     {
         let reason_code = disconnect.reason_code;
         let reason_string = reason_in(&disconnect.properties)?;
-        self.note(disconnect_packet(disconnect))?;
+        self.push_incoming(disconnect_packet(disconnect))?;
         Err(StateError::ServerDisconnect {
             reason_code,
             reason_string,
@@ -356,7 +408,8 @@ fn release(
     requires high { id ≤ slots.old.limit }
     requires counted { IsCounted waiting.old }
     ensures sent { IfOk result (λ sent. sent ≡ sent_for waiting.old id) }
-    ensures slots { OnOk result (slots.new ≡ record slots.old { held = held_after waiting.old slots.old.held id }) }
+    ensures slots { OnOk result
+        (slots.new ≡ record slots.old { in_use = in_use_after waiting.old slots.old.in_use id }) }
     ensures waiting { OnOk result (waiting.new ≡ waiting_after waiting.old id) }
     ensures kept { OnErr result (slots.new ≡ slots.old) }
     ensures waits { OnErr result (waiting.new ≡ waiting.old) }
@@ -375,9 +428,15 @@ fn release(
 }
 
 /// Gives a publish without a topic the one that its alias stands for, and answers whether that is known.
-fn name(topics: &Aliases, publish: &mut Publish) -> Result<bool, AllocError>
-    ensures known { IfOk result (λ known. known ≡ is_some (topic_under (alias_of publish.old) publish.old.topic topics.now)) }
-    ensures topic { OnOk result (publish.new ≡ record publish.old { topic = unwrap_or (topic_under (alias_of publish.old) publish.old.topic topics.now) publish.old.topic }) }
+fn resolve_topic(topics: &Aliases, publish: &mut Publish) -> Result<bool, AllocError>
+    ensures known { IfOk result (λ known. known
+        ≡ is_some (topic_under (alias_of publish.old) publish.old.topic topics.now)) }
+    ensures topic { OnOk result
+        (publish.new
+        ≡ record publish.old {
+          topic = unwrap_or (topic_under (alias_of publish.old) publish.old.topic topics.now)
+              publish.old.topic;
+        }) }
 {
     let Some(alias) = alias_of(publish) else {
         return Ok(true);
@@ -395,7 +454,7 @@ fn name(topics: &Aliases, publish: &mut Publish) -> Result<bool, AllocError>
 }
 
 /// A publish, unless it is a duplicate.
-fn unless_again(publish: Publish, is_kept: bool) -> Option<Publish>
+fn without_duplicate(publish: Publish, is_kept: bool) -> Option<Publish>
     ensures { result ≡ cond (is_exactly_once publish.qos && is_kept) None (Some publish) }
 {
     if publish.qos == QoS::ExactlyOnce && is_kept {
@@ -406,7 +465,7 @@ fn unless_again(publish: Publish, is_kept: bool) -> Option<Publish>
 }
 
 /// Keeps the topic of an alias, and the id of a publish of QoS 2, both or none.
-fn keep(
+fn keep_id_and_topic(
     topics: &mut Aliases,
     ids: &mut Ids,
     alias: Option<u16>,

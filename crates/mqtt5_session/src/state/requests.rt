@@ -5,7 +5,7 @@ ghost use Rattle.mqtt5_base.specs.declared.quality.QoS.TheVariants.{AtMostOnce};
 ghost use Rattle.mqtt5_session.specs.Session.{Session, Sends};
 ghost use Rattle.mqtt5_session.specs.Replies.{in_full};
 ghost use Rattle.mqtt5_session.specs.Planned.{Stores, Plans, IsLeft};
-ghost use Rattle.mqtt5_session.specs.Requests.{id_for, last_after, tells_at, judged, Verdict, out_publish, stored, awaits, out, out_identified, out_release, out_subscribe, out_unsubscribe, pings_with, disconnect_of};
+ghost use Rattle.mqtt5_session.specs.Requests.{id_for, last_after, with_event_at, judged, Verdict, out_publish, stored, awaits, on_request, out_identified, out_release, out_subscribe, out_unsubscribe, pings_with, disconnect_of};
 
 use super::MqttState;
 use crate::packed::{
@@ -14,10 +14,10 @@ use crate::packed::{
 use crate::reply::Reply;
 use mqtt5_base::{QoS, copied};
 use mqtt5_codec::Packet;
-use mqtt5_flow::{PubAck, PubRec, Publish};
-use mqtt5_held::{Event, Outgoing, Request, Slot, StateError, alias_over};
-use mqtt5_link::DisconnectReasonCode;
-use mqtt5_subs::{Subscribe, Unsubscribe};
+use mqtt5_control::DisconnectReasonCode;
+use mqtt5_inflight::{Event, Outgoing, Request, Slot, StateError, alias_over};
+use mqtt5_publish::{PubAck, PubRec, Publish};
+use mqtt5_subscribe::{Subscribe, Unsubscribe};
 use std::alloc::AllocError;
 
 impl MqttState {
@@ -43,7 +43,7 @@ impl MqttState {
 
     /// Tells of what is sent at a moment.
     fn tell_at(&mut self, outgoing: Outgoing, at: u64) -> Result<(), AllocError>
-        ensures ok { OnOk result (self.new ≡ tells_at self.old outgoing at) }
+        ensures ok { OnOk result (self.new ≡ with_event_at self.old outgoing at) }
         ensures err { OnErr result (self.new ≡ self.old) }
     {
         self.tell(outgoing)?;
@@ -54,7 +54,7 @@ impl MqttState {
     /// Does what a publish or a ping does, all but its packet, and answers the packet's id; None of a publish
     /// that has to wait, and of any other request.
     #[inline(never)]
-    #[tactic(auto, unfolding(crate::specs::Requests::out))]
+    #[tactic(auto, unfolding(crate::specs::Requests::on_request))]
     pub(super) fn plan(&mut self, request: &Request, at: u64) -> Result<Option<u16>, StateError>
         ensures { Plans result self.old self.new request.now at }
     {
@@ -65,7 +65,7 @@ impl MqttState {
         }
     }
 
-    #[tactic(auto, unfolding(crate::specs::Requests::out))]
+    #[tactic(auto, unfolding(crate::specs::Requests::on_request))]
     fn plan_publish(&mut self, publish: &Publish, at: u64) -> Result<Option<u16>, StateError>
         ensures { Plans result self.old self.new (Request.Publish publish.now) at }
     {
@@ -76,7 +76,7 @@ impl MqttState {
         self.store_free(publish, id, last, at)
     }
 
-    #[tactic(auto, unfolding(crate::specs::Requests::out))]
+    #[tactic(auto, unfolding(crate::specs::Requests::on_request))]
     fn send_once(&mut self, publish: &Publish, at: u64) -> Result<Option<u16>, StateError>
         requires { publish.now.qos ≡ AtMostOnce }
         ensures { Plans result self.old self.new (Request.Publish publish.now) at }
@@ -110,10 +110,11 @@ impl MqttState {
     }
 
     /// A copy of a publish of QoS 1 or 2 is stored, or waits until its id is free.
-    #[tactic(auto, unfolding(crate::specs::Requests::out))]
+    #[tactic(auto, unfolding(crate::specs::Requests::on_request))]
     pub(super) fn copy_out(&mut self, publish: &Publish, at: u64) -> Result<Reply, StateError>
         requires { publish.now.qos ≢ AtMostOnce }
-        ensures { Sends (in_full result self.new) self.old self.new (out self.old (Request.Publish publish.now) at) }
+        ensures { Sends (in_full result self.new) self.old self.new
+            (on_request self.old (Request.Publish publish.now) at) }
     {
         let (id, last) = self.take_id(publish.pkid);
         self.copy_under(publish, id, last, at)
@@ -129,7 +130,8 @@ impl MqttState {
         requires id { 0 < id }
         requires last { last < self.old.core.limit }
         requires counted { publish.now.qos ≢ AtMostOnce }
-        ensures { Sends (in_full result self.new) self.old self.new (out_identified self.old (record publish.now { pkid = id }) last at) }
+        ensures { Sends (in_full result self.new) self.old self.new
+            (out_identified self.old (record publish.now { pkid = id }) last at) }
     {
         match self.store_free(publish, id, last, at) {
             Ok(Some(stored)) => Ok(Reply::Publish(stored)),
@@ -149,19 +151,23 @@ impl MqttState {
     ) -> Result<Reply, StateError>
         requires last { last < self.old.core.limit }
         requires counted { publish.now.qos ≢ AtMostOnce }
-        ensures { Sends (in_full result self.new) self.old self.new (Ok None, awaits self.old (record publish.now { pkid = id }) last at) }
+        ensures { Sends (in_full result self.new) self.old self.new
+            (Ok None, awaits self.old (record publish.now { pkid = id }) last at) }
     {
         let mut copy = copied(publish)?;
         copy.pkid = id;
-        self.keep(copy, last, at)?;
+        self.park_publish(copy, last, at)?;
         Ok(Reply::Nothing)
     }
 
     /// Whether the id of a publish is free; where it isn't, nothing waits. Takes no memory.
     fn is_free_for(&self, id: u16, publish: &Publish) -> Result<bool, StateError>
-        ensures judged { IfOk result (λ free. judged self.now.core (record publish.now { pkid = id }) ≡ cond free Verdict.Store Verdict.Wait) }
+        ensures judged { IfOk result
+            (λ free. judged self.now.core (record publish.now { pkid = id })
+            ≡ cond free Verdict.Store Verdict.Wait) }
         ensures high { IsOk result → id ≤ self.now.core.limit }
-        ensures err { IfErr result (λ e. judged self.now.core (record publish.now { pkid = id }) ≡ Verdict.Refuse e) }
+        ensures err { IfErr result (λ e. judged self.now.core (record publish.now { pkid = id })
+            ≡ Verdict.Refuse e) }
     {
         if id > self.slots.limit() {
             return Err(StateError::Unsolicited(id));
@@ -185,7 +191,8 @@ impl MqttState {
         requires high { id ≤ self.old.core.limit }
         requires counted { publish.now.qos ≢ AtMostOnce }
         requires last { last < self.old.core.limit }
-        ensures ok { OnOk result (self.new ≡ stored self.old (record publish.now { pkid = id }) last at) }
+        ensures ok { OnOk result
+            (self.new ≡ stored self.old (record publish.now { pkid = id }) last at) }
         ensures err { OnErr result (self.new ≡ self.old) }
     {
         self.events.reserve(1)?;
@@ -208,12 +215,12 @@ impl MqttState {
     {
         let (id, last) = self.take_id(publish.pkid);
         publish.pkid = id;
-        self.keep(publish, last, at)?;
+        self.park_publish(publish, last, at)?;
         Ok(None)
     }
 
     /// Keeps a publish until its id is free.
-    fn keep(&mut self, publish: Publish, last: u16, at: u64) -> Result<(), AllocError>
+    fn park_publish(&mut self, publish: Publish, last: u16, at: u64) -> Result<(), AllocError>
         requires last { last < self.old.core.limit }
         requires counted { publish.qos ≢ AtMostOnce }
         ensures ok { OnOk result (self.new ≡ awaits self.old publish last at) }
@@ -232,7 +239,8 @@ impl MqttState {
     }
 
     pub(super) fn send_pubrel(&mut self, id: u16, at: u64) -> Result<Option<Packet>, StateError>
-        ensures { Sends result self.old self.new (out_release self.old (id_for self.old.core id) (last_after self.old.core id) at) }
+        ensures { Sends result self.old self.new
+            (out_release self.old (id_for self.old.core id) (last_after self.old.core id) at) }
     {
         let (id, last) = self.take_id(id);
         if id > self.slots.limit() {
@@ -281,7 +289,7 @@ impl MqttState {
         Ok(Some(as_unsubscribe(unsubscribe)))
     }
 
-    #[tactic(auto, unfolding(crate::specs::Requests::out))]
+    #[tactic(auto, unfolding(crate::specs::Requests::on_request))]
     fn plan_ping(&mut self, at: u64) -> Result<Option<u16>, StateError>
         ensures { Plans result self.old self.new Request.PingReq at }
     {
@@ -301,21 +309,27 @@ impl MqttState {
     }
 
     pub(super) fn send_disconnect(&mut self, at: u64) -> Result<Option<Packet>, StateError>
-        ensures { Sends result self.old self.new (Ok (Some (disconnect_of DisconnectReasonCode.NormalDisconnection)), tells_at self.old Outgoing.Disconnect at) }
+        ensures { Sends result self.old self.new (
+          Ok (Some (disconnect_of DisconnectReasonCode.NormalDisconnection)),
+          with_event_at
+              self.old Outgoing.Disconnect at,
+        ) }
     {
         self.tell_at(Outgoing::Disconnect, at)?;
         Ok(Some(as_disconnect(DisconnectReasonCode::NormalDisconnection)))
     }
 
     pub(super) fn send_puback(&mut self, ack: PubAck, at: u64) -> Result<Option<Packet>, StateError>
-        ensures { Sends result self.old self.new (Ok (Some (Packet.PubAck ack)), tells_at self.old (Outgoing.PubAck ack.pkid) at) }
+        ensures { Sends result self.old self.new
+            (Ok (Some (Packet.PubAck ack)), with_event_at self.old (Outgoing.PubAck ack.pkid) at) }
     {
         self.tell_at(Outgoing::PubAck(ack.pkid), at)?;
         Ok(Some(as_puback(ack)))
     }
 
     pub(super) fn send_pubrec(&mut self, ack: PubRec, at: u64) -> Result<Option<Packet>, StateError>
-        ensures { Sends result self.old self.new (Ok (Some (Packet.PubRec ack)), tells_at self.old (Outgoing.PubRec ack.pkid) at) }
+        ensures { Sends result self.old self.new
+            (Ok (Some (Packet.PubRec ack)), with_event_at self.old (Outgoing.PubRec ack.pkid) at) }
     {
         self.tell_at(Outgoing::PubRec(ack.pkid), at)?;
         Ok(Some(as_pubrec(ack)))

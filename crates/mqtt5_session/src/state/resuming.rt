@@ -3,13 +3,13 @@
 ghost use Rattle.std.specs.Prelude.{◌≡◌, ◌+◌, ◌≤◌, ◌++◌, IfOk, OnErr, OnOk, length};
 ghost use Rattle.std.specs.List.{filter_map};
 ghost use Rattle.std.specs.VecDeque.{deque_len, deque_capacity};
-ghost use Rattle.mqtt5_held.specs.Held.{IsWithin};
-ghost use Rattle.mqtt5_session.specs.Cleaning.{marked, Resumes};
+ghost use Rattle.mqtt5_inflight.specs.InUse.{IsWithin};
+ghost use Rattle.mqtt5_session.specs.Resuming.{marked, Resumes};
 ghost use Rattle.mqtt5_session.specs.Again.{event_for, moment_after, resumed};
 
 use super::MqttState;
 use mqtt5_codec::Packet;
-use mqtt5_held::{Event, Outgoing, StateError};
+use mqtt5_inflight::{Event, Outgoing, StateError};
 use std::collections::VecDeque;
 
 impl MqttState {
@@ -18,7 +18,7 @@ impl MqttState {
         ensures sends { Resumes result self.old self.new (resumed self.old at) }
         ensures core { OnOk result (self.new.core ≡ marked self.old.core) }
         ensures kept { OnErr result (self.new.core ≡ self.old.core) }
-        ensures within { IsWithin self.old.core.limit self.old.core.held }
+        ensures within { IsWithin self.old.core.limit self.old.core.in_use }
     {
         let max = self.alias_max;
         if let Some(alias) = self.slots.alias_over(max) {

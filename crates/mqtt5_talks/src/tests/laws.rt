@@ -2,7 +2,7 @@
 
 use mqtt5_base::front_laws;
 use mqtt5_client::one_run;
-use mqtt5_drive::{cutting, may_start, twice};
+use mqtt5_drive::{cutting, empty_needs_more, twice};
 use mqtt5_pipe::one_call;
 use std::test::Fail;
 
@@ -10,7 +10,7 @@ use std::test::Fail;
 fn laws(_rt: HostRuntime) -> Result<(), Fail> {
     front_laws();
     cutting();
-    may_start();
+    empty_needs_more();
     twice();
     one_call();
     one_run();

@@ -8,9 +8,9 @@ use super::{add_bytes, cut, number_of, publish_hi, quality_of};
 use mqtt5_base::Error;
 use mqtt5_codec::Codec;
 use mqtt5_drive::{Input, Step};
-use mqtt5_pipe::{Fault, Pipe};
+use mqtt5_pipe::{Pipe, PipeError};
 use mqtt5_session::{MqttState, Request};
-use mqtt5_talk::{Lines, Trouble, new_pipe};
+use mqtt5_talk::{Lines, TalkError, new_pipe};
 use std::alloc::{AllocError, Global};
 use std::io;
 use std::io::{ErrorKind, Read, Write};
@@ -138,7 +138,7 @@ fn publish_step(alloc: Global, quality: &str) -> Result<Step, Error> {
     })
 }
 
-fn asks(alloc: Global, pipe: &mut Pipe, sink: &mut Sink, quality: &str) -> Result<(), Trouble>
+fn asks(alloc: Global, pipe: &mut Pipe, sink: &mut Sink, quality: &str) -> Result<(), TalkError>
     requires { IsReady pipe.old }
 {
     let steps = [publish_step(alloc, quality)?];
@@ -153,7 +153,7 @@ fn takes_steps(
     pipe: &mut Pipe,
     sink: &mut Sink,
     quality: &str,
-) -> Result<(), Trouble>
+) -> Result<(), TalkError>
     requires { IsReady pipe.old }
 {
     if quality.is_empty() {
@@ -162,14 +162,14 @@ fn takes_steps(
     asks(alloc, pipe, sink, quality)
 }
 
-fn turns(pipe: &mut Pipe, ends: &mut Ends, text: &mut String) -> Result<(), Trouble>
+fn turns(pipe: &mut Pipe, ends: &mut Ends, text: &mut String) -> Result<(), TalkError>
     requires { IsReady pipe.old }
 {
     let count = pipe.turn(1, &mut ends.source, &mut ends.sink)?;
     Ok(write!(text, "={count}")?)
 }
 
-fn runs_to_end(pipe: &mut Pipe, ends: &mut Ends) -> Result<(), Trouble>
+fn runs_to_end(pipe: &mut Pipe, ends: &mut Ends) -> Result<(), TalkError>
     requires { IsReady pipe.old }
 {
     Ok(pipe.run_to_end(1, &mut ends.source, &mut ends.sink)?)
@@ -182,7 +182,7 @@ fn calls(
     ends: &mut Ends,
     call: &str,
     text: &mut String,
-) -> Result<(), Trouble>
+) -> Result<(), TalkError>
     requires { IsReady pipe.old }
 {
     let (name, argument) = cut(call, ':');
@@ -208,11 +208,11 @@ fn sets(alloc: Global, pipe: &mut Pipe, ends: &mut Ends, call: &'static str) -> 
 }
 
 /// Adds why a call stopped.
-fn add_trouble(trouble: &Trouble, text: &mut String) -> Result<(), AllocError> {
+fn add_trouble(trouble: &TalkError, text: &mut String) -> Result<(), AllocError> {
     match trouble {
-        Trouble::Failed(Fault::Read(error)) => write!(text, "=reads: {:?}", error.kind()),
-        Trouble::Failed(Fault::Write(error)) => write!(text, "=writes: {:?}", error.kind()),
-        Trouble::Failed(Fault::Unanswered(fault, error)) => {
+        TalkError::Failed(PipeError::Read(error)) => write!(text, "=reads: {:?}", error.kind()),
+        TalkError::Failed(PipeError::Write(error)) => write!(text, "=writes: {:?}", error.kind()),
+        TalkError::Failed(PipeError::Unanswered(fault, error)) => {
             write!(text, "={fault}, {:?}", error.kind())
         }
         other => write!(text, "={other}"),

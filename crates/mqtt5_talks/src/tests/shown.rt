@@ -3,7 +3,7 @@
 use super::{bytes_of, cut};
 use bytes::Bytes;
 use mqtt5_base::{Error, QoS};
-use mqtt5_flow::Publish;
+use mqtt5_publish::Publish;
 use mqtt5_talk::{Lines, Raw, Screen};
 use std::alloc::Global;
 use std::test::Fail;

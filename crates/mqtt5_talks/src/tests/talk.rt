@@ -8,8 +8,8 @@ use mqtt5_base::{Error, QoS, Text};
 use mqtt5_codec::Packet;
 use mqtt5_connect::Connect;
 use mqtt5_pipe::Pipe;
-use mqtt5_subs::{Filter, Subscribe};
-use mqtt5_talk::{Trouble, close, open, publish, receive, subscribe};
+use mqtt5_subscribe::{Filter, Subscribe};
+use mqtt5_talk::{TalkError, close, open, publish, receive, subscribe};
 use std::alloc::Global;
 use std::test::Fail;
 
@@ -46,7 +46,7 @@ fn connect(alloc: Global) -> Result<Packet, Error> {
     Ok(Packet::Connect(connect, None, None))
 }
 
-fn opens(alloc: Global, pipe: &mut Pipe, ends: &mut Ends) -> Result<(), Trouble>
+fn opens(alloc: Global, pipe: &mut Pipe, ends: &mut Ends) -> Result<(), TalkError>
     requires { IsReady pipe.old }
 {
     let connect = connect(alloc)?;
@@ -55,14 +55,19 @@ fn opens(alloc: Global, pipe: &mut Pipe, ends: &mut Ends) -> Result<(), Trouble>
     opened
 }
 
-fn publishes(alloc: Global, pipe: &mut Pipe, ends: &mut Ends, quality: &str) -> Result<(), Trouble>
+fn publishes(
+    alloc: Global,
+    pipe: &mut Pipe,
+    ends: &mut Ends,
+    quality: &str,
+) -> Result<(), TalkError>
     requires { IsReady pipe.old }
 {
     let message = publish_hi(alloc, quality_of(quality))?;
     publish(pipe, message, &mut ends.source, &mut ends.sink)
 }
 
-fn subscribes(alloc: Global, pipe: &mut Pipe, ends: &mut Ends) -> Result<(), Trouble>
+fn subscribes(alloc: Global, pipe: &mut Pipe, ends: &mut Ends) -> Result<(), TalkError>
     requires { IsReady pipe.old }
 {
     let filter = Filter::new(alloc, "a/#", QoS::ExactlyOnce)?;
@@ -70,7 +75,7 @@ fn subscribes(alloc: Global, pipe: &mut Pipe, ends: &mut Ends) -> Result<(), Tro
     subscribe(pipe, wanted, &mut ends.sink)
 }
 
-fn receives(pipe: &mut Pipe, ends: &mut Ends) -> Result<(), Trouble>
+fn receives(pipe: &mut Pipe, ends: &mut Ends) -> Result<(), TalkError>
     requires { IsReady pipe.old }
 {
     receive(pipe, &mut ends.screen, 2, &mut ends.source, &mut ends.sink)
@@ -83,7 +88,7 @@ pub(super) fn talks(
     ends: &mut Ends,
     name: &str,
     argument: &str,
-) -> Result<(), Trouble>
+) -> Result<(), TalkError>
     requires { IsReady pipe.old }
 {
     match name {

@@ -5,7 +5,9 @@ use bytes::BytesMut;
 use clap::{ArgMatches, Command};
 use mqtt5_base::Error;
 use mqtt5_codec::{Codec, Packet};
-use mqtt5_talk::{Trouble, connect_of, connection_options, quality_of, refuse, refuse_words, tell};
+use mqtt5_talk::{
+    TalkError, connect_of, connection_options, quality_of, refuse, refuse_words, tell,
+};
 use std::alloc::{AllocError, Global};
 use std::io::ErrorKind;
 use std::test::Fail;
@@ -84,7 +86,7 @@ fn words_say_the_connect(rt: HostRuntime) -> Result<(), Fail> {
 fn ends_have_a_status(rt: HostRuntime) {
     let mut log = Vec::new(rt.alloc());
     let done = tell(Ok(()), &mut log);
-    let closed = tell(Err(Trouble::Closed), &mut log);
+    let closed = tell(Err(TalkError::Closed), &mut log);
     let told = log.as_slice() == b"error: the connection was closed\n".as_slice();
     let unread = refuse_words(&ErrorKind::InvalidData.into(), &mut log);
     assert!(rt; done == 0 && closed == 1 && told && unread == 2);

@@ -1,7 +1,7 @@
 use Rattle.std.proofs.Common.{[], ◌∷◌, None, ap, ◌∙◌}
-use Rattle.mqtt5_subs.specs.declared.filter.Filter.{Filter}
-use Rattle.mqtt5_subs.specs.declared.subscribe.Subscribe.{Subscribe}
-use Rattle.mqtt5_held.specs.declared.event.Request.TheVariants as requests
+use Rattle.mqtt5_subscribe.specs.declared.filter.Filter.{Filter}
+use Rattle.mqtt5_subscribe.specs.declared.subscribe.Subscribe.{Subscribe}
+use Rattle.mqtt5_inflight.specs.declared.event.Request.TheVariants as requests
 use Rattle.mqtt5_c.proofs.ask.subscribe_of.Goals as goal
 
 abbrev to_one : Filter → Subscribe

@@ -26,7 +26,7 @@ returns-else-needs_more-clause-err c =
     rw c.in-Bytes.is (IfErr-weaker c.take_frames.result _ _ (λ e h rest. stops_on e (leads_same _ _ _ _ (extends _ _ rest _ _ _ _ c.requires grown)) (h rest)) c.take_frames.ensures.err)
 
 pub returns-in-Request-clause-ok : goal.returns-in-Request-clause-ok
-returns-in-Request-clause-ok c = rw c.in-Request.is (asked_ok c.ask.result _ _ _ _ _ _ _ _ c.ask.ensures)
+returns-in-Request-clause-ok c = rw c.in-Request.is (asked_ok c.send_request.result _ _ _ _ _ _ _ _ c.send_request.ensures)
 
 pub returns-in-Request-clause-err : goal.returns-in-Request-clause-err
-returns-in-Request-clause-err c = rw c.in-Request.is (asked_err c.ask.result _ _ _ _ c.args.input.now.items _ _ _ c.ask.ensures)
+returns-in-Request-clause-err c = rw c.in-Request.is (asked_err c.send_request.result _ _ _ _ c.args.input.now.items _ _ _ c.send_request.ensures)

@@ -1,6 +1,6 @@
 use Rattle.std.proofs.Common.{◌≡◌, []}
 use Rattle.mqtt5_pipe.specs.Pipe.{IsReady}
-use Rattle.mqtt5_talk.specs.Talks.{Talked}
+use Rattle.mqtt5_talk.specs.Conversation.{Talked}
 use Rattle.mqtt5_talk.proofs.opening.await_answer.Given as goal
 
 abbrev pub invariant-loop : goal.invariant-loop

@@ -1,6 +1,6 @@
 use Rattle.std.proofs.Common.{[], ◌∷◌, inl, inr, refl}
 use Rattle.std.proofs.lemmas.Result.{err_from_is_err_and}
-use Rattle.mqtt5_talk.specs.Talks.{Opens, Begins, Puts, Makes}
+use Rattle.mqtt5_talk.specs.Conversation.{Opens, Begins, Puts, Makes}
 use Rattle.mqtt5_talk.proofs.Talking.{then_talked, silent, limited}
 use Rattle.mqtt5_talk.proofs.opening.open.Goals as goal
 

@@ -1,5 +1,5 @@
 use Rattle.std.proofs.Common.{[]}
-use Rattle.mqtt5_talk.specs.Talks.{Begins}
+use Rattle.mqtt5_talk.specs.Conversation.{Begins}
 use Rattle.mqtt5_talk.proofs.Talking.{join}
 use Rattle.mqtt5_talk.proofs.publishing.take_refusal.Goals as goal
 

@@ -1,8 +1,8 @@
 use Rattle.std.proofs.Common.{◌≡◌, ◌+◌, List, length}
-use Rattle.mqtt5_flow.specs.declared.publish.Publish.{Publish}
+use Rattle.mqtt5_publish.specs.declared.publish.Publish.{Publish}
 use Rattle.mqtt5_pipe.specs.Pipe.{IsReady}
 use Rattle.mqtt5_talk.specs.Answers.{acks_of, ShowsAll}
-use Rattle.mqtt5_talk.specs.Talks.{Talked}
+use Rattle.mqtt5_talk.specs.Conversation.{Talked}
 use Rattle.mqtt5_talk.proofs.subscribing.receive.Given as goal
 
 abbrev pub invariant-loop : goal.invariant-loop

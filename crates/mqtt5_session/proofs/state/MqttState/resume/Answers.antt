@@ -1,7 +1,7 @@
 use Rattle.std.proofs.Common.{◌≡◌, Result, Ok, Err, refl, sym, ap, ◌∙◌, subst}
 use Rattle.std.specs.Prelude.{OnErr, OnOk}
 use Rattle.mqtt5_session.specs.Session.{Core}
-use Rattle.mqtt5_session.specs.Cleaning.{marked, Resumes}
+use Rattle.mqtt5_session.specs.Resuming.{marked, Resumes}
 use Rattle.mqtt5_session.specs.Ledger.{owed}
 use Rattle.mqtt5_session.specs.Once.{kept_id}
 use Rattle.mqtt5_session.proofs.Resume.{resumes}

@@ -1,5 +1,5 @@
 use Rattle.std.proofs.Common.{ℕ, ◌+◌, ap, ◌∙◌}
-use Rattle.mqtt5_held.specs.declared.event.Request.TheVariants as requests
+use Rattle.mqtt5_inflight.specs.declared.event.Request.TheVariants as requests
 use Rattle.mqtt5_session.specs.Ledger.{owed}
 use Rattle.mqtt5_session.specs.Replies.{in_full}
 use Rattle.mqtt5_session.proofs.Owed.{adds_of, out_adds}

@@ -1,5 +1,0 @@
-use Rattle.mqtt5_base.proofs.FrontFound.{front_found}
-use Rattle.mqtt5_drive.proofs.run.may_start.Goals as goal
-
-pub returns : goal.returns
-returns c = λ limit input empty. (2, rw empty (front_found limit).nothing)

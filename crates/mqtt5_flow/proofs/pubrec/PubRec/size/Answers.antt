@@ -1,4 +1,0 @@
-use Rattle.mqtt5_flow.proofs.pubrec.PubRec.size.Goals as goal
-
-pub returns : goal.returns
-returns c = c.ack_size.ensures 80 c.args.self.now.pkid

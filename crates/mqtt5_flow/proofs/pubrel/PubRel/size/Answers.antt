@@ -1,4 +1,0 @@
-use Rattle.mqtt5_flow.proofs.pubrel.PubRel.size.Goals as goal
-
-pub returns : goal.returns
-returns c = c.ack_size.ensures 98 c.args.self.now.pkid

@@ -1,5 +1,0 @@
-use Rattle.mqtt5_held.proofs.Within.{empty_within}
-use Rattle.mqtt5_held.proofs.slots.Slots.clear.Goals as goal
-
-pub invariant_of-self : goal.invariant_of-self
-invariant_of-self c = rw c.clear.ensures (empty_within _)

@@ -1,6 +1,0 @@
-use Rattle.std.proofs.Common.{arith}
-use Rattle.mqtt5_held.proofs.Counts.{len_within}
-use Rattle.mqtt5_held.proofs.slots.Slots.len.Goals as goal
-
-pub prove-unreachable-requires : goal.prove-unreachable-requires
-prove-unreachable-requires c = omega (arith, len_within _ _ c.self.invariant)

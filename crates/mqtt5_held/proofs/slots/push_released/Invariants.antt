@@ -1,9 +1,0 @@
-use Rattle.std.proofs.Common.{◌≡◌, ◌++◌, ◌≤◌, ◌-◌}
-use Rattle.mqtt5_held.specs.Unacked.{by_id, release_again}
-use Rattle.mqtt5_held.proofs.slots.push_released.Given as goal
-
-abbrev pub invariant-loop-id : goal.invariant-loop-id
-invariant-loop-id l = (l.requests.items ≡ l.fn.requests.items ++ by_id release_again l.after l.slots.held) × (l.after ≤ l.slots.limit)
-
-abbrev pub decreases-loop-id : goal.decreases-loop-id
-decreases-loop-id l = l.slots.limit - l.after

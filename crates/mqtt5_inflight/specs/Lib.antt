@@ -1,0 +1,10 @@
+pub mod Errors
+pub mod InUse
+pub mod Paged
+pub mod Placed
+pub mod Codes
+pub mod Aliases
+pub mod Unacked
+pub mod Resent
+pub mod Sound
+pub mod Numbers

@@ -1,0 +1,28 @@
+-- Why a talk stops, by the fault of its pipe.
+use Rattle.std.specs.Prelude.{Option, Some, None}
+use Rattle.mqtt5_inflight.specs.declared.error.StateError.{StateError}
+use Rattle.mqtt5_inflight.specs.declared.error.StateError.TheVariants as errors
+use Rattle.mqtt5_pipe.specs.declared.error.PipeError.{PipeError}
+use Rattle.mqtt5_pipe.specs.declared.error.PipeError.TheVariants as faults
+use Rattle.mqtt5_talk.specs.declared.error.TalkError.{TalkError}
+use Rattle.mqtt5_talk.specs.declared.error.TalkError.TheVariants.{Refused, Ended, Failed}
+
+-- what the broker said, where it refused the connection (MQTT 5.0 section 3.2.2.2) or ended it (3.14.2.1)
+abbrev pub broker_said : StateError → Option TalkError
+broker_said (errors.ConnFail reason) = Some (Refused reason)
+broker_said (errors.ServerDisconnect reason text) = Some (Ended reason)
+broker_said e = None
+
+-- the same of a pipe's fault
+abbrev pub pipe_said : PipeError → Option TalkError
+pipe_said (faults.Session e) = broker_said e
+pipe_said (faults.Unanswered e error) = broker_said e
+pipe_said fault = None
+
+-- what was said, or else the fault
+abbrev pub unless : Option TalkError → PipeError → TalkError
+unless (Some trouble) fault = trouble
+unless None fault = Failed fault
+
+abbrev pub error_of : PipeError → TalkError
+error_of fault = unless (pipe_said fault) fault
