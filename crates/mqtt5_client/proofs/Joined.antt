@@ -1,18 +1,14 @@
--- Two calls of a client, one after the other, are one; and what a request and a take make of a run.
-use Rattle.std.proofs.Common.{◌≡◌, ℕ, List, [], ◌∷◌, ◌++◌, Result, Ok, Err, refl, sym, ap, subst, ◌∙◌, append_assoc, take, drop, take-append-drop}
-use Rattle.std.specs.Prelude.{OnOk, IfErr}
+-- Two calls of a client, one after the other, are one; and what a take makes of a run.
+use Rattle.std.proofs.Common.{◌≡◌, ℕ, List, [], ◌++◌, refl, sym, ap, subst, ◌∙◌, append_assoc, take, drop, take-append-drop}
 use Rattle.mqtt5_codec.specs.declared.codec.Codec.{Codec}
-use Rattle.mqtt5_inflight.specs.declared.event.Request.{Request}
 use Rattle.mqtt5_inflight.specs.declared.error.StateError.{StateError}
 use Rattle.mqtt5_session.specs.Session.{Session}
-use Rattle.mqtt5_session.specs.Requests.{on_request}
 use Rattle.mqtt5_drive.specs.declared.run.Step.{Step}
-use Rattle.mqtt5_drive.specs.Trace.{Waits, Holds, finish, Stops}
+use Rattle.mqtt5_drive.specs.Trace.{Holds, finish, Stops}
 use Rattle.mqtt5_drive.specs.Run.{turns, run}
-use Rattle.mqtt5_drive.specs.Ways.{Goes}
 use Rattle.mqtt5_drive.proofs.Joins.{twice_ok, twice_stops}
 use Rattle.mqtt5_client.specs.declared.client.Client.{Client}
-use Rattle.mqtt5_client.specs.Client.{IsReady, asking, trace, Runs, Fails}
+use Rattle.mqtt5_client.specs.Client.{IsReady, trace, Runs, Fails}
 use Rattle.mqtt5_client.proofs.Behind.{shifted, finish-shifted, stops-shifted}
 
 module _ (p q r : Client) (first second : List Step) (sent more : List ℕ) (ran : Runs p first sent q) (codec : q.codec ≡ p.codec) where
@@ -35,23 +31,6 @@ module _ (p q r : Client) (first second : List Step) (sent more : List ℕ) (ran
       (subst (λ (o : List ℕ). Stops e q.state (sent ++ q.output.items) (run p.codec (turns second) q.state q.input.items) r.state o) (sym (append_assoc sent more r.output.items))
       (stops-shifted sent e q.state q.output.items (run p.codec (turns second) q.state q.input.items) r.state (more ++ r.output.items)
       (subst (λ (c : Codec). Stops e q.state q.output.items (run c (turns second) q.state q.input.items) r.state (more ++ r.output.items)) codec h)))
-
--- a request is one move of the run
-module _ (old new : Client) (request : Request) (at : ℕ) where
-  pub asked_ok : (result : Result Unit StateError) → new.input.items ≡ old.input.items → IsReady new → Goes result old.codec (on_request old.state request at) old.state old.output.items new.state new.output.items
-      → OnOk result (Runs old (asking at request ∷ []) [] new)
-  unfolding run
-  asked_ok (Ok done) input ready goes = record {
-    all = (goes (λ (t : Session). Waits old.input.items)).ends ∙ ap (λ (h : List ℕ). record { session = new.state; output = new.output.items; ending = Holds h }) (sym input);
-    ready = ready;
-  }
-  asked_ok (Err e) input ready goes = tt
-
-  pub asked_err : (result : Result Unit StateError) → Goes result old.codec (on_request old.state request at) old.state old.output.items new.state new.output.items
-      → IfErr result (λ e. Fails e old (asking at request ∷ []) [] new)
-  unfolding run
-  asked_err (Ok done) goes = tt
-  asked_err (Err e) goes = goes (λ (t : Session). Waits old.input.items)
 
 -- taking from the output is a run without steps
 pub took_runs : (old new : Client) (n : ℕ) → new.state ≡ old.state → new.codec ≡ old.codec → new.input.items ≡ old.input.items → new.output.items ≡ drop n old.output.items

@@ -1,2 +1,4 @@
 pub mod Behind
 pub mod Joined
+pub mod Requested
+pub mod TakingUp

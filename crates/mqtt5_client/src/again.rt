@@ -15,11 +15,7 @@ use mqtt5_session::{MqttState, Request, StateError};
 use std::alloc::Global;
 
 /// Appends the frame of a packet.
-pub(crate) fn encode(
-    codec: &Codec,
-    output: &mut BytesMut,
-    packet: &Packet,
-) -> Result<(), StateError>
+fn encode(codec: &Codec, output: &mut BytesMut, packet: &Packet) -> Result<(), StateError>
     ensures { Replies result (reply_bytes codec.now (Some packet.now)) output.old.items
         output.new.items }
 {

@@ -1,26 +1,26 @@
 //! A client between the bytes that come in and those that go out.
 
-ghost use Rattle.std.specs.Prelude.{◌≡◌, ◌<◌, ◌⊎◌, ℕ, List, [], ◌∷◌, ◌++◌, length, take, drop, slice_get, Some, Ok, IsOk, IfOk, IfErr, OnOk, OnErr};
+ghost use Rattle.std.specs.Prelude.{◌≡◌, ◌≢◌, ◌<◌, ◌⊎◌, ℕ, List, [], ◌∷◌, ◌++◌, length, take, drop, slice_get, Some, Ok, IsOk, IfOk, IfErr, OnOk, OnErr};
 ghost use Rattle.mqtt5_base.specs.declared.error.Error.{Error};
 ghost use Rattle.mqtt5_codec.specs.Packets.{packet_writing};
 ghost use Rattle.mqtt5_inflight.specs.Errors.{state_error};
 ghost use Rattle.mqtt5_inflight.specs.declared.error.StateError.{StateError as Fault};
 ghost use Rattle.mqtt5_inflight.specs.declared.error.StateError.TheVariants as faults;
 ghost use Rattle.mqtt5_session.specs.Session.{fresh};
-ghost use Rattle.mqtt5_session.specs.Requests.{on_request};
 ghost use Rattle.mqtt5_drive.specs.declared.run.Step.{Step};
-ghost use Rattle.mqtt5_drive.specs.Run.{piece, reply_bytes};
-ghost use Rattle.mqtt5_drive.specs.Ways.{Goes, Replies};
+ghost use Rattle.mqtt5_drive.specs.Run.{piece};
 ghost use Rattle.mqtt5_client.specs.declared.client.Client.{Client};
 ghost use Rattle.mqtt5_client.specs.Client.{IsReady, asking, Runs, Fails, no_limits, given_back};
+ghost use Rattle.mqtt5_client.specs.Asked.{bytes_asked, Declines};
 ghost use Rattle.mqtt5_drive.specs.Limit.{allowed};
 ghost use Rattle.mqtt5_client.specs.Connecting.{connect_packet, opened, IsRefused};
 ghost use Rattle.mqtt5_client.specs.Again.{SendsAgain, Refuses};
 
-use crate::again::{encode, frames, given_back};
+use crate::again::{frames, given_back};
+use crate::asking::ask;
 use crate::connecting::{connect_frame, incoming_limit};
 use bytes::{Bytes, BytesMut};
-use mqtt5_codec::{Codec, Packet};
+use mqtt5_codec::Codec;
 use mqtt5_drive::{Input, Step, drive, empty_needs_more, take_limit};
 use mqtt5_options::MqttOptions;
 use mqtt5_session::{Event, MqttState, Request, StateError};
@@ -112,15 +112,22 @@ impl Client {
         ended
     }
 
-    /// Takes a request at a moment: what is to be sent goes to the end of the output. S1 to S3, S5, S6 and S8 as of
-    /// the session, which is then unchanged but for a refused ping's count; S7 where the packet can't be written and
-    /// S9 where it is over the broker's limit, with the session's step taken; S12. The connection goes on after each
-    /// of them.
+    /// Takes a request at a moment: what is to be sent goes to the end of the output. S7 where its packet can't be
+    /// written and S9 where that is over the broker's limit, also of a publish that would have to wait; S1 to S3, S5,
+    /// S6 and S8 as of the session; S12. After each of them the client is unchanged, but that a refused ping is
+    /// counted while a publish waits, and the connection goes on.
     pub fn request(&mut self, request: Request, at: u64) -> Result<(), StateError>
         requires { IsReady self.old }
         // Session and output are the run's.
         ensures ok { OnOk result (Runs self.old (asking at request ∷ []) [] self.new) }
-        ensures err { IfErr result (λ e. Fails e self.old (asking at request ∷ []) [] self.new) }
+        // What is taken can be written, also where it has to wait for its id.
+        ensures writable { IsOk result
+            → IsOk (bytes_asked self.old.codec self.old.state.core request) }
+        ensures err { IfErr result (λ e.
+            Declines e self.old.codec request at self.old.state self.new.state) }
+        ensures unchanged { OnErr result
+            (request ≢ Request.PingReq → self.new.state ≡ self.old.state) }
+        ensures unsent { OnErr result (self.new.output.items ≡ self.old.output.items) }
         ensures kept { (self.new.input.items ≡ self.old.input.items)
             × (self.new.codec ≡ self.old.codec) }
         // So another call may follow.
@@ -262,7 +269,7 @@ impl Client {
 }
 
 /// A new session with an old one's limit on ids.
-fn renewed(alloc: Global, state: &MqttState) -> MqttState
+pub(crate) fn renewed(alloc: Global, state: &MqttState) -> MqttState
     ensures { result ≡ fresh state.now.core.limit state.now.core.manual_acks }
 {
     let _last = state.last_pkid();
@@ -270,35 +277,6 @@ fn renewed(alloc: Global, state: &MqttState) -> MqttState
     match MqttState::new(alloc, limit, state.manual_acks()) {
         Ok(fresh) => fresh,
         Err(_) => unreachable!(),
-    }
-}
-
-fn send_request(
-    state: &mut MqttState,
-    codec: &Codec,
-    output: &mut BytesMut,
-    request: Request,
-    at: u64,
-) -> Result<(), StateError>
-    ensures { Goes result codec.now (on_request state.old request at) state.old output.old.items
-        state.new output.new.items }
-{
-    match state.handle_outgoing_packet(request, at) {
-        Ok(reply) => {
-            let answered = answer(codec, output, &reply);
-            drop(reply);
-            answered
-        }
-        Err(fault) => Err(fault),
-    }
-}
-
-fn answer(codec: &Codec, output: &mut BytesMut, reply: &Option<Packet>) -> Result<(), StateError>
-    ensures { Replies result (reply_bytes codec.now reply.now) output.old.items output.new.items }
-{
-    match reply {
-        Some(packet) => encode(codec, output, packet),
-        None => Ok(()),
     }
 }
 

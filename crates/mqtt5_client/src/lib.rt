@@ -2,9 +2,11 @@
 #![tactic(auto)]
 
 mod again;
+mod asking;
 mod client;
 mod connecting;
 mod numbers;
+mod taking_up;
 
 pub use client::{Client, one_run};
 pub use mqtt5_session::{Event, MqttState, Request, StateError};

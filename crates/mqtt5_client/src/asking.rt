@@ -1,0 +1,307 @@
+//! What a request is sent as. It is written before the session takes the request, so what can't be written changes
+//! nothing.
+
+ghost use Rattle.std.specs.Prelude.{◌≡◌, min, Some};
+ghost use Rattle.mqtt5_base.specs.Puts.{Writes};
+ghost use Rattle.mqtt5_codec.specs.Packets.{writing_under};
+ghost use Rattle.mqtt5_session.specs.Replies.{made_of};
+ghost use Rattle.mqtt5_session.specs.Requests.{id_for, next_id, on_request};
+ghost use Rattle.mqtt5_drive.specs.Run.{reply_bytes};
+ghost use Rattle.mqtt5_client.specs.Asked.{id_asked, subscribe_asked, bytes_asked, Takes};
+ghost use Rattle.mqtt5_client.specs.Handed.{HandsOn};
+
+use bytes::BytesMut;
+use mqtt5_base::{Error, QoS};
+use mqtt5_codec::{Codec, Packet};
+use mqtt5_control::DisconnectReasonCode;
+use mqtt5_publish::{PingReq, PubAck, PubRec, Publish};
+use mqtt5_session::{MqttState, Reply, Request, StateError};
+use mqtt5_subscribe::{Subscribe, Unsubscribe};
+
+/// The next id.
+fn next_id(state: &MqttState) -> u16
+    ensures { result ≡ next_id state.now.core }
+{
+    let limit = state.max_outgoing_inflight_upper_limit();
+    let last = state.last_pkid();
+    prove!(last < limit);
+    last + 1
+}
+
+/// The id of a request with this id.
+fn id_for(state: &MqttState, id: u16) -> u16
+    ensures { result ≡ id_for state.now.core id }
+{
+    if id == 0 { next_id(state) } else { id }
+}
+
+/// The id that a publish gets.
+fn id_asked(state: &MqttState, qos: QoS, id: u16) -> u16
+    ensures { result ≡ id_asked qos state.now.core id }
+{
+    match qos {
+        QoS::AtMostOnce => id,
+        QoS::AtLeastOnce | QoS::ExactlyOnce => id_for(state, id),
+    }
+}
+
+/// The refusal of a packet over the outgoing limit.
+#[inline(never)]
+fn over_limit(size: usize, max: u32) -> Error
+    ensures { result ≡ Error.OutgoingPacketTooLarge (min size 4294967295) max }
+{
+    Error::OutgoingPacketTooLarge {
+        pkt_size: u32::try_from(size).unwrap_or(u32::MAX),
+        max,
+    }
+}
+
+pub(crate) fn put_publish(
+    codec: &Codec,
+    output: &mut BytesMut,
+    publish: &Publish,
+) -> Result<(), Error>
+    ensures { Writes (λ _. tt)
+        (writing_under codec.now.max_outgoing_size (Packet.Publish publish.now)) result
+        output.old.items output.new.items }
+{
+    if let Some(max) = codec.max_outgoing_size {
+        let size = publish.size();
+        if size > max as usize {
+            return Err(over_limit(size, max));
+        }
+    }
+    publish.write(output)?;
+    Ok(())
+}
+
+fn put_subscribe(codec: &Codec, output: &mut BytesMut, subscribe: &Subscribe) -> Result<(), Error>
+    ensures { Writes (λ _. tt)
+        (writing_under codec.now.max_outgoing_size (Packet.Subscribe subscribe.now)) result
+        output.old.items output.new.items }
+{
+    if let Some(max) = codec.max_outgoing_size {
+        let size = subscribe.size();
+        if size > max as usize {
+            return Err(over_limit(size, max));
+        }
+    }
+    subscribe.write(output)?;
+    Ok(())
+}
+
+fn put_unsubscribe(
+    codec: &Codec,
+    output: &mut BytesMut,
+    unsubscribe: &Unsubscribe,
+) -> Result<(), Error>
+    ensures { Writes (λ _. tt)
+        (writing_under codec.now.max_outgoing_size (Packet.Unsubscribe unsubscribe.now)) result
+        output.old.items output.new.items }
+{
+    if let Some(max) = codec.max_outgoing_size {
+        let size = unsubscribe.size();
+        if size > max as usize {
+            return Err(over_limit(size, max));
+        }
+    }
+    unsubscribe.write(output)?;
+    Ok(())
+}
+
+fn put_puback(codec: &Codec, output: &mut BytesMut, ack: &PubAck) -> Result<(), Error>
+    ensures { Writes (λ _. tt) (writing_under codec.now.max_outgoing_size (Packet.PubAck ack.now))
+        result output.old.items output.new.items }
+{
+    if let Some(max) = codec.max_outgoing_size {
+        let size = ack.size();
+        if size > max as usize {
+            return Err(over_limit(size, max));
+        }
+    }
+    ack.write(output)?;
+    Ok(())
+}
+
+fn put_pubrec(codec: &Codec, output: &mut BytesMut, ack: &PubRec) -> Result<(), Error>
+    ensures { Writes (λ _. tt) (writing_under codec.now.max_outgoing_size (Packet.PubRec ack.now))
+        result output.old.items output.new.items }
+{
+    if let Some(max) = codec.max_outgoing_size {
+        let size = ack.size();
+        if size > max as usize {
+            return Err(over_limit(size, max));
+        }
+    }
+    ack.write(output)?;
+    Ok(())
+}
+
+/// Writes a release, or a Disconnect.
+fn put_made(codec: &Codec, output: &mut BytesMut, reply: Reply) -> Result<(), Error>
+    ensures { Writes (λ _. tt) (reply_bytes codec.now (made_of reply)) result output.old.items
+        output.new.items }
+{
+    let packet = reply.packet();
+    let written = match &packet {
+        Some(made) => codec.encode(made, output),
+        None => Ok(()),
+    };
+    drop(packet);
+    written
+}
+
+fn put_ping(codec: &Codec, output: &mut BytesMut) -> Result<(), Error>
+    ensures { Writes (λ _. tt)
+        (writing_under codec.now.max_outgoing_size (Packet.PingReq (record {}))) result
+        output.old.items output.new.items }
+{
+    codec.encode(&Packet::PingReq(PingReq), output)
+}
+
+/// Writes a publish under an id.
+fn publish_under(
+    codec: &Codec,
+    output: &mut BytesMut,
+    publish: &mut Publish,
+    id: u16,
+) -> Result<(), Error>
+    ensures put { Writes (λ _. tt)
+        (writing_under codec.now.max_outgoing_size
+        (Packet.Publish
+        (record publish.old { pkid = id }))) result output.old.items output.new.items }
+    ensures same { publish.new ≡ publish.old }
+{
+    let given = publish.pkid;
+    publish.pkid = id;
+    let written = put_publish(codec, output, publish);
+    publish.pkid = given;
+    written
+}
+
+/// Writes a Subscribe under an id; nothing of one without filters.
+fn subscribe_under(
+    codec: &Codec,
+    output: &mut BytesMut,
+    subscribe: &mut Subscribe,
+    id: u16,
+) -> Result<(), Error>
+    ensures put { Writes (λ _. tt) (reply_bytes codec.now (subscribe_asked id subscribe.old)) result
+        output.old.items output.new.items }
+    ensures same { subscribe.new ≡ subscribe.old }
+{
+    if subscribe.filters.is_empty() {
+        return Ok(());
+    }
+    let given = subscribe.pkid;
+    subscribe.pkid = id;
+    let written = put_subscribe(codec, output, subscribe);
+    subscribe.pkid = given;
+    written
+}
+
+/// Writes an Unsubscribe under an id.
+fn unsubscribe_under(
+    codec: &Codec,
+    output: &mut BytesMut,
+    unsubscribe: &mut Unsubscribe,
+    id: u16,
+) -> Result<(), Error>
+    ensures put { Writes (λ _. tt)
+        (writing_under codec.now.max_outgoing_size
+        (Packet.Unsubscribe
+        (record unsubscribe.old { pkid = id }))) result output.old.items output.new.items }
+    ensures same { unsubscribe.new ≡ unsubscribe.old }
+{
+    let given = unsubscribe.pkid;
+    unsubscribe.pkid = id;
+    let written = put_unsubscribe(codec, output, unsubscribe);
+    unsubscribe.pkid = given;
+    written
+}
+
+/// Writes what a request is sent as; nothing of one that is never sent.
+fn put(
+    state: &MqttState,
+    codec: &Codec,
+    output: &mut BytesMut,
+    request: &mut Request,
+) -> Result<(), Error>
+    ensures put { Writes (λ _. tt) (bytes_asked codec.now state.now.core request.old) result
+        output.old.items output.new.items }
+    ensures same { request.new ≡ request.old }
+{
+    match request {
+        Request::Publish(publish) => {
+            let id = id_asked(state, publish.qos, publish.pkid);
+            publish_under(codec, output, publish, id)
+        }
+        Request::Subscribe(subscribe) => {
+            subscribe_under(codec, output, subscribe, next_id(state))
+        }
+        Request::Unsubscribe(unsubscribe) => {
+            unsubscribe_under(codec, output, unsubscribe, next_id(state))
+        }
+        Request::PubRel(release) => {
+            let id = id_for(state, release.pkid);
+            put_made(codec, output, Reply::PubRel(id))
+        }
+        Request::Disconnect => {
+            let normal = DisconnectReasonCode::NormalDisconnection;
+            put_made(codec, output, Reply::Disconnect(normal))
+        }
+        Request::PubAck(ack) => put_puback(codec, output, ack),
+        Request::PubRec(ack) => put_pubrec(codec, output, ack),
+        Request::PingReq => put_ping(codec, output),
+        _other => Ok(()),
+    }
+}
+
+/// Hands a request on to the session. What the output has behind this length goes where nothing is sent.
+fn hand_on(
+    state: &mut MqttState,
+    output: &mut BytesMut,
+    request: Request,
+    at: u64,
+    length: usize,
+) -> Result<(), StateError>
+    ensures { HandsOn result (on_request state.old request at) length state.old output.old.items
+        state.new output.new.items }
+{
+    match state.handle_outgoing_packet(request, at) {
+        Ok(Some(sent)) => {
+            drop(sent);
+            Ok(())
+        }
+        Ok(None) => {
+            output.truncate(length);
+            Ok(())
+        }
+        Err(refused) => {
+            output.truncate(length);
+            Err(refused)
+        }
+    }
+}
+
+/// Takes a request, once its packet is written.
+pub(crate) fn ask(
+    state: &mut MqttState,
+    codec: &Codec,
+    output: &mut BytesMut,
+    request: Request,
+    at: u64,
+) -> Result<(), StateError>
+    ensures { Takes result codec.now request at state.old output.old.items state.new
+        output.new.items }
+{
+    let length = output.len();
+    let mut request = request;
+    match put(state, codec, output, &mut request) {
+        Ok(()) => hand_on(state, output, request, at, length),
+        Err(refused) => {
+            drop(request);
+            Err(StateError::from(refused))
+        }
+    }
+}

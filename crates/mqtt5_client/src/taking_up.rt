@@ -1,0 +1,265 @@
+//! The session on a new connection: it is taken up, or it ends.
+
+ghost use Rattle.std.specs.Prelude.{◌≡◌, ◌⊎◌, true, false, ◌++◌, List, IfOk, IfErr, OnOk, OnErr, Some, Ok, Err};
+ghost use Rattle.std.specs.List.{flat_map};
+ghost use Rattle.mqtt5_publish.specs.declared.pubrel.PubRelReason.TheVariants.{Success};
+ghost use Rattle.mqtt5_codec.specs.declared.packet.Packet.{Packet as AnyPacket};
+ghost use Rattle.mqtt5_inflight.specs.declared.error.StateError.TheVariants as faults;
+ghost use Rattle.mqtt5_session.specs.Requests.{on_request};
+ghost use Rattle.mqtt5_client.specs.Again.{frames_of};
+ghost use Rattle.mqtt5_client.specs.Client.{IsReady, given_back};
+ghost use Rattle.mqtt5_client.specs.TakingUp.{is_writable, fitting, unfitting, unacked, fitting_of, SendsFitting, NotSent, ended, Ends, TakesUp, returned, NotTakenUp};
+ghost use Rattle.mqtt5_client.specs.Resending.{all_fitting, Answered, SendsOne, allowed_by};
+
+use crate::again::{frames, given_back};
+use crate::asking::put_publish;
+use crate::client::{Client, renewed};
+use bytes::BytesMut;
+use mqtt5_base::Error;
+use mqtt5_codec::{Codec, Packet};
+use mqtt5_control::{ConnAck, ConnAckProperties, ConnectReturnCode};
+use mqtt5_publish::{PubRel, Publish};
+use mqtt5_session::{MqttState, Request, StateError};
+use std::alloc::Global;
+
+/// Whether a publish can be written under the outgoing limit.
+fn is_writable(alloc: Global, codec: &Codec, publish: &Publish) -> Result<bool, StateError>
+    ensures ok { IfOk result (λ b. b ≡ is_writable codec.now publish.now) }
+    ensures err { IfErr result (λ e. e ≡ faults.OutOfMemory) }
+{
+    let mut frame = BytesMut::new(alloc);
+    match put_publish(codec, &mut frame, publish) {
+        Ok(()) => Ok(true),
+        Err(Error::OutOfMemory) => Err(StateError::OutOfMemory),
+        Err(_refused) => Ok(false),
+    }
+}
+
+fn as_publish(publish: Publish) -> Request
+    ensures { result ≡ Request.Publish publish }
+{
+    Request::Publish(publish)
+}
+
+fn as_release(id: u16) -> Request
+    ensures { result ≡ Request.PubRel (record { pkid = id; reason = Success; properties = None }) }
+{
+    Request::PubRel(PubRel::new(id, None))
+}
+
+/// What is sent of a publish; one that can't be written is added to what is given back.
+fn fit_publish(
+    alloc: Global,
+    codec: &Codec,
+    publish: Publish,
+    given: &mut Vec<Request>,
+) -> Result<Request, StateError>
+    ensures ok { IfOk result (λ r. r ≡ fitting codec.now (Request.Publish publish)) }
+    ensures given { OnOk result (given.new.items ≡ given.old.items ++ unfitting codec.now
+        (Request.Publish publish)) }
+    ensures err { IfErr result (λ e. e ≡ faults.OutOfMemory) }
+{
+    let Ok(fits) = is_writable(alloc, codec, &publish) else {
+        drop(publish);
+        return Err(StateError::OutOfMemory);
+    };
+    if fits {
+        return Ok(as_publish(publish));
+    }
+    let release = as_release(publish.pkid);
+    given.push(as_publish(publish))?;
+    Ok(release)
+}
+
+/// What is sent of a request.
+fn fit(
+    alloc: Global,
+    codec: &Codec,
+    request: Request,
+    given: &mut Vec<Request>,
+) -> Result<Request, StateError>
+    ensures ok { IfOk result (λ r. r ≡ fitting codec.now request) }
+    ensures given { OnOk result (given.new.items ≡ given.old.items ++ unfitting codec.now request) }
+    ensures err { IfErr result (λ e. e ≡ faults.OutOfMemory) }
+{
+    match request {
+        Request::Publish(publish) => fit_publish(alloc, codec, publish, given),
+        other => Ok(other),
+    }
+}
+
+/// Asks the session, and keeps its packet.
+fn ask(
+    state: &mut MqttState,
+    request: Request,
+    packets: &mut Vec<Packet>,
+    at: u64,
+) -> Result<(), StateError>
+    ensures { Answered result (on_request state.old request at) packets.old.items state.new
+        packets.new.items }
+{
+    match state.handle_outgoing_packet(request, at) {
+        Ok(Some(packet)) => {
+            packets.push(packet)?;
+            Ok(())
+        }
+        Ok(None) => Ok(()),
+        Err(refused) => Err(refused),
+    }
+}
+
+/// Sends one request again.
+fn send_one(
+    alloc: Global,
+    state: &mut MqttState,
+    codec: &Codec,
+    request: Request,
+    packets: &mut Vec<Packet>,
+    given: &mut Vec<Request>,
+    at: u64,
+) -> Result<(), StateError>
+    ensures { SendsOne result codec.now request at state.old packets.old.items given.old.items
+        state.new packets.new.items given.new.items }
+{
+    let fitting = fit(alloc, codec, request, given)?;
+    ask(state, fitting, packets, at)
+}
+
+/// Sends requests again, and answers their packets.
+fn send_all(
+    alloc: Global,
+    state: &mut MqttState,
+    codec: &Codec,
+    requests: Vec<Request>,
+    given: &mut Vec<Request>,
+    at: u64,
+) -> Result<Vec<Packet>, StateError>
+    ensures ok { IfOk result (λ v. all_fitting codec.now requests.items state.old at
+        ≡ Ok (v.items, state.new)) }
+    ensures given { OnOk result (given.new.items ≡ given.old.items ++ flat_map
+        (unfitting codec.now) requests.items) }
+    ensures err { IfErr result (λ e. (e ≡ faults.OutOfMemory)
+        ⊎ (all_fitting codec.now requests.items state.old at ≡ Err e)) }
+{
+    let mut packets = Vec::new(alloc);
+    for request in requests {
+        send_one(alloc, state, codec, request, &mut packets, given, at)?;
+    }
+    Ok(packets)
+}
+
+/// The frames of what a session sends again.
+fn resent(
+    alloc: Global,
+    state: &mut MqttState,
+    codec: &Codec,
+    given: &mut Vec<Request>,
+    at: u64,
+) -> Result<BytesMut, StateError>
+    ensures ok { IfOk result (λ b. (sent : List AnyPacket)
+        × (fitting_of codec.now state.old at ≡ Ok (sent, state.new))
+        × (frames_of codec.now sent ≡ Ok b.items)) }
+    ensures given { OnOk result (given.new.items ≡ given.old.items ++ flat_map (unfitting codec.now)
+        (unacked state.old)) }
+    ensures err { IfErr result (λ e. NotSent e codec.now state.old at) }
+{
+    let requests = state.clean()?;
+    let packets = send_all(alloc, state, codec, requests, given, at)?;
+    frames(alloc, codec, &packets)
+}
+
+/// A ConnAck that allows what a session's last one allowed.
+fn allows(alloc: Global, state: &MqttState) -> Packet
+    ensures { result
+        ≡ Packet.ConnAck
+        (record {
+          session_present = false;
+          code = ConnectReturnCode.Success;
+          properties = Some (allowed_by state.now.core);
+        }) }
+{
+    let mut properties = ConnAckProperties::new(alloc);
+    properties.receive_max = Some(state.max_outgoing_inflight());
+    properties.topic_alias_max = Some(state.broker_topic_alias_max());
+    Packet::ConnAck(ConnAck {
+        session_present: false,
+        code: ConnectReturnCode::Success,
+        properties: Some(properties),
+    })
+}
+
+/// A new session that is allowed what an old one was.
+fn ended(alloc: Global, state: &MqttState, at: u64) -> Result<MqttState, StateError>
+    ensures ok { IfOk result (λ s. s ≡ ended state.now at) }
+    ensures err { IfErr result (λ e. e ≡ faults.OutOfMemory) }
+{
+    let mut new = renewed(alloc, state);
+    let Ok(reply) = new.handle_incoming_packet(allows(alloc, state), at) else {
+        return Err(StateError::OutOfMemory);
+    };
+    drop(reply);
+    drop(new.pop_event());
+    Ok(new)
+}
+
+impl Client {
+    /// Takes the session up on a new connection, or ends it, as the ConnAck says whether the broker has it (an event's
+    /// `session_present`). With it all that awaits an ack goes to the end of the output, publishes with `dup`; a publish
+    /// that the broker's new limit doesn't let pass is given back, and its id released. Without it all that awaits an
+    /// ack and the publish that waits for its id are given back, as by `clean`, and the session is a new one that is
+    /// allowed what the ConnAck said; the bytes stand. What is given back may be asked for again. S8 as of `resume`; S1
+    /// where a session ends and an event isn't taken out; S12. After an Err the client is unchanged.
+    pub fn take_up(&mut self, session_present: bool, at: u64) -> Result<Vec<Request>, StateError>
+        ensures ok { OnOk result (TakesUp session_present self.old at self.new) }
+        ensures given { IfOk result (λ v. v.items ≡ returned session_present self.old) }
+        ensures err { IfErr result (λ e. NotTakenUp session_present e self.old at) }
+        ensures unchanged { OnErr result (self.new.state ≡ self.old.state) }
+        ensures unsent { OnErr result (self.new.output.items ≡ self.old.output.items) }
+        ensures input { self.new.input.items ≡ self.old.input.items }
+        ensures codec { self.new.codec ≡ self.old.codec }
+        // So bytes may be received.
+        ensures ready { IsReady self.old → IsReady self.new }
+    {
+        if session_present {
+            self.send_fitting(at)
+        } else {
+            self.end(at)
+        }
+    }
+
+    /// Sends again what fits. It works on a copy of the session.
+    fn send_fitting(&mut self, at: u64) -> Result<Vec<Request>, StateError>
+        ensures ok { OnOk result (SendsFitting self.old at self.new) }
+        ensures given { IfOk result (λ v. v.items ≡ returned true self.old) }
+        ensures err { IfErr result (λ e. NotSent e self.old.codec self.old.state at) }
+        ensures unchanged { OnErr result (self.new.state ≡ self.old.state) }
+        ensures unsent { OnErr result (self.new.output.items ≡ self.old.output.items) }
+        ensures kept { (self.new.input ≡ self.old.input) × (self.new.codec ≡ self.old.codec) }
+    {
+        let alloc = *self.input.allocator();
+        let mut copy = self.state.clone()?;
+        let mut given = Vec::new(alloc);
+        let frames = resent(alloc, &mut copy, &self.codec, &mut given, at)?;
+        self.output.extend_from_slice(frames.as_slice())?;
+        self.state = copy;
+        Ok(given)
+    }
+
+    /// Ends the session.
+    fn end(&mut self, at: u64) -> Result<Vec<Request>, StateError>
+        ensures ok { OnOk result (Ends self.old at self.new) }
+        ensures given { IfOk result (λ v. v.items ≡ returned false self.old) }
+        ensures err { IfErr result (λ e. (e ≡ faults.OutOfMemory) ⊎ (e ≡ faults.InvalidState)) }
+        ensures unchanged { OnErr result (self.new.state ≡ self.old.state) }
+        ensures unsent { OnErr result (self.new.output.items ≡ self.old.output.items) }
+        ensures kept { (self.new.input ≡ self.old.input) × (self.new.codec ≡ self.old.codec) }
+    {
+        if !self.state.events().is_empty() {
+            return Err(StateError::InvalidState);
+        }
+        let alloc = *self.input.allocator();
+        let requests = given_back(&self.state)?;
+        self.state = ended(alloc, &self.state, at)?;
+        Ok(requests)
+    }
+}
