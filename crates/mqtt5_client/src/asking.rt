@@ -144,7 +144,7 @@ fn put_made(codec: &Codec, output: &mut BytesMut, reply: Reply) -> Result<(), Er
 {
     let packet = reply.packet();
     let written = match &packet {
-        Some(made) => codec.encode(made, output),
+        Some(made) => codec.write(made, output),
         None => Ok(()),
     };
     drop(packet);
@@ -156,7 +156,7 @@ fn put_ping(codec: &Codec, output: &mut BytesMut) -> Result<(), Error>
         (writing_under codec.now.max_outgoing_size (Packet.PingReq (record {}))) result
         output.old.items output.new.items }
 {
-    codec.encode(&Packet::PingReq(PingReq), output)
+    codec.write(&Packet::PingReq(PingReq), output)
 }
 
 /// Writes a publish under an id.
