@@ -8,3 +8,4 @@ pub mod Ended
 pub mod Played
 pub mod Later
 pub mod Subscribed
+pub mod Closed

@@ -1,3 +1,4 @@
 pub mod Progress
 pub mod Late
 pub mod Subscribers
+pub mod Packets

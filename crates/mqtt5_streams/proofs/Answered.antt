@@ -23,13 +23,14 @@ use Rattle.mqtt5_world.proofs.Step.{Inv}
 use Rattle.mqtt5_world.proofs.Runs.{inv_start, inv_next, inv_run}
 use Rattle.mqtt5_streams.specs.declared.event.ByteEvent.{ByteEvent}
 use Rattle.mqtt5_streams.specs.declared.event.ByteEvent.TheVariants as events
-use Rattle.mqtt5_streams.specs.Wire.{wire_of, remaining, IsWritable, IsTyped, IsAck, OfPublish, OfFirst, OfRelease}
+use Rattle.mqtt5_progress.specs.Packets.{IsAck, OfPublish, OfFirst, OfRelease, Every, numbered}
+use Rattle.mqtt5_streams.specs.Wire.{wire_of, remaining, IsWritable, IsTyped}
 use Rattle.mqtt5_streams.specs.Buffers.{Frames, Waits, Breaks, Takes}
 use Rattle.mqtt5_streams.specs.ByteWorld.{with_bytes, sent, reply_bytes, before, all_bytes, ByteWorld, Outcome, and_then, sends_up, sends_down, asked_bytes, arrived, go_up, heard_bytes, takes_bytes, returned, come_down, emptied, resumed_bytes, resumes_bytes, happens_bytes, run_bytes, start_bytes}
-use Rattle.mqtt5_streams.specs.Reduction.{Every, as_events, unless_fault, IsTypedEvent, numbered, if_accepted, taken_on, all_taken_on, AllWritable, AdmitsAcks}
+use Rattle.mqtt5_streams.specs.Reduction.{as_events, unless_fault, IsTypedEvent, if_accepted, taken_on, all_taken_on, AllWritable, AdmitsAcks}
 use Rattle.mqtt5_streams.proofs.Wire.{wire}
 use Rattle.mqtt5_streams.proofs.Cuts.{AreCut, cuts}
-use Rattle.mqtt5_streams.proofs.Closed.{Closed, IsSent, APublish, ARelease, GoesUp, ComesDown, Holds, HoldsReply, IfAccepted, keeps_out, keeps_inc, keeps_again, taken_holds, taken_reply, resumes_taken, again_of, holds_next, holds_start}
+use Rattle.mqtt5_progress.proofs.Closed.{Closed, IsSent, APublish, ARelease, GoesUp, ComesDown, Holds, HoldsReply, IfAccepted, keeps_out, keeps_inc, keeps_again, taken_holds, taken_reply, resumes_taken, again_of, holds_next, holds_start}
 use Rattle.mqtt5_streams.proofs.Steps.{Tied, IsWritten, every_both, every_map, norm_ack, moved_whole}
 use Rattle.mqtt5_streams.proofs.Runs.{OwesByte, holds_as, closed_typed, owes_typed, on_up, on_down, event_tied, tied_start}
 

@@ -21,7 +21,8 @@ use Rattle.mqtt5_progress.proofs.Counted.{exactly, least}
 use Rattle.mqtt5_streams.specs.declared.event.ByteEvent.{ByteEvent}
 use Rattle.mqtt5_streams.specs.Wire.{wire_of, IsTyped}
 use Rattle.mqtt5_streams.specs.ByteWorld.{Way, clear, ByteWorld, start_bytes}
-use Rattle.mqtt5_streams.specs.Reduction.{Every, norms, frames_of, IsTypedEvent, plain_events}
+use Rattle.mqtt5_progress.specs.Packets.{Every}
+use Rattle.mqtt5_streams.specs.Reduction.{norms, frames_of, IsTypedEvent, plain_events}
 use Rattle.mqtt5_streams.specs.Arrival.{AllArrived, SettledBytes}
 use Rattle.mqtt5_streams.proofs.Wire.{wire}
 use Rattle.mqtt5_streams.proofs.Cuts.{IsSound, not_bad, not_whole}

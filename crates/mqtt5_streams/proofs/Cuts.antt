@@ -12,7 +12,8 @@ use Rattle.mqtt5_codec.specs.PacketsIn.{packet_in}
 use Rattle.mqtt5_codec.specs.Norms.{norm}
 use Rattle.mqtt5_streams.specs.Wire.{wire_of, remaining, IsWritable, IsTyped}
 use Rattle.mqtt5_streams.specs.Buffers.{Frames, Waits, Breaks, Takes, cut_by, cut_in, frames}
-use Rattle.mqtt5_streams.specs.Reduction.{Every, frames_of}
+use Rattle.mqtt5_progress.specs.Packets.{Every}
+use Rattle.mqtt5_streams.specs.Reduction.{frames_of}
 use Rattle.mqtt5_streams.proofs.Wire.{wire}
 
 -- ---- so many are enough

@@ -1,6 +1,5 @@
 pub mod Wire
 pub mod Cuts
-pub mod Closed
 pub mod Steps
 pub mod Runs
 pub mod Answered

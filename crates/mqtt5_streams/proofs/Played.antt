@@ -17,7 +17,8 @@ use Rattle.mqtt5_progress.specs.Progress.{IsIdle}
 use Rattle.mqtt5_streams.specs.declared.event.ByteEvent.{ByteEvent}
 use Rattle.mqtt5_streams.specs.Buffers.{frames}
 use Rattle.mqtt5_streams.specs.ByteWorld.{Way, ByteWorld, Outcome, and_then, arrived, go_up, drain_up, returned, come_down, drain_down, run_bytes, start_bytes, byte_losses}
-use Rattle.mqtt5_streams.specs.Reduction.{Every, IsTypedEvent, norms, AdmitsAcks, AllWritable, all_taken_on}
+use Rattle.mqtt5_progress.specs.Packets.{Every}
+use Rattle.mqtt5_streams.specs.Reduction.{IsTypedEvent, norms, AdmitsAcks, AllWritable, all_taken_on}
 use Rattle.mqtt5_streams.specs.Counts.{Counts}
 use Rattle.mqtt5_streams.specs.Arrival.{AllArrived}
 use Rattle.mqtt5_streams.specs.Does.{Does, IsByteReport}

@@ -21,14 +21,15 @@ use Rattle.mqtt5_world.proofs.Runs.{inv_start, inv_next, inv_run, run_append, lo
 use Rattle.mqtt5_world.proofs.Contents.{content_class, ledger, at_most, at_least, for_each_loss}
 use Rattle.mqtt5_streams.specs.declared.event.ByteEvent.{ByteEvent}
 use Rattle.mqtt5_streams.specs.declared.event.ByteEvent.TheVariants as events
-use Rattle.mqtt5_streams.specs.Wire.{IsTyped, IsAck}
+use Rattle.mqtt5_progress.specs.Packets.{IsAck, Every, numbered}
+use Rattle.mqtt5_streams.specs.Wire.{IsTyped}
 use Rattle.mqtt5_streams.specs.Buffers.{frames, count}
 use Rattle.mqtt5_streams.specs.ByteWorld.{ByteWorld, with_bytes, start_bytes, happens_bytes, run_bytes, byte_losses}
-use Rattle.mqtt5_streams.specs.Reduction.{Every, as_events, unless_fault, plain_events, norms, Reduces, IsTypedEvent, numbered}
+use Rattle.mqtt5_streams.specs.Reduction.{as_events, unless_fault, plain_events, norms, Reduces, IsTypedEvent}
 use Rattle.mqtt5_streams.specs.Reduction as often
 use Rattle.mqtt5_streams.specs.Counts.{Counts}
 use Rattle.mqtt5_streams.proofs.Wire.{wire}
-use Rattle.mqtt5_streams.proofs.Closed.{Closed, IsSent, GoesUp, ComesDown, Holds, IfAccepted, Owes, holds_next, holds_start, HasId, within}
+use Rattle.mqtt5_progress.proofs.Closed.{Closed, IsSent, GoesUp, ComesDown, Holds, IfAccepted, Owes, holds_next, holds_start, HasId, within}
 use Rattle.mqtt5_streams.proofs.Steps.{Tied, ok_one, then_ok, every_map, next_tied}
 
 -- ---- what is said of packets is kept by an event over bytes

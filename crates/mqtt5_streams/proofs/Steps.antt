@@ -25,13 +25,14 @@ use Rattle.mqtt5_world.specs.Broker.{Broker, Served, serve, serve_publish}
 use Rattle.mqtt5_world.specs.World.{World, asked, served, arrives, after_reply, takes, returns, taken_back, resumed, happens, run}
 use Rattle.mqtt5_streams.specs.declared.event.ByteEvent.{ByteEvent}
 use Rattle.mqtt5_streams.specs.declared.event.ByteEvent.TheVariants as events
-use Rattle.mqtt5_streams.specs.Wire.{wire_of, bytes_of, IsWritable, IsTyped, IsAck, OfPublish, OfFirst, OfRelease}
+use Rattle.mqtt5_progress.specs.Packets.{IsAck, OfPublish, OfFirst, OfRelease, Every}
+use Rattle.mqtt5_streams.specs.Wire.{wire_of, bytes_of, IsWritable, IsTyped}
 use Rattle.mqtt5_streams.specs.Buffers.{Frames, Waits, Breaks, Takes, count}
 use Rattle.mqtt5_streams.specs.ByteWorld.{Way, clear, with_bytes, sent, reply_bytes, before, all_bytes, ByteWorld, Outcome, and_then, sends_up, sends_down, asked_bytes, served_bytes, arrived, go_up, heard_bytes, takes_bytes, returned, come_down, emptied, resumed_bytes, resumes_bytes, happens_bytes}
-use Rattle.mqtt5_streams.specs.Reduction.{Every, times, as_events, norms, normed, frames_of, Reduces}
+use Rattle.mqtt5_streams.specs.Reduction.{times, as_events, norms, normed, frames_of, Reduces}
 use Rattle.mqtt5_streams.proofs.Wire.{wire}
 use Rattle.mqtt5_streams.proofs.Cuts.{AreCut, cuts}
-use Rattle.mqtt5_streams.proofs.Closed.{every_append, IsSent, APublish, ARelease}
+use Rattle.mqtt5_progress.proofs.Closed.{every_append, IsSent, APublish, ARelease}
 
 -- ---- results
 

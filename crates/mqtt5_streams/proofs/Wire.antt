@@ -26,7 +26,8 @@ use Rattle.mqtt5_codec.proofs.CodecLemmas.{taken_packet}
 use Rattle.mqtt5_codec.proofs.PacketsAgain.{publish_read_back, puback_read_back, pubrec_read_back, pubrel_read_back, pubcomp_read_back}
 use Rattle.mqtt5_session.specs.Requests.{release_of}
 use Rattle.mqtt5_session.specs.Packets.{puback_of, pubrec_of, pubcomp_of}
-use Rattle.mqtt5_streams.specs.Wire.{wire_of, remaining, bytes_of, IsWritable, IsTyped, IsAck, OfPublish, OfFirst, OfRelease, IsWire}
+use Rattle.mqtt5_progress.specs.Packets.{IsAck, OfPublish, OfFirst, OfRelease}
+use Rattle.mqtt5_streams.specs.Wire.{wire_of, remaining, bytes_of, IsWritable, IsTyped, IsWire}
 
 -- ---- limits
 

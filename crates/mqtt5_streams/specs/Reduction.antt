@@ -2,8 +2,6 @@
 use Rattle.std.specs.Prelude.{◌≡◌, ℕ, ◌≤◌, zero, suc, List, [], ◌∷◌, ◌++◌, map, Option, None, Result, Ok, Err, IfSome}
 use Rattle.mqtt5_base.specs.Front.{Front, More, NeedsMore}
 use Rattle.mqtt5_base.specs.FrontAt.{front}
-use Rattle.mqtt5_base.specs.declared.quality.QoS.{QoS}
-use Rattle.mqtt5_base.specs.declared.quality.QoS.TheVariants.{AtMostOnce}
 use Rattle.mqtt5_publish.specs.declared.publish.Publish.{Publish}
 use Rattle.mqtt5_publish.specs.Norms.{publish_norm}
 use Rattle.mqtt5_codec.specs.declared.packet.Packet.{Packet}
@@ -11,22 +9,17 @@ use Rattle.mqtt5_codec.specs.declared.packet.Packet.TheVariants as packets
 use Rattle.mqtt5_codec.specs.declared.codec.Codec.{Codec}
 use Rattle.mqtt5_inflight.specs.declared.event.Request.TheVariants as requests
 use Rattle.mqtt5_inflight.specs.declared.error.StateError.{StateError}
-use Rattle.mqtt5_session.specs.Session.{Core}
-use Rattle.mqtt5_session.specs.Requests.{id_for, on_request}
+use Rattle.mqtt5_session.specs.Requests.{on_request}
 use Rattle.mqtt5_world.specs.declared.event.WorldEvent.{WorldEvent}
 use Rattle.mqtt5_world.specs.declared.event.WorldEvent.TheVariants as plain
 use Rattle.mqtt5_world.specs.Broker.{Broker}
 use Rattle.mqtt5_world.specs.World.{World}
+use Rattle.mqtt5_progress.specs.Packets.{Every, numbered}
 use Rattle.mqtt5_streams.specs.declared.event.ByteEvent.{ByteEvent}
 use Rattle.mqtt5_streams.specs.declared.event.ByteEvent.TheVariants as events
 use Rattle.mqtt5_streams.specs.Wire.{wire_of, IsWritable, IsTyped}
 use Rattle.mqtt5_streams.specs.Buffers.{frames, count}
 use Rattle.mqtt5_streams.specs.ByteWorld.{ByteWorld, Outcome, with_bytes, happens_bytes}
-
--- it is said of each
-abbrev pub Every : {A : Type 0} → (A → Type 0) → List A → Type 0
-Every P [] = Unit {0}
-Every P (x ∷ xs) = P x × Every P xs
 
 -- ---- the events
 
@@ -85,11 +78,6 @@ pub record Reduces (codec : Codec) (b : ByteWorld) (w : World) : Type 0 where
 abbrev pub IsTypedEvent : ByteEvent → Type 0
 IsTypedEvent (events.Publish p) = IsTyped (packets.Publish p)
 IsTypedEvent e = Unit {0}
-
--- a publish with the id that it is given, one of QoS 0 with its own (2.2.1)
-abbrev pub numbered : QoS → Core → Publish → Publish
-numbered AtMostOnce c p = p
-numbered qos c p = record p { pkid = id_for c p.pkid }
 
 -- it, where it is accepted
 abbrev pub if_accepted : Result (Option Packet) StateError → Publish → List Publish

@@ -6,7 +6,6 @@ use Rattle.mqtt5_base.specs.FrontAt.{front}
 use Rattle.mqtt5_base.specs.Sets.{IsBlockOf}
 use Rattle.mqtt5_base.specs.Layout.{layout, body_bytes}
 use Rattle.mqtt5_publish.specs.declared.publish.Publish.{Publish}
-use Rattle.mqtt5_publish.specs.declared.pubrel.PubRelReason.{PubRelReason}
 use Rattle.mqtt5_base.specs.AckSets.{ack_table, ack_found}
 use Rattle.mqtt5_publish.specs.Rows.{publish_table}
 use Rattle.mqtt5_publish.specs.Publishes.{publish_found}
@@ -17,7 +16,7 @@ use Rattle.mqtt5_codec.specs.PacketsIn.{packet_in}
 use Rattle.mqtt5_codec.specs.Norms.{norm}
 use Rattle.mqtt5_inflight.specs.Unacked.{again}
 use Rattle.mqtt5_session.specs.Requests.{release_of}
-use Rattle.mqtt5_session.specs.Packets.{puback_of, pubrec_of, pubcomp_of}
+use Rattle.mqtt5_progress.specs.Packets.{IsAck}
 
 -- ---- frames
 
@@ -47,12 +46,6 @@ IsTyped (packets.PubRec p) = (p.pkid < 65536) × IsBlockOf ack_table (option_map
 IsTyped (packets.PubRel p) = (p.pkid < 65536) × IsBlockOf ack_table (option_map ack_found p.properties)
 IsTyped (packets.PubComp p) = (p.pkid < 65536) × IsBlockOf ack_table (option_map ack_found p.properties)
 IsTyped other = ⊥
-
--- what the broker answers (4.3.2, 4.3.3)
-pub data IsAck : Packet → Type 0 where
-  OfPublish : (id : ℕ) → IsAck (puback_of id)
-  OfFirst : (id : ℕ) → IsAck (pubrec_of id)
-  OfRelease : (id : ℕ) (reason : PubRelReason) → IsAck (pubcomp_of id reason)
 
 -- ---- the laws
 

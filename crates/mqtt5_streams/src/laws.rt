@@ -9,7 +9,8 @@ ghost use Rattle.mqtt5_world.specs.Delivery.{times};
 ghost use Rattle.mqtt5_streams.specs.declared.event.ByteEvent.{ByteEvent};
 ghost use Rattle.mqtt5_streams.specs.Wire.{IsWire};
 ghost use Rattle.mqtt5_streams.specs.ByteWorld.{ByteWorld, start_bytes, run_bytes, byte_losses};
-ghost use Rattle.mqtt5_streams.specs.Reduction.{Every, IsTypedEvent, norms, Reduces, plain_events, AdmitsAcks, AllWritable, all_taken_on};
+ghost use Rattle.mqtt5_progress.specs.Packets.{Every};
+ghost use Rattle.mqtt5_streams.specs.Reduction.{IsTypedEvent, norms, Reduces, plain_events, AdmitsAcks, AllWritable, all_taken_on};
 ghost use Rattle.mqtt5_streams.specs.Counts.{Counts};
 ghost use Rattle.mqtt5_streams.specs.Arrival.{AllArrived, SettledBytes};
 

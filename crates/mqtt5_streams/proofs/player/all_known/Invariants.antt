@@ -1,5 +1,6 @@
 use Rattle.std.proofs.Common.{take}
-use Rattle.mqtt5_streams.specs.Reduction.{Every, IsTypedEvent}
+use Rattle.mqtt5_progress.specs.Packets.{Every}
+use Rattle.mqtt5_streams.specs.Reduction.{IsTypedEvent}
 use Rattle.mqtt5_streams.proofs.player.all_known.Given as goal
 
 abbrev pub invariant-loop-event : goal.invariant-loop-event

@@ -42,8 +42,7 @@ use Rattle.mqtt5_world.specs.Broker.{Broker, serve, serve_publish, reason_for}
 use Rattle.mqtt5_world.specs.World.{World, start, asked, arrives, after_reply, takes, returns, taken_back, resumed, resumes, happens}
 use Rattle.mqtt5_world.proofs.Step.{Inv, SlotAllowed}
 use Rattle.mqtt5_world.proofs.Losses.{sends_again}
-use Rattle.mqtt5_streams.specs.Wire.{IsAck, OfPublish, OfFirst, OfRelease}
-use Rattle.mqtt5_streams.specs.Reduction.{Every, numbered}
+use Rattle.mqtt5_progress.specs.Packets.{IsAck, OfPublish, OfFirst, OfRelease, Every, numbered}
 
 pub every_append : {A : Type 0} (P : A → Type 0) (xs ys : List A) → Every P xs → Every P ys → Every P (xs ++ ys)
 every_append P [] ys a b = b

@@ -1,0 +1,9 @@
+pub mod Sending
+pub mod Receiving
+pub mod Flow
+pub mod Taking
+pub mod Good
+pub mod Joined
+pub mod Counted
+pub mod Stepping
+pub mod Sample

@@ -1,0 +1,186 @@
+-- The part of a session that sends depends on itself alone, and a call of it keeps the part that receives.
+use Rattle.std.proofs.Common.{◌≡◌, ℕ, Bool, true, false, cond, List, [], ◌∷◌, ◌++◌, Option, Some, None, Ok, refl, sym, ap, ◌∙◌, append-nil, ◌==◌}
+use Rattle.std.specs.List.{filter_map}
+use Rattle.std.specs.FinMap as map
+use Rattle.std.specs.FinSet as set
+use Rattle.std.proofs.lemmas.List.Elements.{filter_map-append}
+use Rattle.mqtt5_base.specs.declared.quality.QoS.{QoS}
+use Rattle.mqtt5_base.specs.declared.quality.QoS.TheVariants.{AtMostOnce, AtLeastOnce, ExactlyOnce}
+use Rattle.mqtt5_publish.specs.declared.publish.Publish.{Publish}
+use Rattle.mqtt5_publish.specs.declared.puback.PubAckReason.TheVariants.{Success}
+use Rattle.mqtt5_codec.specs.declared.packet.Packet.{Packet}
+use Rattle.mqtt5_codec.specs.declared.packet.Packet.TheVariants as packets
+use Rattle.mqtt5_inflight.specs.declared.slot.Slot.{Slot}
+use Rattle.mqtt5_inflight.specs.declared.slot.Slot.TheVariants.{Sent, Released}
+use Rattle.mqtt5_inflight.specs.declared.event.Event.{Event}
+use Rattle.mqtt5_inflight.specs.declared.event.Event.TheVariants as events
+use Rattle.mqtt5_inflight.specs.declared.event.Request.TheVariants as requests
+use Rattle.mqtt5_inflight.specs.declared.event.Outgoing.TheVariants as outgoing
+use Rattle.mqtt5_inflight.specs.declared.error.StateError.{StateError}
+use Rattle.mqtt5_session.specs.Session.{Session, Answer}
+use Rattle.mqtt5_session.specs.Requests.{on_request, unless, over_maximum, Verdict, Refuse, Wait, Store, judged, out_acked, out_publish, id_for, last_after, with_event_at}
+use Rattle.mqtt5_session.specs.Packets.{on_packet, answer_to, with_incoming, freed_for, on_puback, on_pubrec, on_pubcomp, puback_of, pubrec_of, pubcomp_of}
+use Rattle.mqtt5_session.specs.Again.{event_for}
+use Rattle.mqtt5_world.specs.World.{taken_back}
+use Rattle.mqtt5_progress.specs.Packets.{IsAck, OfPublish, OfFirst, OfRelease}
+use Rattle.mqtt5_progress.proofs.Closed.{again_of}
+use Rattle.mqtt5_network.specs.Receiver.{publish_in, shown, as_receiver}
+use Rattle.mqtt5_network.specs.Client.{connected}
+
+-- ---- the two parts
+
+-- what sends: the ids in use and what they are given from
+abbrev pub part : Session → Session
+part s = record {
+  core = record s.core { aliases = map.empty; manual_acks = false; incoming = set.empty };
+  awaits_ping = false;
+  collision_pings = 0;
+  events = [];
+  last_incoming = 0;
+  last_outgoing = 0;
+}
+
+-- what receives is the same, and whether the session sends its acks itself
+pub record Kept (s t : Session) : Type 0 where
+  pub seen : as_receiver t ≡ as_receiver s
+  pub own : t.core.manual_acks ≡ s.core.manual_acks
+
+kept : (s : Session) → Kept s s
+kept s = record { seen = refl; own = refl }
+
+pub show_one : (es : List Event) (p : Publish) → filter_map publish_in (es ++ events.Incoming (packets.Publish p) ∷ []) ≡ filter_map publish_in es ++ p ∷ []
+show_one es p = filter_map-append publish_in es (events.Incoming (packets.Publish p) ∷ [])
+
+pub show_none : (es : List Event) (x : Event) → publish_in x ≡ None → filter_map publish_in (es ++ x ∷ []) ≡ filter_map publish_in es
+show_none es x e = filter_map-append publish_in es (x ∷ []) ∙ ap (λ o. filter_map publish_in es ++ filter_map (λ (y : Event). o) (x ∷ [])) e ∙ append-nil _
+
+-- so it is where an event is told that isn't a publish
+told_kept : (s t : Session) (x : Event) → publish_in x ≡ None → t.events ≡ s.events ++ x ∷ [] → t.core.incoming ≡ s.core.incoming → t.core.manual_acks ≡ s.core.manual_acks → Kept s t
+told_kept s t x none e ids own =
+    record { seen = λ n. record { ids = ids n; handed = (ap (filter_map publish_in) e ∙ show_none s.events x none) n }; own = own }
+
+-- ---- calls of what sends
+
+-- an answer of a session beside the one of its sending part
+pub record Apart (s : Session) (a b : Answer) : Type 0 where
+  pub reply : a.0 ≡ b.0
+  pub after : part a.1 ≡ part b.1
+  pub kept : Kept s a.1
+
+either : (c : Bool) (s : Session) (x y z w : Answer) → Apart s x z → Apart s y w → Apart s (cond c x y) (cond c z w)
+either true s x y z w h k = h
+either false s x y z w h k = k
+
+-- a publish is asked for
+acked_apart : (v : Verdict) (s : Session) (p : Publish) (last : ℕ) → Apart s (out_acked v s p last 0) (out_acked v (part s) p last 0)
+acked_apart (Refuse e) s p last = record { reply = refl; after = refl; kept = kept s }
+acked_apart Wait s p last = record { reply = refl; after = refl; kept = told_kept s _ (events.Outgoing (outgoing.AwaitAck p.pkid)) refl refl refl refl }
+acked_apart Store s p last = record { reply = refl; after = refl; kept = told_kept s _ (events.Outgoing (outgoing.Publish p.pkid)) refl refl refl refl }
+
+once_apart : (o : Option StateError) (s : Session) (p : Publish) → Apart s (unless o s (Ok (Some (packets.Publish p)), with_event_at s (outgoing.Publish p.pkid) 0)) (unless o (part s) (Ok (Some (packets.Publish p)), with_event_at (part s) (outgoing.Publish p.pkid) 0))
+once_apart None s p = record { reply = refl; after = refl; kept = told_kept s _ (events.Outgoing (outgoing.Publish p.pkid)) refl refl refl refl }
+once_apart (Some e) s p = record { reply = refl; after = refl; kept = kept s }
+
+publish_apart : (q : QoS) (s : Session) (p : Publish) → Apart s (out_publish q s p 0) (out_publish q (part s) p 0)
+publish_apart AtMostOnce s p = once_apart (over_maximum s.core p) s p
+publish_apart AtLeastOnce s p = acked_apart (judged s.core (record p { pkid = id_for s.core p.pkid })) s (record p { pkid = id_for s.core p.pkid }) (last_after s.core p.pkid)
+publish_apart ExactlyOnce s p = acked_apart (judged s.core (record p { pkid = id_for s.core p.pkid })) s (record p { pkid = id_for s.core p.pkid }) (last_after s.core p.pkid)
+
+pub out_apart : (s : Session) (p : Publish) → Apart s (on_request s (requests.Publish p) 0) (on_request (part s) (requests.Publish p) 0)
+unfolding on_request
+out_apart s p = publish_apart p.qos s p
+
+-- an ack comes
+freed_apart : (o : Option Publish) (s : Session) (id : ℕ) → Apart s (freed_for o s id 0) (freed_for o (part s) id 0)
+freed_apart None s id = record { reply = refl; after = refl; kept = record { seen = refl; own = refl } }
+freed_apart (Some p) s id =
+    either (p.pkid == id) s _ _ _ _
+    (record { reply = refl; after = refl; kept = told_kept s _ (events.Outgoing (outgoing.Publish id)) refl refl refl refl })
+    (record { reply = refl; after = refl; kept = record { seen = refl; own = refl } })
+
+puback_apart : (x : Option Slot) (s : Session) (id : ℕ) → Apart s (on_puback x s id 0) (on_puback x (part s) id 0)
+puback_apart None s id = record { reply = refl; after = refl; kept = kept s }
+puback_apart (Some Released) s id = record { reply = refl; after = refl; kept = kept s }
+puback_apart (Some (Sent p)) s id = freed_apart s.core.waiting s id
+
+pubrec_apart : (x : Option Slot) (s : Session) (id : ℕ) → Apart s (on_pubrec x s Success id 0) (on_pubrec x (part s) Success id 0)
+pubrec_apart None s id = record { reply = refl; after = refl; kept = kept s }
+pubrec_apart (Some Released) s id = record { reply = refl; after = refl; kept = kept s }
+pubrec_apart (Some (Sent p)) s id = record { reply = refl; after = refl; kept = told_kept s _ (events.Outgoing (outgoing.PubRel id)) refl refl refl refl }
+
+pubcomp_apart : (x : Option Slot) (s : Session) (id : ℕ) → Apart s (on_pubcomp x s id 0) (on_pubcomp x (part s) id 0)
+pubcomp_apart None s id = record { reply = refl; after = refl; kept = kept s }
+pubcomp_apart (Some (Sent p)) s id = record { reply = refl; after = refl; kept = kept s }
+pubcomp_apart (Some Released) s id = freed_apart s.core.waiting s id
+
+-- the ack was told before
+ack_apart : (s : Session) (x : Packet) → IsAck x → Apart (with_incoming s x) (on_packet s x 0) (answer_to (part s) x 0)
+unfolding on_packet
+ack_apart s _ (OfPublish id) = puback_apart (map.get s.core.in_use id) (with_incoming s (puback_of id)) id
+ack_apart s _ (OfFirst id) = pubrec_apart (map.get s.core.in_use id) (with_incoming s (pubrec_of id)) id
+ack_apart s _ (OfRelease id reason) = pubcomp_apart (map.get s.core.in_use id) (with_incoming s (pubcomp_of id reason)) id
+
+ack_event : (x : Packet) → IsAck x → publish_in (events.Incoming x) ≡ None
+ack_event _ (OfPublish id) = refl
+ack_event _ (OfFirst id) = refl
+ack_event _ (OfRelease id reason) = refl
+
+pub ack_kept : (s : Session) (x : Packet) → IsAck x → Kept s (on_packet s x 0).1
+ack_kept s x i =
+    let a = told_kept s (with_incoming s x) (events.Incoming x) (ack_event x i) refl refl refl in
+    let b = (ack_apart s x i).kept in
+    record { seen = b.seen ∙ a.seen; own = b.own ∙ a.own }
+
+-- ---- sessions with one sending part
+
+-- the same reply, and the same sending part after it
+pub record Alike (a b : Answer) : Type 0 where
+  pub reply : a.0 ≡ b.0
+  pub after : part a.1 ≡ part b.1
+
+alike_by : (f : Session → Answer) {u v : Session} (s t : Session) (a b : Answer) → Apart u a (f (part s)) → Apart v b (f (part t)) → part s ≡ part t → Alike a b
+alike_by f s t a b h k e = record { reply = h.reply ∙ ap (λ r. (f r).0) e ∙ sym k.reply; after = h.after ∙ ap (λ r. part (f r).1) e ∙ sym k.after }
+
+pub out_alike : (s t : Session) (p : Publish) → part s ≡ part t → Alike (on_request s (requests.Publish p) 0) (on_request t (requests.Publish p) 0)
+out_alike s t p e = alike_by (λ r. on_request r (requests.Publish p) 0) s t _ _ (out_apart s p) (out_apart t p) e
+
+pub ack_alike : (s t : Session) (x : Packet) → IsAck x → part s ≡ part t → Alike (on_packet s x 0) (on_packet t x 0)
+ack_alike s t x i e = alike_by (λ r. answer_to r x 0) s t _ _ (ack_apart s x i) (ack_apart t x i) e
+
+-- ---- a new connection
+
+connected_part : (m : Option ℕ) (s : Session) → part (connected m s) ≡ part (connected m (part s))
+unfolding on_packet
+connected_part m s = refl
+
+pub connected_alike : (m : Option ℕ) (s t : Session) → part s ≡ part t → part (connected m s) ≡ part (connected m t)
+connected_alike m s t e = connected_part m s ∙ ap (λ r. part (connected m r)) e ∙ sym (connected_part m t)
+
+pub connected_kept : (m : Option ℕ) (s : Session) → Kept s (connected m s)
+unfolding on_packet
+connected_kept m s = told_kept s _ (events.Incoming (taken_back m)) refl refl refl refl
+
+pub again_alike : (s t : Session) → part s ≡ part t → ((again_of s).0 ≡ (again_of t).0) × (part (again_of s).1 ≡ part (again_of t).1)
+again_alike s t e = (ap (λ r. (again_of r).0) e, ap (λ r. part (again_of r).1) e)
+
+none_shown : (ps : List Packet) → filter_map publish_in (filter_map event_for ps) ≡ []
+none_shown [] = refl
+none_shown (packets.Publish p ∷ ps) = none_shown ps
+none_shown (packets.PubRel a ∷ ps) = none_shown ps
+none_shown (x ∷ ps) = none_shown ps
+
+again_kept : (s : Session) → Kept s (again_of s).1
+again_kept s =
+    record {
+      seen = λ n. record {
+        ids = s.core.incoming;
+        handed = (filter_map-append publish_in s.events (filter_map event_for (again_of s).0) ∙ ap (λ ps. shown s ++ ps) (none_shown (again_of s).0) ∙ append-nil (shown s)) n;
+      };
+      own = refl;
+    }
+
+pub back_kept : (m : Option ℕ) (s : Session) → Kept s (again_of (connected m s)).1
+back_kept m s =
+    let a = connected_kept m s in
+    let b = again_kept (connected m s) in
+    record { seen = b.seen ∙ a.seen; own = b.own ∙ a.own }

@@ -1,0 +1,63 @@
+-- What a broker forwards to a subscriber of the publishes that it hands on (MQTT 5.0 sections 3.3.1 to 3.3.4 and 3.8.4).
+use Rattle.std.specs.Prelude.{Bool, false, List, [], ◌∷◌, Option, Some, None, option_map, if◌then◌else◌}
+use Rattle.mqtt5_base.specs.Texts.{Utf8}
+use Rattle.mqtt5_base.specs.declared.quality.QoS.{QoS}
+use Rattle.mqtt5_base.specs.declared.quality.QoS.TheVariants.{AtMostOnce, AtLeastOnce, ExactlyOnce}
+use Rattle.mqtt5_publish.specs.declared.publish.Publish.{Publish}
+use Rattle.mqtt5_publish.specs.declared.publish.PublishProperties.{PublishProperties}
+use Rattle.mqtt5_progress.specs.Subscribers.{hits}
+
+-- a topic filter of a subscriber, and the QoS that was granted for it (3.8.3, 3.9.3)
+pub record Subscription : Type 0 where
+  pub topic_filter : Utf8
+  pub granted : QoS
+
+-- the lesser of two QoS
+abbrev pub lesser : QoS → QoS → QoS
+lesser AtMostOnce q = AtMostOnce
+lesser AtLeastOnce AtMostOnce = AtMostOnce
+lesser AtLeastOnce q = AtLeastOnce
+lesser ExactlyOnce q = q
+
+-- the greater of a QoS and another one, if there is one
+abbrev pub greater : QoS → Option QoS → QoS
+greater q None = q
+greater q (Some AtMostOnce) = q
+greater AtMostOnce (Some r) = r
+greater AtLeastOnce (Some r) = r
+greater ExactlyOnce (Some r) = ExactlyOnce
+
+-- the greatest QoS that was granted for a filter that matches, if one does (3.3.4)
+abbrev pub granted_for : List Subscription → Publish → Option QoS
+granted_for [] p = None
+granted_for (s ∷ ss) p =
+    if hits (s.topic_filter ∷ []) p then Some (greater s.granted (granted_for ss p))
+    else granted_for ss p
+
+-- without a topic alias (3.3.2.3.4) and the publisher's subscription identifiers (3.3.2.3.8)
+abbrev pub passed_on : PublishProperties → PublishProperties
+passed_on set = record set { topic_alias = None; subscription_identifiers = [] }
+
+-- a publish as it is forwarded under a granted QoS: with the lesser QoS (3.8.4), its id is still to be
+-- given (2.2.1), it is sent for the first time (3.3.1.1), and it isn't retained (3.3.1.3)
+abbrev pub forwarded : QoS → Publish → Publish
+forwarded granted p = record p {
+  qos = lesser p.qos granted;
+  pkid = 0;
+  dup = false;
+  retain = false;
+  properties = option_map passed_on p.properties;
+}
+
+-- what is forwarded of a publish to a subscriber: once, however many of its filters match (3.3.4)
+abbrev pub forwarded_to : List Subscription → Publish → Option Publish
+forwarded_to subscriptions p = option_map (λ q. forwarded q p) (granted_for subscriptions p)
+
+-- whether there is one that passes a test
+abbrev pub passes : (Publish → Bool) → Option Publish → Bool
+passes test None = false
+passes test (Some p) = test p
+
+-- whether a publish reaches a subscriber as one that passes a test
+abbrev pub reaching : List Subscription → (Publish → Bool) → Publish → Bool
+reaching subscriptions test p = passes test (forwarded_to subscriptions p)

@@ -1,0 +1,5 @@
+pub mod Receiver
+pub mod Forwarded
+pub mod Client
+pub mod Network
+pub mod Steps
