@@ -93,7 +93,10 @@ fn talk<R: Read, W: Write>(
 ) -> Result<(), TalkError> {
     let connect = connect_of(task.alloc, matches)?;
     let mut pipe = new_pipe(task.alloc, false);
-    talk_over(&mut pipe, &connect, task, content, reader, writer)
+    let ended = talk_over(&mut pipe, &connect, task, content, reader, writer);
+    drop(pipe);
+    drop(connect);
+    ended
 }
 
 fn talk_over<R: Read, W: Write>(

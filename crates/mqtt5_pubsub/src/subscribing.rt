@@ -118,11 +118,14 @@ fn talk<R: Read, W: Write, S: Screen>(
     reader: &mut R,
     writer: &mut W,
 ) -> Result<(), TalkError> {
-    let connect = connect_of(alloc, matches)?;
     let wanted = subscribe_of(alloc, matches)?;
     let count = matches.get_one::<u64>("count").unwrap_or(u64::MAX);
+    let connect = connect_of(alloc, matches)?;
     let mut pipe = new_pipe(alloc, true);
-    talk_over(&mut pipe, &connect, wanted, count, screen, reader, writer)
+    let ended = talk_over(&mut pipe, &connect, wanted, count, screen, reader, writer);
+    drop(pipe);
+    drop(connect);
+    ended
 }
 
 /// Shows so many messages.
