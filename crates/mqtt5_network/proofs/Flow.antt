@@ -106,6 +106,17 @@ trim w = record w { session = part w.session }
 abbrev pub flow : Session → Broker → List Packet → List Packet → List Publish → World
 flow s b forth back ps = record { session = part s; broker = b; up = sent forth; down = acks back; accepted = ps; refused = []; faults = [] }
 
+-- these of a flow
+pub record Ends : Type 0 where
+  pub sender : Session
+  pub receiver : Broker
+  pub there : List Packet
+  pub back : List Packet
+  pub taken : List Publish
+
+abbrev pub flow_of : Ends → World
+flow_of e = flow e.sender e.receiver e.there e.back e.taken
+
 -- it is a run, and so much is said of all its packets
 pub record IsFlow (Q : Packet → Type 0) (limit times : ℕ) (v : World) : Type 0 where
   pub events : List WorldEvent
@@ -136,7 +147,22 @@ pub record Goes (Q : Packet → Type 0) (limit lost : ℕ) (u v : World) : Type 
   pub still : IsFlow Q limit lost v
   pub less : work v + 1 ≤ work u
 
-module _ (Q : Packet → Type 0) (closed : Closed Q) (limit lost : ℕ) (s : Session) (b : Broker) (forth back : List Packet) (ps : List Publish) (i : IsFlow Q limit lost (flow s b forth back ps)) where
+module _ (Q : Packet → Type 0) (closed : Closed Q) (limit lost : ℕ) (ends : Ends) (i : IsFlow Q limit lost (flow_of ends)) where
+  abbrev s : Session
+  s = ends.sender
+
+  abbrev b : Broker
+  b = ends.receiver
+
+  abbrev forth : List Packet
+  forth = ends.there
+
+  abbrev back : List Packet
+  back = ends.back
+
+  abbrev ps : List Publish
+  ps = ends.taken
+
   abbrev w : World
   w = run i.events (start limit)
 
@@ -161,7 +187,7 @@ module _ (Q : Packet → Type 0) (closed : Closed Q) (limit lost : ℕ) (s : Ses
         lost = let a = losses_append i.events (e ∷ []) in let c = i.lost in omega (arith, a, c, l);
       }
 
-  goes : (v : World) (e : WorldEvent) → trim (happens w e) ≡ v → Owes Q w e → losses (e ∷ []) ≡ 0 → Deliveries (e ∷ []) → delivered (e ∷ []) w ≡ 1 → Goes Q limit lost (flow s b forth back ps) v
+  goes : (v : World) (e : WorldEvent) → trim (happens w e) ≡ v → Owes Q w e → losses (e ∷ []) ≡ 0 → Deliveries (e ∷ []) → delivered (e ∷ []) w ≡ 1 → Goes Q limit lost (flow_of ends) v
   goes v e same owes none d one =
       record {
         still = on v e lost same owes (omega (arith, none));
@@ -187,7 +213,7 @@ module _ (Q : Packet → Type 0) (closed : Closed Q) (limit lost : ℕ) (s : Ses
           (ap (λ r. trim (asked w p r (on_request w.session (requests.Publish p) 0).1)) e
           ∙ (λ n. record (trim w) { session = f n; up = w.up ++ option_to_list reply; accepted = w.accepted ++ p ∷ [] })
           ∙ ap (λ (v : World). record v { session = part t; up = v.up ++ option_to_list reply; accepted = v.accepted ++ p ∷ [] }) i.reached
-          ∙ (λ n. record (flow s b forth back ps) { session = part t; up = sym (behind_sends forth (option_to_list reply) k).0 n; accepted = ps ++ p ∷ [] }))
+          ∙ (λ n. record (flow_of ends) { session = part t; up = sym (behind_sends forth (option_to_list reply) k).0 n; accepted = ps ++ p ∷ [] }))
           (if_so (on_request w.session (requests.Publish p) 0).0 (Q (packets.Publish (numbered p.qos w.session.core p))) (q w.session.core)) (omega arith)
       by (Err e) t f g k = tt {0}
 
@@ -199,12 +225,12 @@ module _ (Q : Packet → Type 0) (closed : Closed Q) (limit lost : ℕ) (s : Ses
   goes_up x rest f e = let h : Every (GoesUp Q) (x ∷ sent rest) = subst (Every (GoesUp Q)) (up_is x rest f e) i.holds.up in h.0
 
   -- it arrives at the receiver
-  pub serves : (x : Packet) (rest : List Packet) → forth ≡ x ∷ rest → is_sending x ≡ true → Goes Q limit lost (flow s b forth back ps) (flow s (serve b x).1 rest (back ++ option_to_list (serve b x).0) ps)
+  pub serves : (x : Packet) (rest : List Packet) → forth ≡ x ∷ rest → is_sending x ≡ true → Goes Q limit lost (flow_of ends) (flow s (serve b x).1 rest (back ++ option_to_list (serve b x).0) ps)
   serves x rest f e =
       goes _ events.Up
       (ap (λ us. trim (arrives w us)) up
       ∙ ap (λ (v : World). record v { up = sent rest; broker = (serve v.broker x).1; down = v.down ++ option_to_list (serve v.broker x).0 }) i.reached
-      ∙ (λ n. record (flow s b forth back ps) { up = sent rest; broker = (serve b x).1; down = sym (behind_acks back (option_to_list (serve b x).0) (serve_acks b x)).0 n }))
+      ∙ (λ n. record (flow_of ends) { up = sent rest; broker = (serve b x).1; down = sym (behind_acks back (option_to_list (serve b x).0) (serve_acks b x)).0 n }))
       (tt {0}) refl (tt {0}) (let a = ap found up in omega (arith, a))
     where
       up : w.up ≡ x ∷ sent rest
@@ -224,7 +250,7 @@ module _ (Q : Packet → Type 0) (closed : Closed Q) (limit lost : ℕ) (s : Ses
     pub sends_back : Sends (reply_in (on_packet s x 0).0)
     sends_back = reply_sends Q _ (keeps_inc Q limit closed s x holds_core comes_down).reply
 
-    pub comes_back : Goes Q limit lost (flow s b forth back ps) (flow (on_packet s x 0).1 b (forth ++ reply_in (on_packet s x 0).0) rest ps)
+    pub comes_back : Goes Q limit lost (flow_of ends) (flow (on_packet s x 0).1 b (forth ++ reply_in (on_packet s x 0).0) rest ps)
     comes_back =
         let a = ack_alike w.session s x is_ack same_part in
         goes _ events.Down
@@ -232,7 +258,7 @@ module _ (Q : Packet → Type 0) (closed : Closed Q) (limit lost : ℕ) (s : Ses
         ∙ ap trim (heard_is (record w { down = acks rest }) (on_packet w.session x 0).0 (on_packet w.session x 0).1 inv.none none)
         ∙ (λ n. record (trim w) { session = a.after n; up = w.up ++ reply_in (a.reply n); down = acks rest })
         ∙ ap (λ (v : World). record v { session = part (on_packet s x 0).1; up = v.up ++ reply_in (on_packet s x 0).0; down = acks rest }) i.reached
-        ∙ (λ n. record (flow s b forth back ps) { session = part (on_packet s x 0).1; up = sym (behind_sends forth (reply_in (on_packet s x 0).0) sends_back).0 n; down = acks rest }))
+        ∙ (λ n. record (flow_of ends) { session = part (on_packet s x 0).1; up = sym (behind_sends forth (reply_in (on_packet s x 0).0) sends_back).0 n; down = acks rest }))
         (tt {0}) refl (tt {0}) (let c = ap found down in omega (arith, c))
       where
         none : (returns w (x ∷ acks rest)).faults ≡ []
@@ -240,9 +266,6 @@ module _ (Q : Packet → Type 0) (closed : Closed Q) (limit lost : ℕ) (s : Ses
 
   -- the connection is lost
   module _ (m : Option ℕ) where
-    abbrev back_on : Session
-    back_on = connected m s
-
     pub resumes_again : resume_of (connected m s) 0 ≡ Ok (again_of (connected m s))
     resumes_again = sends_again (connected m s)
         (subst Sound (sym (taken_core s m).1) sound)
@@ -264,7 +287,7 @@ module _ (Q : Packet → Type 0) (closed : Closed Q) (limit lost : ℕ) (s : Ses
         ∙ ap (λ r. trim (resumed (after_reply emptied (Ok None) g) r)) (resumes_taken w m inv)
         ∙ (λ n. record (trim w) { session = same.1 n; up = same.0 n; down = [] })
         ∙ ap (λ (v : World). record v { session = part (again_of (connected m s)).1; up = (again_of (connected m s)).0; down = [] }) i.reached
-        ∙ (λ n. record (flow s b forth back ps) { session = part (again_of (connected m s)).1; up = sym sends_on.all n; down = sym k.none n }))
+        ∙ (λ n. record (flow_of ends) { session = part (again_of (connected m s)).1; up = sym sends_on.all n; down = sym k.none n }))
         (tt {0}) (omega arith)
       where
         g : Session

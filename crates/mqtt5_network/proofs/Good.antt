@@ -34,10 +34,10 @@ use Rattle.mqtt5_network.specs.Forwarded.{lesser, granted_for, passed_on, forwar
 use Rattle.mqtt5_network.specs.Client.{Client, reply_in, asked_of, is_sending, comes_to, goes_up, takes_in, goes_down, left_for, taken_for, passes_under, passes_on, connected, sent_in, reconnects, happens_to}
 use Rattle.mqtt5_network.specs.Network.{Profile, begins, sent}
 use Rattle.mqtt5_network.specs.Steps.{IsStep, work_from, work_to, client_moves}
-use Rattle.mqtt5_network.proofs.Sending.{Kept, out_apart, ack_kept, back_kept}
+use Rattle.mqtt5_network.proofs.Sending.{Costs, InRange, Kept, out_apart, ack_apart, ack_kept, back_kept}
 use Rattle.mqtt5_network.proofs.Receiving.{Receives, receives}
-use Rattle.mqtt5_network.proofs.Flow.{Sends, first_sending, first_ack, behind_sends, behind_acks, serve_acks, flow, IsFlow, start_flow, same_flow, Goes, holds_core, Asked, sends_out, asks, serves, goes_up as first_goes_up, is_ack, sends_back, comes_back, resumes_again, sends_on, loses}
-use Rattle.mqtt5_network.proofs.Taking.{Costs, out_costs, InRange, out_range, ack_range, back_range}
+use Rattle.mqtt5_network.proofs.Flow.{Sends, first_sending, first_ack, behind_sends, behind_acks, serve_acks, flow, Ends, flow_of, IsFlow, start_flow, same_flow, Goes, holds_core, Asked, sends_out, asks, serves, goes_up as first_goes_up, is_ack, sends_back, comes_back, resumes_again, sends_on, loses}
+use Rattle.mqtt5_network.proofs.Taking.{back_range}
 
 -- ---- what is said of the packets of a flow
 
@@ -131,15 +131,21 @@ fewer n xs p rest e =
 -- ---- what is kept of a client
 
 -- what it sends, and what is sent to it
+abbrev ends_from : Client → Ends
+ends_from c = record { sender = c.session; receiver = c.receiver; there = c.up; back = c.down; taken = c.accepted }
+
 abbrev pub flow_from : Client → World
-flow_from c = flow c.session c.receiver c.up c.down c.accepted
+flow_from c = flow_of (ends_from c)
 
 -- the sender took on what is forwarded of what was passed
 abbrev pub taken_of : List Publish → Client → List Publish
 taken_of handed c = filter_map (forwarded_to c.subscriptions) (take c.passed handed)
 
+abbrev ends_to : List Publish → Client → Ends
+ends_to handed c = record { sender = c.sender; receiver = as_receiver c.session; there = c.down; back = c.up; taken = taken_of handed c }
+
 abbrev pub flow_to : List Publish → Client → World
-flow_to handed c = flow c.sender (as_receiver c.session) c.down c.up (taken_of handed c)
+flow_to handed c = flow_of (ends_to handed c)
 
 -- both flows are runs, the client sends its acks itself, and its sender's last id is within its limit
 pub record IsGood (handed : List Publish) (limit sender_limit : ℕ) (c : Client) : Type 0 where
@@ -172,11 +178,11 @@ module _ (handed : List Publish) (limit sender_limit : ℕ) (c : Client) (i : Is
   -- a publish is asked for
   good_asked : (p : Publish) → IsGood handed limit sender_limit (asked_of c p (on_request c.session (requests.Publish p) 0).0 (on_request c.session (requests.Publish p) 0).1)
   good_asked p = by (on_request c.session (requests.Publish p) 0).0 (on_request c.session (requests.Publish p) 0).1
-      (asks Any any_closed limit c.lost c.session c.receiver c.up c.down c.accepted i.from p (λ k. tt {0}))
-      (sends_out Any any_closed limit c.lost c.session c.receiver c.up c.down c.accepted i.from p (λ k. tt {0}))
+      (asks Any any_closed limit c.lost (ends_from c) i.from p (λ k. tt {0}))
+      (sends_out Any any_closed limit c.lost (ends_from c) i.from p (λ k. tt {0}))
       (out_apart c.session p).kept
     where
-      by : (r : Result (Option Packet) StateError) (t : Session) → Asked Any any_closed limit c.lost c.session c.receiver c.up c.down c.accepted i.from p r t → Sends (reply_in r) → Kept c.session t → IsGood handed limit sender_limit (asked_of c p r t)
+      by : (r : Result (Option Packet) StateError) (t : Session) → Asked Any any_closed limit c.lost (ends_from c) i.from p r t → Sends (reply_in r) → Kept c.session t → IsGood handed limit sender_limit (asked_of c p r t)
       by (Ok reply) t a k e =
           record {
             from = a;
@@ -201,7 +207,7 @@ module _ (handed : List Publish) (limit sender_limit : ℕ) (c : Client) (i : Is
         d = comes_to true (record c { up = rest }) x
 
         a : Goes Any limit c.lost (flow_from c) (flow_from d)
-        a = serves Any any_closed limit c.lost c.session c.receiver c.up c.down c.accepted i.from x rest u e
+        a = serves Any any_closed limit c.lost (ends_from c) i.from x rest u e
 
         other : flow_to handed d ≡ flow_to handed c
         other = same_flow c.sender c.sender (as_receiver c.session) (as_receiver c.session) c.down d.down c.up rest (taken_of handed c) refl refl (behind_acks c.down (option_to_list (serve c.receiver x).0) (serve_acks c.receiver x)).1 (sym (first_sending c.up x rest u e).1)
@@ -213,7 +219,7 @@ module _ (handed : List Publish) (limit sender_limit : ℕ) (c : Client) (i : Is
             from = subst (IsFlow Any limit c.lost) (sym other) i.from;
             to = a.still;
             own = i.own;
-            range = λ l. ack_range c.sender x (is_ack Plain plain_closed sender_limit c.lost c.sender (as_receiver c.session) c.down c.up (taken_of handed c) i.to x rest u e) (i.range l);
+            range = λ l. (ack_apart c.sender x (is_ack Plain plain_closed sender_limit c.lost (ends_to handed c) i.to x rest u e)).range (i.range l);
             within = i.within;
           };
           grows = same _ _ refl;
@@ -224,11 +230,11 @@ module _ (handed : List Publish) (limit sender_limit : ℕ) (c : Client) (i : Is
         d = comes_to false (record c { up = rest }) x
 
         a : Goes Plain sender_limit c.lost (flow_to handed c) (flow_to handed d)
-        a = comes_back Plain plain_closed sender_limit c.lost c.sender (as_receiver c.session) c.down c.up (taken_of handed c) i.to x rest u e
+        a = comes_back Plain plain_closed sender_limit c.lost (ends_to handed c) i.to x rest u e
 
         other : flow_from d ≡ flow_from c
         other = same_flow c.session c.session c.receiver c.receiver c.up rest c.down d.down c.accepted refl refl (sym (first_ack c.up x rest u e).1)
-            (behind_sends c.down (reply_in (on_packet c.sender x 0).0) (sends_back Plain plain_closed sender_limit c.lost c.sender (as_receiver c.session) c.down c.up (taken_of handed c) i.to x rest u e)).1
+            (behind_sends c.down (reply_in (on_packet c.sender x 0).0) (sends_back Plain plain_closed sender_limit c.lost (ends_to handed c) i.to x rest u e)).1
 
     to_broker : (b : Bool) → is_sending x ≡ b → Stepped handed limit sender_limit c (comes_to b (record c { up = rest }) x) 1
     to_broker true e = to_receiver e
@@ -253,12 +259,12 @@ module _ (handed : List Publish) (limit sender_limit : ℕ) (c : Client) (i : Is
       where
         r : Receives c.session (on_packet c.session x 0) (serve (as_receiver c.session) x)
         r =
-            let g = first_goes_up Plain plain_closed sender_limit c.lost c.sender (as_receiver c.session) c.down c.up (taken_of handed c) i.to x rest f e in
+            let g = first_goes_up Plain plain_closed sender_limit c.lost (ends_to handed c) i.to x rest f e in
             receives c.session x 0 i.own (plain_sent x g.1 g.0)
 
         a : Goes Plain sender_limit c.lost (flow_to handed c) (flow_to handed taker)
         a = subst (Goes Plain sender_limit c.lost (flow_to handed c)) (λ n. flow c.sender (sym r.after n) rest (c.up ++ reply_in (sym r.reply n)) (taken_of handed c))
-            (serves Plain plain_closed sender_limit c.lost c.sender (as_receiver c.session) c.down c.up (taken_of handed c) i.to x rest f e)
+            (serves Plain plain_closed sender_limit c.lost (ends_to handed c) i.to x rest f e)
 
         other : flow_from taker ≡ flow_from c
         other = same_flow c.session (on_packet c.session x 0).1 c.receiver c.receiver c.up taker.up c.down rest c.accepted r.part refl
@@ -274,15 +280,15 @@ module _ (handed : List Publish) (limit sender_limit : ℕ) (c : Client) (i : Is
         }
       where
         k : Kept c.session (on_packet c.session x 0).1
-        k = ack_kept c.session x (is_ack Any any_closed limit c.lost c.session c.receiver c.up c.down c.accepted i.from x rest f e)
+        k = ack_kept c.session x (is_ack Any any_closed limit c.lost (ends_from c) i.from x rest f e)
 
         a : Goes Any limit c.lost (flow_from c) (flow_from taker)
-        a = comes_back Any any_closed limit c.lost c.session c.receiver c.up c.down c.accepted i.from x rest f e
+        a = comes_back Any any_closed limit c.lost (ends_from c) i.from x rest f e
 
         other : flow_to handed taker ≡ flow_to handed c
         other = same_flow c.sender c.sender (as_receiver c.session) (as_receiver (on_packet c.session x 0).1) c.down rest c.up taker.up (taken_of handed c) refl k.seen
             (sym (first_ack c.down x rest f e).1)
-            (behind_sends c.up (reply_in (on_packet c.session x 0).0) (sends_back Any any_closed limit c.lost c.session c.receiver c.up c.down c.accepted i.from x rest f e)).1
+            (behind_sends c.up (reply_in (on_packet c.session x 0).0) (sends_back Any any_closed limit c.lost (ends_from c) i.from x rest f e)).1
 
     to_client : (b : Bool) → is_sending x ≡ b → Stepped handed limit sender_limit c taker 1
     to_client true e = sent_to_client e
@@ -304,7 +310,7 @@ module _ (handed : List Publish) (limit sender_limit : ℕ) (c : Client) (i : Is
     further : c.passed + 1 ≤ length handed
     further = let n = (take_next c.passed handed p rest l).1 in omega (arith, n)
 
-    forwards : (q : Publish) → forwarded_to c.subscriptions p ≡ Some q → (r : Result (Option Packet) StateError) (t : Session) → Asked Plain plain_closed sender_limit c.lost c.sender (as_receiver c.session) c.down c.up (taken_of handed c) i.to q r t
+    forwards : (q : Publish) → forwarded_to c.subscriptions p ≡ Some q → (r : Result (Option Packet) StateError) (t : Session) → Asked Plain plain_closed sender_limit c.lost (ends_to handed c) i.to q r t
         → Sends (reply_in r) → Costs c.sender (r, t) → (0 < sender_limit → InRange t.core) → Stepped handed limit sender_limit c (taken_for c r t) ((taken_for c r t).passed - c.passed)
     forwards q e (Ok reply) t a k cost range =
         record {
@@ -349,9 +355,9 @@ module _ (handed : List Publish) (limit sender_limit : ℕ) (c : Client) (i : Is
 
     passes : (o : Option QoS) → granted_for c.subscriptions p ≡ o → Stepped handed limit sender_limit c (passes_under o c p) ((passes_under o c p).passed - c.passed)
     passes (Some g) e = let q = forwarded g p in forwards q (ap (option_map (λ g. forwarded g p)) e) (on_request c.sender (requests.Publish q) 0).0 (on_request c.sender (requests.Publish q) 0).1
-        (asks Plain plain_closed sender_limit c.lost c.sender (as_receiver c.session) c.down c.up (taken_of handed c) i.to q (forwarded_plain g p))
-        (sends_out Plain plain_closed sender_limit c.lost c.sender (as_receiver c.session) c.down c.up (taken_of handed c) i.to q (forwarded_plain g p))
-        (out_costs c.sender q) (λ low. out_range c.sender q (i.range low))
+        (asks Plain plain_closed sender_limit c.lost (ends_to handed c) i.to q (forwarded_plain g p))
+        (sends_out Plain plain_closed sender_limit c.lost (ends_to handed c) i.to q (forwarded_plain g p))
+        (out_apart c.sender q).cost (λ low. (out_apart c.sender q).range (i.range low))
     passes None e = misses (ap (option_map (λ g. forwarded g p)) e)
 
   passed_stepped : (ps : List Publish) → left_for handed c ≡ ps → Stepped handed limit sender_limit c (passes_on c ps) ((passes_on c ps).passed - c.passed)
@@ -363,9 +369,9 @@ module _ (handed : List Publish) (limit sender_limit : ℕ) (c : Client) (i : Is
   good_lost m n =
       subst (IsGood handed limit sender_limit) (λ j. record c { session = kept_by h (sym e j); up = sent_in (sym e j); sender = kept_by k (sym g j); down = sent_in (sym g j); lost = c.lost + 1 })
       (record {
-        from = loses Any any_closed limit c.lost c.session c.receiver c.up c.down c.accepted i.from m (again_of k).0 (sends_on Plain plain_closed sender_limit c.lost c.sender (as_receiver c.session) c.down c.up (taken_of handed c) i.to n);
+        from = loses Any any_closed limit c.lost (ends_from c) i.from m (again_of k).0 (sends_on Plain plain_closed sender_limit c.lost (ends_to handed c) i.to n);
         to = subst (λ b. IsFlow Plain sender_limit (c.lost + 1) (flow (again_of k).1 b (again_of k).0 (again_of h).0 (taken_of handed c))) (sym kept.seen)
-            (loses Plain plain_closed sender_limit c.lost c.sender (as_receiver c.session) c.down c.up (taken_of handed c) i.to n (again_of h).0 (sends_on Any any_closed limit c.lost c.session c.receiver c.up c.down c.accepted i.from m));
+            (loses Plain plain_closed sender_limit c.lost (ends_to handed c) i.to n (again_of h).0 (sends_on Any any_closed limit c.lost (ends_from c) i.from m));
         own = kept.own ∙ i.own;
         range = λ l. back_range n c.sender (i.range l);
         within = i.within;
@@ -378,10 +384,10 @@ module _ (handed : List Publish) (limit sender_limit : ℕ) (c : Client) (i : Is
       k = connected n c.sender
 
       e : resume_of h 0 ≡ Ok (again_of h)
-      e = resumes_again Any any_closed limit c.lost c.session c.receiver c.up c.down c.accepted i.from m
+      e = resumes_again Any any_closed limit c.lost (ends_from c) i.from m
 
       g : resume_of k 0 ≡ Ok (again_of k)
-      g = resumes_again Plain plain_closed sender_limit c.lost c.sender (as_receiver c.session) c.down c.up (taken_of handed c) i.to n
+      g = resumes_again Plain plain_closed sender_limit c.lost (ends_to handed c) i.to n
 
       kept : Kept c.session (again_of h).1
       kept = back_kept m c.session
@@ -415,7 +421,7 @@ module _ (handed : List Publish) (limit sender_limit : ℕ) (c : Client) (i : Is
 
 -- the sender's limit stays
 pub sender_limited : (handed : List Publish) (limit sender_limit : ℕ) (c : Client) → IsGood handed limit sender_limit c → c.sender.core.limit ≡ sender_limit
-sender_limited handed limit sender_limit c i = (holds_core Plain plain_closed sender_limit c.lost c.sender (as_receiver c.session) c.down c.up (taken_of handed c) i.to).limited
+sender_limited handed limit sender_limit c i = (holds_core Plain plain_closed sender_limit c.lost (ends_to handed c) i.to).limited
 
 pub good_start : (p : Profile) → IsGood [] p.limit p.sender_limit (begins p)
 good_start p =

@@ -1,6 +1,8 @@
 -- The part of a session that sends depends on itself alone, and a call of it keeps the part that receives.
-use Rattle.std.proofs.Common.{◌≡◌, ℕ, Bool, true, false, cond, List, [], ◌∷◌, ◌++◌, Option, Some, None, Ok, refl, sym, ap, ◌∙◌, append-nil, ◌==◌}
+use Rattle.std.proofs.Common.{◌≡◌, ℕ, ◌+◌, ◌<◌, ◌≤◌, arith, nat_le, Err, Bool, true, false, cond, List, [], ◌∷◌, ◌++◌, Option, Some, None, Ok, refl, sym, ap, ◌∙◌, append-nil, ◌==◌}
+use Rattle.std.specs.Prelude.{sum_by}
 use Rattle.std.specs.List.{filter_map}
+use Rattle.std.proofs.lemmas.Bool.{leb-false}
 use Rattle.std.specs.FinMap as map
 use Rattle.std.specs.FinSet as set
 use Rattle.std.proofs.lemmas.List.Elements.{filter_map-append}
@@ -17,15 +19,16 @@ use Rattle.mqtt5_inflight.specs.declared.event.Event.TheVariants as events
 use Rattle.mqtt5_inflight.specs.declared.event.Request.TheVariants as requests
 use Rattle.mqtt5_inflight.specs.declared.event.Outgoing.TheVariants as outgoing
 use Rattle.mqtt5_inflight.specs.declared.error.StateError.{StateError}
-use Rattle.mqtt5_session.specs.Session.{Session, Answer}
-use Rattle.mqtt5_session.specs.Requests.{on_request, unless, over_maximum, Verdict, Refuse, Wait, Store, judged, out_acked, out_publish, id_for, last_after, with_event_at}
+use Rattle.mqtt5_session.specs.Session.{Core, Session, Answer}
+use Rattle.mqtt5_session.specs.Requests.{on_request, unless, over_maximum, Verdict, Refuse, Wait, Store, judged, out_acked, out_publish, id_for, next_id, last_given, last_after, with_event_at}
 use Rattle.mqtt5_session.specs.Packets.{on_packet, answer_to, with_incoming, freed_for, on_puback, on_pubrec, on_pubcomp, puback_of, pubrec_of, pubcomp_of}
 use Rattle.mqtt5_session.specs.Again.{event_for}
 use Rattle.mqtt5_world.specs.World.{taken_back}
 use Rattle.mqtt5_progress.specs.Packets.{IsAck, OfPublish, OfFirst, OfRelease}
 use Rattle.mqtt5_progress.proofs.Closed.{again_of}
 use Rattle.mqtt5_network.specs.Receiver.{publish_in, shown, as_receiver}
-use Rattle.mqtt5_network.specs.Client.{connected}
+use Rattle.mqtt5_progress.specs.Progress.{work_of, work_up, work_waiting}
+use Rattle.mqtt5_network.specs.Client.{reply_in, connected}
 
 -- ---- the two parts
 
@@ -45,9 +48,6 @@ pub record Kept (s t : Session) : Type 0 where
   pub seen : as_receiver t ≡ as_receiver s
   pub own : t.core.manual_acks ≡ s.core.manual_acks
 
-kept : (s : Session) → Kept s s
-kept s = record { seen = refl; own = refl }
-
 pub show_one : (es : List Event) (p : Publish) → filter_map publish_in (es ++ events.Incoming (packets.Publish p) ∷ []) ≡ filter_map publish_in es ++ p ∷ []
 show_one es p = filter_map-append publish_in es (events.Incoming (packets.Publish p) ∷ [])
 
@@ -61,60 +61,130 @@ told_kept s t x none e ids own =
 
 -- ---- calls of what sends
 
+-- what is sent, and what waits then, is four more at most
+abbrev pub Costs : Session → Answer → Type 0
+Costs s a = sum_by work_up (reply_in a.0) + work_waiting a.1.core.waiting ≤ work_waiting s.core.waiting + 4
+
+-- the last id that was given is within the limit
+pub record InRange (c : Core) : Type 0 where
+  pub last : c.last < c.limit
+  pub current : c.current ≤ c.limit
+
 -- an answer of a session beside the one of its sending part
 pub record Apart (s : Session) (a b : Answer) : Type 0 where
   pub reply : a.0 ≡ b.0
   pub after : part a.1 ≡ part b.1
   pub kept : Kept s a.1
+  pub cost : Costs s a
+  pub range : InRange s.core → InRange a.1.core
+
+refused : (s : Session) (e : StateError) → Apart s (Err e, s) (Err e, part s)
+refused s e = record { reply = refl; after = refl; kept = record { seen = refl; own = refl }; cost = omega arith; range = λ i. i }
 
 either : (c : Bool) (s : Session) (x y z w : Answer) → Apart s x z → Apart s y w → Apart s (cond c x y) (cond c z w)
 either true s x y z w h k = h
 either false s x y z w h k = k
 
+four : (q : QoS) → work_of q ≤ 4
+four AtMostOnce = omega arith
+four AtLeastOnce = omega arith
+four ExactlyOnce = omega arith
+
+next_range : (c : Core) → InRange c → last_given c < c.limit
+next_range c i = by (nat_le c.current (next_id c)) refl
+  where
+    by : (b : Bool) → nat_le c.current (next_id c) ≡ b → cond b 0 (next_id c) < c.limit
+    by true e = let l = i.last in omega (arith, l)
+    by false e = let n = leb-false c.current (next_id c) e in let m = i.current in omega (arith, n, m)
+
+last_range : (c : Core) (id : ℕ) → InRange c → last_after c id < c.limit
+last_range c id i = by (id == 0)
+  where
+    by : (b : Bool) → cond b (last_given c) c.last < c.limit
+    by true = next_range c i
+    by false = i.last
+
 -- a publish is asked for
-acked_apart : (v : Verdict) (s : Session) (p : Publish) (last : ℕ) → Apart s (out_acked v s p last 0) (out_acked v (part s) p last 0)
-acked_apart (Refuse e) s p last = record { reply = refl; after = refl; kept = kept s }
-acked_apart Wait s p last = record { reply = refl; after = refl; kept = told_kept s _ (events.Outgoing (outgoing.AwaitAck p.pkid)) refl refl refl refl }
-acked_apart Store s p last = record { reply = refl; after = refl; kept = told_kept s _ (events.Outgoing (outgoing.Publish p.pkid)) refl refl refl refl }
+acked_apart : (v : Verdict) (s : Session) (p : Publish) (last : ℕ) → (InRange s.core → last < s.core.limit) → Apart s (out_acked v s p last 0) (out_acked v (part s) p last 0)
+acked_apart (Refuse e) s p last l = refused s e
+acked_apart Wait s p last l =
+    record {
+      reply = refl;
+      after = refl;
+      kept = told_kept s _ (events.Outgoing (outgoing.AwaitAck p.pkid)) refl refl refl refl;
+      cost = let f = four p.qos in omega (arith, f);
+      range = λ i. record { last = l i; current = i.current };
+    }
+acked_apart Store s p last l =
+    record {
+      reply = refl;
+      after = refl;
+      kept = told_kept s _ (events.Outgoing (outgoing.Publish p.pkid)) refl refl refl refl;
+      cost = let f = four p.qos in omega (arith, f);
+      range = λ i. record { last = l i; current = i.current };
+    }
 
 once_apart : (o : Option StateError) (s : Session) (p : Publish) → Apart s (unless o s (Ok (Some (packets.Publish p)), with_event_at s (outgoing.Publish p.pkid) 0)) (unless o (part s) (Ok (Some (packets.Publish p)), with_event_at (part s) (outgoing.Publish p.pkid) 0))
-once_apart None s p = record { reply = refl; after = refl; kept = told_kept s _ (events.Outgoing (outgoing.Publish p.pkid)) refl refl refl refl }
-once_apart (Some e) s p = record { reply = refl; after = refl; kept = kept s }
+once_apart None s p =
+    record {
+      reply = refl;
+      after = refl;
+      kept = told_kept s _ (events.Outgoing (outgoing.Publish p.pkid)) refl refl refl refl;
+      cost = let f = four p.qos in omega (arith, f);
+      range = λ i. record { last = i.last; current = i.current };
+    }
+once_apart (Some e) s p = refused s e
 
 publish_apart : (q : QoS) (s : Session) (p : Publish) → Apart s (out_publish q s p 0) (out_publish q (part s) p 0)
 publish_apart AtMostOnce s p = once_apart (over_maximum s.core p) s p
-publish_apart AtLeastOnce s p = acked_apart (judged s.core (record p { pkid = id_for s.core p.pkid })) s (record p { pkid = id_for s.core p.pkid }) (last_after s.core p.pkid)
-publish_apart ExactlyOnce s p = acked_apart (judged s.core (record p { pkid = id_for s.core p.pkid })) s (record p { pkid = id_for s.core p.pkid }) (last_after s.core p.pkid)
+publish_apart AtLeastOnce s p = acked_apart (judged s.core (record p { pkid = id_for s.core p.pkid })) s (record p { pkid = id_for s.core p.pkid }) (last_after s.core p.pkid) (last_range s.core p.pkid)
+publish_apart ExactlyOnce s p = acked_apart (judged s.core (record p { pkid = id_for s.core p.pkid })) s (record p { pkid = id_for s.core p.pkid }) (last_after s.core p.pkid) (last_range s.core p.pkid)
 
 pub out_apart : (s : Session) (p : Publish) → Apart s (on_request s (requests.Publish p) 0) (on_request (part s) (requests.Publish p) 0)
 unfolding on_request
 out_apart s p = publish_apart p.qos s p
 
 -- an ack comes
+alone_apart : (s : Session) (id : ℕ) → Apart s (freed_for None s id 0) (freed_for None (part s) id 0)
+alone_apart s id = record { reply = refl; after = refl; kept = record { seen = refl; own = refl }; cost = omega arith; range = λ i. record { last = i.last; current = i.current } }
+
 freed_apart : (o : Option Publish) (s : Session) (id : ℕ) → Apart s (freed_for o s id 0) (freed_for o (part s) id 0)
-freed_apart None s id = record { reply = refl; after = refl; kept = record { seen = refl; own = refl } }
+freed_apart None s id = alone_apart s id
 freed_apart (Some p) s id =
     either (p.pkid == id) s _ _ _ _
-    (record { reply = refl; after = refl; kept = told_kept s _ (events.Outgoing (outgoing.Publish id)) refl refl refl refl })
-    (record { reply = refl; after = refl; kept = record { seen = refl; own = refl } })
+    (record {
+      reply = refl;
+      after = refl;
+      kept = told_kept s _ (events.Outgoing (outgoing.Publish id)) refl refl refl refl;
+      cost = let f = four p.qos in omega (arith, f);
+      range = λ i. record { last = i.last; current = i.current };
+    })
+    (alone_apart s id)
 
 puback_apart : (x : Option Slot) (s : Session) (id : ℕ) → Apart s (on_puback x s id 0) (on_puback x (part s) id 0)
-puback_apart None s id = record { reply = refl; after = refl; kept = kept s }
-puback_apart (Some Released) s id = record { reply = refl; after = refl; kept = kept s }
+puback_apart None s id = refused s _
+puback_apart (Some Released) s id = refused s _
 puback_apart (Some (Sent p)) s id = freed_apart s.core.waiting s id
 
 pubrec_apart : (x : Option Slot) (s : Session) (id : ℕ) → Apart s (on_pubrec x s Success id 0) (on_pubrec x (part s) Success id 0)
-pubrec_apart None s id = record { reply = refl; after = refl; kept = kept s }
-pubrec_apart (Some Released) s id = record { reply = refl; after = refl; kept = kept s }
-pubrec_apart (Some (Sent p)) s id = record { reply = refl; after = refl; kept = told_kept s _ (events.Outgoing (outgoing.PubRel id)) refl refl refl refl }
+pubrec_apart None s id = refused s _
+pubrec_apart (Some Released) s id = refused s _
+pubrec_apart (Some (Sent p)) s id =
+    record {
+      reply = refl;
+      after = refl;
+      kept = told_kept s _ (events.Outgoing (outgoing.PubRel id)) refl refl refl refl;
+      cost = omega arith;
+      range = λ i. record { last = i.last; current = i.current };
+    }
 
 pubcomp_apart : (x : Option Slot) (s : Session) (id : ℕ) → Apart s (on_pubcomp x s id 0) (on_pubcomp x (part s) id 0)
-pubcomp_apart None s id = record { reply = refl; after = refl; kept = kept s }
-pubcomp_apart (Some (Sent p)) s id = record { reply = refl; after = refl; kept = kept s }
+pubcomp_apart None s id = refused s _
+pubcomp_apart (Some (Sent p)) s id = refused s _
 pubcomp_apart (Some Released) s id = freed_apart s.core.waiting s id
 
 -- the ack was told before
-ack_apart : (s : Session) (x : Packet) → IsAck x → Apart (with_incoming s x) (on_packet s x 0) (answer_to (part s) x 0)
+pub ack_apart : (s : Session) (x : Packet) → IsAck x → Apart (with_incoming s x) (on_packet s x 0) (answer_to (part s) x 0)
 unfolding on_packet
 ack_apart s _ (OfPublish id) = puback_apart (map.get s.core.in_use id) (with_incoming s (puback_of id)) id
 ack_apart s _ (OfFirst id) = pubrec_apart (map.get s.core.in_use id) (with_incoming s (pubrec_of id)) id

@@ -22,7 +22,8 @@ use Rattle.mqtt5_network.specs.Forwarded.{granted_for, forwarded}
 use Rattle.mqtt5_network.specs.Client.{Client, is_sending, left_for, taken_for, passes_under, passes_on, happens_to}
 use Rattle.mqtt5_network.specs.Network.{Network, changed, newly, happens_in, run_network, IsReached, AtRest, AllAtRest, sent, acks}
 use Rattle.mqtt5_network.specs.Steps.{IsStep, Steps, work_from, work_to, work_left, client_moves, at_place, moves, moved}
-use Rattle.mqtt5_network.proofs.Taking.{InRange, IsTaken, out_taken}
+use Rattle.mqtt5_network.proofs.Sending.{InRange}
+use Rattle.mqtt5_network.proofs.Taking.{IsTaken, out_taken}
 use Rattle.mqtt5_network.proofs.Good.{flow_from, flow_to, no_alias, client_less, sender_limited}
 use Rattle.mqtt5_network.proofs.Joined.{IsClient, IsJoined, next_joined, joined}
 use Rattle.mqtt5_network.proofs.Counted.{sender_idle}
