@@ -109,7 +109,9 @@ static int begin(bool clean_start) {
     flush_output(s);
     while (!take_input(s, &session_present)) {}
     printf("connected, %s\n", session_present ? "the broker has the session" : "a new session");
-    if (session_present) done(mqtt5_client_resume(&client, now()), "resume");
+    size_t given_up;
+    done(mqtt5_client_take_up(&client, session_present, now(), &given_up), "take_up");
+    if (given_up) printf("%zu requests are given up\n", given_up);
     flush_output(s);
     return s;
 }

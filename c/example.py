@@ -34,7 +34,7 @@ CALLS = {
     "subscribe": BYTES + [c.c_uint8] + TIME,
     "disconnect": TIME,
     "next_event": [c.POINTER(Event)] + BYTES + BYTES,
-    "resume": TIME,
+    "take_up": [c.c_bool] + TIME + [c.POINTER(c.c_size_t)],
 }
 
 
@@ -104,8 +104,10 @@ class Connection:
         while self.connected is None:
             self.take()
         print("connected,", "the broker has the session" if self.connected else "a new session")
-        if self.connected:
-            self.client.resume(now())
+        given_up = c.c_size_t()
+        self.client.take_up(self.connected, now(), c.byref(given_up))
+        if given_up.value:
+            print(given_up.value, "requests are given up")
         self.flush()
 
     def wait(self, came, acked):

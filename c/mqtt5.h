@@ -50,7 +50,7 @@ typedef struct {
     uint32_t qos;
     bool dup;
     bool retain;
-    /* Of a ConnAck, whether the broker has the session: then call mqtt5_client_resume. */
+    /* Of a ConnAck, whether the broker has the session: hand it to mqtt5_client_take_up. */
     bool session_present;
     /* Of a Publish that came, how many bytes its topic and its payload have. */
     size_t topic_len;
@@ -80,7 +80,8 @@ uint32_t mqtt5_client_output(mqtt5_client *h, uint8_t *buffer, size_t buffer_len
 /* The first `count` bytes of the output were sent; all of it where it has fewer. */
 uint32_t mqtt5_client_sent(mqtt5_client *h, size_t count);
 
-/* Asks for a publish of QoS 0, 1 or 2. */
+/* Asks for a publish of QoS 0, 1 or 2. After a refusal, as of one that the broker's limit doesn't let pass (9), the client
+   is as before. */
 uint32_t mqtt5_client_publish(mqtt5_client *h, const uint8_t *topic, size_t topic_len, const uint8_t *payload,
                               size_t payload_len, uint8_t qos, bool retain, uint64_t at);
 
@@ -106,8 +107,14 @@ uint32_t mqtt5_client_disconnect(mqtt5_client *h, uint64_t at);
 uint32_t mqtt5_client_next_event(mqtt5_client *h, mqtt5_event *event, uint8_t *topic, size_t topic_len,
                                  uint8_t *payload, size_t payload_len);
 
+/* After a cut, once the ConnAck's event was taken out, which says whether the broker has the session. With it, all that
+   awaits an ack is sent again, but the publishes that the broker's limit doesn't let pass; without it the session ends,
+   and all that awaits an ack is let go. `count` tells how many requests were let go. 1: a session ends, and an event isn't
+   taken out yet. After a refusal the client is as before. */
+uint32_t mqtt5_client_take_up(mqtt5_client *h, bool session_present, uint64_t at, size_t *count);
+
 /* After a cut, once the ConnAck's event says that the broker has the session: all that awaits an ack is sent again. After
-   a refusal the output is as before, and the call may be made again. */
+   a refusal, as of a publish that the broker's limit doesn't let pass (9), the output is as before. */
 uint32_t mqtt5_client_resume(mqtt5_client *h, uint64_t at);
 
 /* Ends the session: what awaits an ack is let go, and `count` tells how many requests that were. 1: an event isn't taken

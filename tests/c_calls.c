@@ -54,6 +54,7 @@ static int failures;
 #define CONNECT "\x10\x13\0\x04MQTT\x05\x02\0\x3c\x05\x11\0\0\x0e\x10\0\x01" "c"
 #define CONNACK "\x20\x03\0\0\0"
 #define CONNACK_WITH_SESSION "\x20\x03\x01\0\0"
+#define CONNACK_OF_EIGHT "\x20\x08\x01\0\x05\x27\0\0\0\x08"
 #define SUBSCRIBE "\x82\x07\0\x01\0\0\x01" "a" "\x02"
 #define SUBACK "\x90\x04\0\x01\0\x02"
 #define PUBLISH_1 "\x32\x07\0\x01" "a" "\0\x01\0" "x"
@@ -61,6 +62,7 @@ static int failures;
 #define PUBACK "\x40\x02\0\x01"
 #define PUBLISH_2 "\x34\x07\0\x01" "a" "\0\x02\0" "x"
 #define PUBREC "\x50\x02\0\x02"
+#define PUBREL_1 "\x62\x02\0\x01"
 #define PUBREL "\x62\x02\0\x02"
 #define PUBCOMP "\x70\x02\0\x02"
 #define PINGREQ "\xc0\0"
@@ -123,6 +125,7 @@ static void expect_no_client(mqtt5_client *h, int line) {
         mqtt5_client_next_event(h, &e, topic, 4, payload, 4),
         mqtt5_client_resume(h, 0),
         mqtt5_client_clean(h, &count),
+        mqtt5_client_take_up(h, true, 0, &count),
     };
     for (size_t i = 0; i < sizeof answers / sizeof *answers; i++) {
         if (answers[i] != MQTT5_NO_CLIENT) {
@@ -245,6 +248,39 @@ static void a_cut(void) {
     EXPECT(blocks, 0);
 }
 
+/* A broker that has lost the session, and one that takes packets of eight bytes at most. */
+static void a_lost_session(void) {
+    mqtt5_client h = {0};
+    size_t count = 7;
+    EXPECT(mqtt5_client_new(&h, 10, false), MQTT5_DONE);
+    EXPECT(mqtt5_client_publish(&h, BYTES("a"), BYTES("x"), 1, false, 1), MQTT5_DONE);
+    EVENT(&h, 2, 3, 1);
+    EXPECT(mqtt5_client_connect(&h, BYTES("c"), 60, true, 3600), MQTT5_DONE);
+    OUTPUT(&h, CONNECT);
+    EXPECT(mqtt5_client_receive(&h, BYTES(CONNACK), 2), MQTT5_DONE);
+    EXPECT(mqtt5_client_take_up(&h, false, 2, &count), 1);
+    EXPECT(EVENT(&h, 1, 2, 0).session_present, false);
+    EXPECT(mqtt5_client_take_up(&h, false, 2, &count), MQTT5_DONE);
+    EXPECT(count, 1);
+    OUTPUT(&h, "");
+    EXPECT(mqtt5_client_publish(&h, BYTES("a"), BYTES("x"), 1, false, 2), MQTT5_DONE);
+    OUTPUT(&h, PUBLISH_1);
+    EVENT(&h, 2, 3, 1);
+
+    EXPECT(mqtt5_client_connect(&h, BYTES("c"), 60, true, 3600), MQTT5_DONE);
+    OUTPUT(&h, CONNECT);
+    EXPECT(mqtt5_client_receive(&h, BYTES(CONNACK_OF_EIGHT), 3), MQTT5_DONE);
+    EXPECT(EVENT(&h, 1, 2, 0).session_present, true);
+    EXPECT(mqtt5_client_take_up(&h, true, 3, &count), MQTT5_DONE);
+    EXPECT(count, 1);
+    OUTPUT(&h, PUBREL_1);
+    EVENT(&h, 2, 6, 1);
+    EXPECT(mqtt5_client_publish(&h, BYTES("a"), BYTES("x"), 1, false, 3), 9);
+    EVENT(&h, 0, 0, 0);
+    EXPECT(mqtt5_client_free(&h), MQTT5_DONE);
+    EXPECT(blocks, 0);
+}
+
 static void misuse(void) {
     mqtt5_client h = {0};
     expect_no_client(&h, __LINE__);
@@ -290,6 +326,7 @@ static bool all_calls(mqtt5_client *h, uint32_t *code) {
         && !(*code = mqtt5_client_unsubscribe(h, BYTES("a"), 1))
         && !(*code = mqtt5_client_ping(h, 1))
         && !(*code = mqtt5_client_resume(h, 1))
+        && !(*code = mqtt5_client_take_up(h, true, 1, &count))
         && !(*code = mqtt5_client_disconnect(h, 1))
         && !(*code = mqtt5_client_output(h, buffer, sizeof buffer, &count))
         && !(*code = mqtt5_client_sent(h, count));
@@ -325,6 +362,7 @@ int main(void) {
     each_call();
     acks_by_hand();
     a_cut();
+    a_lost_session();
     misuse();
     refused();
     if (!failures) printf("each call of c/mqtt5.h, acks by hand, a cut, and misuse: as they should be\n");

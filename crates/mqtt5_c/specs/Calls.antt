@@ -1,13 +1,17 @@
 -- What a call leaves of a handle's client, and the number that it answers.
-use Rattle.std.specs.Prelude.{◌≡◌, ℕ, List, [], ◌∷◌, Option, None, Some, IsOk, IfErr, OnOk, OnErr, drop, length, Bool}
+use Rattle.std.specs.Prelude.{◌≡◌, ◌≢◌, ℕ, List, [], ◌∷◌, Option, None, Some, IsOk, IfErr, OnOk, OnErr, drop, length, Bool}
 use Rattle.mqtt5_inflight.specs.declared.error.StateError.{StateError}
 use Rattle.mqtt5_inflight.specs.declared.event.Request.{Request}
+use Rattle.mqtt5_inflight.specs.declared.event.Request.TheVariants as requests
 use Rattle.mqtt5_drive.specs.Run.{piece}
 use Rattle.mqtt5_client.specs.declared.client.Client.{Client}
 use Rattle.mqtt5_session.specs.Session.{fresh}
 use Rattle.mqtt5_client.specs.Client.{asking, Runs, Fails, no_limits}
 use Rattle.mqtt5_drive.specs.Limit.{allowed}
 use Rattle.mqtt5_client.specs.Again.{SendsAgain, Refuses}
+use Rattle.mqtt5_client.specs.Asked.{Declines}
+use Rattle.mqtt5_client.specs.TakingUp.{NotTakenUp}
+use Rattle.mqtt5_client.specs.TakingUp as taking_up
 use Rattle.mqtt5_c.specs.Numbers.{Outcome, code_of, no_client}
 
 -- Without a client a call is answered by 200, and there is still none. Else there is one after it too, and the number is that of an
@@ -25,11 +29,13 @@ Receives bytes at old outcome new =
     × OnErr outcome (new.input.items ≡ [])
     × (new.codec ≡ allowed (drop (length old.state.events) new.state.events) old.codec)
 
--- a request: session and output are the run's, and the input waits as before
+-- a request: session and output are the run's; or all is as before, but that a refused ping is counted. The input waits as before.
 abbrev pub Asks : Request → ℕ → Client → Outcome → Client → Type 0
 Asks request at old outcome new =
     OnOk outcome (Runs old (asking at request ∷ []) [] new)
-    × IfErr outcome (λ e. Fails e old (asking at request ∷ []) [] new)
+    × IfErr outcome (λ e. Declines e old.codec request at old.state new.state)
+    × OnErr outcome (request ≢ requests.PingReq → new.state ≡ old.state)
+    × OnErr outcome (new.output.items ≡ old.output.items)
     × ((new.input.items ≡ old.input.items) × (new.codec ≡ old.codec))
 
 -- so many bytes of the output were sent: they are gone, and nothing else is
@@ -62,3 +68,13 @@ Cleans old outcome new =
     × OnOk outcome ((new.input.items ≡ []) × (new.output.items ≡ []))
     × (new.codec ≡ old.codec)
     × OnErr outcome (new ≡ old)
+
+-- the session is taken up on a new connection, or it ends, as the ConnAck says (3.2.2.1.1); or it is as before
+abbrev pub TakesUp : Bool → ℕ → Client → Outcome → Client → Type 0
+TakesUp session_present at old outcome new =
+    OnOk outcome (taking_up.TakesUp session_present old at new)
+    × IfErr outcome (λ e. NotTakenUp session_present e old at)
+    × OnErr outcome (new.state ≡ old.state)
+    × OnErr outcome (new.output.items ≡ old.output.items)
+    × (new.input.items ≡ old.input.items)
+    × (new.codec ≡ old.codec)

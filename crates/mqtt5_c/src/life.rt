@@ -3,7 +3,8 @@
 ghost use Rattle.std.specs.Prelude.{◌≡◌, ◌⊎◌, ◌<◌, [], None, Some, IsNone, IsSome, IfOk, IfErr, IfSome, length};
 ghost use Rattle.mqtt5_session.specs.Session.{fresh};
 ghost use Rattle.mqtt5_client.specs.Client.{IsReady, given_back};
-ghost use Rattle.mqtt5_c.specs.Calls.{Called, Cleans, IsNew, Resumes};
+ghost use Rattle.mqtt5_client.specs.TakingUp.{returned};
+ghost use Rattle.mqtt5_c.specs.Calls.{Called, Cleans, IsNew, Resumes, TakesUp};
 ghost use Rattle.mqtt5_c.specs.Handles.{IsKept};
 ghost use Rattle.mqtt5_c.specs.Numbers.{no_client, has_client, bad_argument, out_of_memory};
 
@@ -112,6 +113,42 @@ pub extern "C" fn mqtt5_client_clean(alloc: Global, h: &mut Handle, count: &mut 
         Ok(requests) => {
             put(h, client);
             *count = requests.len();
+            0
+        }
+        Err(fault) => {
+            put(h, client);
+            fault_code(&fault)
+        }
+    }
+}
+
+/// Takes the session up on a new connection, or ends it, as the ConnAck says whether the broker has it (an event's
+/// `session_present`). With it all that awaits an ack goes to the end of the output, publishes with dup, but those that
+/// the broker's limit doesn't let pass; without it all that awaits an ack is let go, and the session is a new one.
+/// `count` tells how many requests were let go. 0; 8, 12 and 100 + n, and 1 where a session ends and an event isn't
+/// taken out: the client is then as before.
+#[unsafe(no_mangle)]
+pub extern "C" fn mqtt5_client_take_up(
+    alloc: Global,
+    h: &mut Handle,
+    session_present: bool,
+    at: u64,
+    count: &mut usize,
+) -> u32
+    requires { IsKept h.old }
+    ensures kept { IsKept h.new }
+    ensures answer { Called (TakesUp session_present at) h.old.client_ptr.value result
+        h.new.client_ptr.value }
+    ensures count { result ≡ 0
+        → IfSome h.old.client_ptr.value (λ c. count.new ≡ length (returned session_present c)) }
+{
+    let Some(mut client) = take(alloc, h) else {
+        return NO_CLIENT;
+    };
+    match client.take_up(session_present, at) {
+        Ok(given) => {
+            put(h, client);
+            *count = given.len();
             0
         }
         Err(fault) => {

@@ -2,7 +2,6 @@
 use Rattle.std.proofs.Common.{◌≡◌, ℕ, List, [], ◌++◌, refl, sym, ap, subst, ◌∙◌, append_assoc, take, drop, take-append-drop}
 use Rattle.mqtt5_codec.specs.declared.codec.Codec.{Codec}
 use Rattle.mqtt5_inflight.specs.declared.error.StateError.{StateError}
-use Rattle.mqtt5_session.specs.Session.{Session}
 use Rattle.mqtt5_drive.specs.declared.run.Step.{Step}
 use Rattle.mqtt5_drive.specs.Trace.{Holds, finish, Stops}
 use Rattle.mqtt5_drive.specs.Run.{turns, run}

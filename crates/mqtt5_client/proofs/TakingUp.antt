@@ -1,5 +1,5 @@
 -- Requests that are sent again where they fit, one after the other; and a session that hears what it may do.
-use Rattle.std.proofs.Common.{◌≡◌, ℕ, List, [], ◌∷◌, ◌++◌, Option, Some, None, Result, Ok, Err, refl, sym, ap, subst, ◌∙◌, inl, inr, ◌⊎◌, append_assoc, append-nil, drop, false}
+use Rattle.std.proofs.Common.{◌≡◌, ℕ, List, [], ◌∷◌, ◌++◌, Option, Some, Result, Ok, Err, refl, sym, ap, subst, ◌∙◌, inl, inr, ◌⊎◌, append_assoc, append-nil, drop, false, true, Bool, cond, map}
 use Rattle.std.specs.Prelude.{IfErr}
 use Rattle.std.specs.List.{flat_map}
 use Rattle.bytes.specs.Filled.{Filled}
@@ -7,18 +7,20 @@ use Rattle.std.specs.Option.{option_to_list}
 use Rattle.mqtt5_control.specs.declared.connack.ConnectReturnCode.TheVariants as return_codes
 use Rattle.mqtt5_codec.specs.declared.packet.Packet.{Packet}
 use Rattle.mqtt5_codec.specs.declared.packet.Packet.TheVariants as packets
+use Rattle.mqtt5_publish.specs.declared.publish.Publish.{Publish}
 use Rattle.mqtt5_codec.specs.declared.codec.Codec.{Codec}
 use Rattle.mqtt5_inflight.specs.declared.event.Request.{Request}
+use Rattle.mqtt5_inflight.specs.declared.event.Request.TheVariants as requests
 use Rattle.mqtt5_inflight.specs.declared.error.StateError.{StateError}
 use Rattle.mqtt5_inflight.specs.declared.error.StateError.TheVariants as faults
 use Rattle.mqtt5_session.specs.Session.{Session, Answer, fresh}
 use Rattle.mqtt5_session.specs.Requests.{on_request}
 use Rattle.mqtt5_session.specs.Packets.{on_packet}
-use Rattle.mqtt5_session.specs.Resuming.{with_reply, Sendings}
+use Rattle.mqtt5_session.specs.Resuming.{cleaned, send_all, resume_of, with_reply, Sendings}
 use Rattle.mqtt5_session.proofs.Resume.{sent_before}
-use Rattle.mqtt5_client.specs.TakingUp.{fitting, unfitting, fitting_of, NotSent, ended}
+use Rattle.mqtt5_client.specs.TakingUp.{is_writable, fitting, unfitting, unacked, fitting_of, NotSent, ended}
 use Rattle.mqtt5_client.specs.Again.{frames_of, Framed}
-use Rattle.mqtt5_client.specs.Resending.{all_fitting, Answered, SendsOne, allowed_by}
+use Rattle.mqtt5_client.specs.Resending.{all_fitting, SendsOne, allowed_by}
 
 -- a packet goes behind those before it
 reply_after : (ps : List Packet) (reply : Option Packet) (r : Sendings) → sent_before ps (with_reply (Ok reply) r) ≡ sent_before (ps ++ option_to_list reply) r
@@ -69,3 +71,31 @@ pub not_framed : (result : Result Filled StateError) (codec : Codec) (s t : Sess
 not_framed (Ok frames) codec s t sent at is h = tt
 not_framed (Err e) codec s t sent at is (inl memory) = inl memory
 not_framed (Err e) codec s t sent at is (inr h) = inr (inr (sent, t, is, h))
+
+-- ---- where all fits
+
+abbrev IsNil : List Request → Type 0
+IsNil [] = Unit {0}
+IsNil (x ∷ xs) = ⊥
+
+fits : (b : Bool) (p : Publish) (r : Request) → cond b [] (requests.Publish p ∷ []) ≡ [] → cond b (requests.Publish p) r ≡ requests.Publish p
+fits true p r e = refl
+fits false p r e = absurd (subst (λ (xs : List Request). IsNil xs) (sym e) tt)
+
+one_fits : (codec : Codec) (r : Request) → unfitting codec r ≡ [] → fitting codec r ≡ r
+one_fits codec (requests.Publish p) e = fits (is_writable codec p) p _ e
+one_fits codec r e = refl
+
+all_fit : (codec : Codec) (rs : List Request) → flat_map (unfitting codec) rs ≡ [] → map (fitting codec) rs ≡ rs
+all_fit codec [] e = refl
+all_fit codec (r ∷ rs) e =
+    let both = append_nil_both (unfitting codec r) (flat_map (unfitting codec) rs) e in
+    ap (λ (x : Request). x ∷ map (fitting codec) rs) (one_fits codec r both.0) ∙ ap (λ (xs : List Request). r ∷ xs) (all_fit codec rs both.1)
+  where
+    append_nil_both : (xs ys : List Request) → xs ++ ys ≡ [] → (xs ≡ []) × (ys ≡ [])
+    append_nil_both [] ys h = (refl, h)
+    append_nil_both (x ∷ xs) ys h = absurd (subst (λ (zs : List Request). IsNil zs) (sym h) tt)
+
+pub fitting_resumes : (codec : Codec) (s : Session) (at : ℕ) → flat_map (unfitting codec) (unacked s) ≡ [] → fitting_of codec s at ≡ resume_of s at
+unfolding resume_of
+fitting_resumes codec s at e = ap (λ (rs : List Request). send_all rs (cleaned s) at) (all_fit codec (unacked s) e)

@@ -1,5 +1,5 @@
 -- This file serves the logic alone: a request is handed on to the session while its packet stands at the output's end.
-use Rattle.std.specs.Prelude.{◌≡◌, ℕ, ◌⊎◌, List, take, Option, Some, None, Result, Ok, Err}
+use Rattle.std.specs.Prelude.{◌≡◌, ℕ, ◌⊎◌, List, take, Some, None, Result, Ok, Err}
 use Rattle.mqtt5_codec.specs.declared.packet.Packet.{Packet}
 use Rattle.mqtt5_inflight.specs.declared.error.StateError.{StateError}
 use Rattle.mqtt5_inflight.specs.declared.error.StateError.TheVariants as faults

@@ -1,5 +1,5 @@
 -- What a client does with its session on a new connection, as the ConnAck says (MQTT 5.0 sections 3.2.2.1.1, 3.2.2.3.6 and 4.4).
-use Rattle.std.specs.Prelude.{◌≡◌, ℕ, ◌⊎◌, Bool, true, false, List, [], ◌∷◌, ◌++◌, map, min, None, Result, Ok, Err, is_ok, if◌then◌else◌}
+use Rattle.std.specs.Prelude.{◌≡◌, ℕ, ◌⊎◌, Bool, true, false, List, [], ◌∷◌, ◌++◌, map, min, None, Ok, Err, is_ok, if◌then◌else◌}
 use Rattle.std.specs.List.{flat_map}
 use Rattle.mqtt5_base.specs.declared.error.Error.{Error}
 use Rattle.mqtt5_publish.specs.declared.publish.Publish.{Publish}

@@ -11,3 +11,4 @@ mod taking_up;
 pub use client::{Client, one_run};
 pub use mqtt5_session::{Event, MqttState, Request, StateError};
 pub use numbers::{error_number, state_error_number};
+pub use taking_up::fitting_law;

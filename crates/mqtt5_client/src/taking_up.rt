@@ -1,11 +1,14 @@
 //! The session on a new connection: it is taken up, or it ends.
 
-ghost use Rattle.std.specs.Prelude.{◌≡◌, ◌⊎◌, true, false, ◌++◌, List, IfOk, IfErr, OnOk, OnErr, Some, Ok, Err};
+ghost use Rattle.std.specs.Prelude.{◌≡◌, ◌⊎◌, true, false, ◌++◌, ℕ, List, [], IfOk, IfErr, OnOk, OnErr, Some, Ok, Err};
 ghost use Rattle.std.specs.List.{flat_map};
 ghost use Rattle.mqtt5_publish.specs.declared.pubrel.PubRelReason.TheVariants.{Success};
+ghost use Rattle.mqtt5_codec.specs.declared.codec.Codec.{Codec as AnyCodec};
 ghost use Rattle.mqtt5_codec.specs.declared.packet.Packet.{Packet as AnyPacket};
 ghost use Rattle.mqtt5_inflight.specs.declared.error.StateError.TheVariants as faults;
+ghost use Rattle.mqtt5_session.specs.Session.{Session};
 ghost use Rattle.mqtt5_session.specs.Requests.{on_request};
+ghost use Rattle.mqtt5_session.specs.Resuming.{resume_of};
 ghost use Rattle.mqtt5_client.specs.Again.{frames_of};
 ghost use Rattle.mqtt5_client.specs.Client.{IsReady, given_back};
 ghost use Rattle.mqtt5_client.specs.TakingUp.{is_writable, fitting, unfitting, unacked, fitting_of, SendsFitting, NotSent, ended, Ends, TakesUp, returned, NotTakenUp};
@@ -263,3 +266,10 @@ impl Client {
         Ok(requests)
     }
 }
+
+/// A law, which does nothing when it is called: where each publish that awaits its ack can be written, `take_up` sends
+/// what `resume` sends.
+pub fn fitting_law()
+    ensures { (codec : AnyCodec) (s : Session) (at : ℕ)
+        → flat_map (unfitting codec) (unacked s) ≡ [] → fitting_of codec s at ≡ resume_of s at }
+{}

@@ -7,10 +7,12 @@ ghost use Rattle.mqtt5_client.specs.Client.{IsReady};
 use super::drive::{drives, takes_limit};
 use super::first::{hear, publish_first};
 use super::{add_bytes, bytes_of, cut, number_of, publish_hi, quality_of};
+use bytes::Bytes;
 use mqtt5_base::{Error, QoS, check};
 use mqtt5_client::{Client, Event, Request, StateError, error_number, state_error_number};
 use mqtt5_connect::LastWill;
 use mqtt5_options::MqttOptions;
+use mqtt5_publish::Publish;
 use std::alloc::{AllocError, Global};
 use std::test::Fail;
 use std::time::Duration;
@@ -36,6 +38,13 @@ ask:1; sent:12; output=-
 ask:1; sent:100; output=-
 ask:1; sent:5; hear:4002; connect:again; output=101300044D5154540500FFFF052700000064000163; sent:21; hear:2003010000; resume; output=3A0A0003612F620001006869; ids=1; hear:40020001; ids=0
 ask:1; clean=S1; event=Publish(1); clean; output=3A0A0003612F620001006869; ids=1
+out:1000; big:1=S9(2011,1000); ids=0; event=; output=-; ask:1; event=Publish(1); output=320A0003612F620001006869; hear:40020001; ids=0
+out:1000; big:0=S9(2009,1000); event=; output=-; ask:0; output=30080003612F62006869
+long:1=S7E11; long:0=S7E11; ids=0; event=; ask:2; ids=1; output=340A0003612F620001006869
+ask:1; ask:1; ask:1; ask:1; ask:1; ask:1; ask:1; ask:1; ask:1; ask:1; sent:200; out:1000; big:1=S9(2011,1000); ask:1; output=-; ids=10; hear:40020001; output=320A0003612F620001006869; ids=10
+out:1000; big:1=S9(2011,1000); ask:1; sent:12; connect:again; sent:21; hear:2003010000; resume; output=3A0A0003612F620001006869; ids=1
+big:1; ask:1; sent:3000; connect:again; sent:21; hear:20080100052700; hear:0003E8; resume=S9(2011,1000); output=-; take:1=1; output=620200013A0A0003612F620002006869; ids=2; hear:70020001; ids=1; hear:40020002; ids=0
+ask:1; ask:1; sent:100; connect:again; sent:21; hear:2009000006210002220003; take:0=S1; event=Publish(1); event=Publish(2); event=; take:0=2; ids=0; maxima=2/3; output=-; ask:1; event=Publish(1); output=320A0003612F620001006869
 hear:40020005=S2(5); held=-
 hear:C000=S4; held=-
 hear:30FFFFFFFF=S7E17; held=-
@@ -90,6 +99,29 @@ fn asks(alloc: Global, client: &mut Client, quality: &str) -> Result<(), StateEr
     client.request(Request::Publish(publish), 1)
 }
 
+/// A publish that many brokers refuse: with a payload of 2,000 bytes, or a topic of 70,000.
+fn large(alloc: Global, name: &str, quality: &str) -> Result<Publish, Error> {
+    let mut publish = publish_hi(alloc, quality_of(quality))?;
+    if name == "big" {
+        publish.payload = Bytes::copy_from_slice(alloc, &[0x78; 2000])?;
+    } else {
+        publish.topic = Bytes::copy_from_slice(alloc, &[0x78; 70000])?;
+    }
+    Ok(publish)
+}
+
+fn asks_large(
+    alloc: Global,
+    client: &mut Client,
+    name: &str,
+    quality: &str,
+) -> Result<(), StateError>
+    requires { IsReady client.old }
+{
+    let publish = large(alloc, name, quality)?;
+    client.request(Request::Publish(publish), 1)
+}
+
 fn hears(alloc: Global, client: &mut Client, digits: &str) -> Result<(), StateError>
     requires { IsReady client.old }
 {
@@ -132,6 +164,7 @@ fn calls(alloc: Global, client: &mut Client, name: &str, argument: &str) -> Resu
     match name {
         "connect" => connects(alloc, client, argument),
         "ask" => asks(alloc, client, argument),
+        "big" | "long" => asks_large(alloc, client, name, argument),
         "hear" => hears(alloc, client, argument),
         "resume" => client.resume(4),
         "clean" => cleans(client),
@@ -197,6 +230,17 @@ fn add_event(client: &mut Client, text: &mut String) -> Result<(), AllocError> {
     added
 }
 
+/// Takes the session up, and adds how many requests are given back, or the fault.
+fn add_taken(client: &mut Client, present: &str, text: &mut String) -> Result<(), AllocError> {
+    let taken = client.take_up(present == "1", 4);
+    let added = match &taken {
+        Ok(given) => write!(text, "={}", given.len()),
+        Err(fault) => add_fault(fault, text),
+    };
+    drop(taken);
+    added
+}
+
 /// Adds what is asked for of a client.
 fn looks(alloc: Global, client: &Client, name: &str, text: &mut String) -> Result<(), AllocError> {
     let state = &client.state;
@@ -226,6 +270,7 @@ fn takes(alloc: Global, client: &mut Client, call: &str, text: &mut String) -> R
         "in" | "out" | "sent" => sets(client, name, number_of(argument)?),
         "limit" => takes_limit(client),
         "event" => add_event(client, text)?,
+        "take" => add_taken(client, argument, text)?,
         "output" | "held" | "ids" | "maxima" | "limits" => looks(alloc, client, name, text)?,
         _call if is_ready(client) => makes(alloc, client, name, argument, text)?,
         _call => text.push('!')?,
