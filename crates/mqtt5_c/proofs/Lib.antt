@@ -1,3 +1,3 @@
 pub mod CallLemmas
-pub mod SpotValues
+pub mod ClientPtrValues
 pub mod Refusals

@@ -36,17 +36,17 @@ impl ClientPtr {
     }
 
     /// Keeps a client.
-    pub fn of(unboxed: RawBox<Client, Global>) -> ClientPtr
-        ensures { result.value ≡ Some unboxed.value }
+    pub fn of(raw_box: RawBox<Client, Global>) -> ClientPtr
+        ensures { result.value ≡ Some raw_box.value }
     {
-        let RawBox { pointer, alloc: _ } = unboxed;
+        let RawBox { pointer, alloc: _ } = raw_box;
         ClientPtr {
             pointer: pointer as *mut u8,
         }
     }
 
     /// Gives the client out.
-    pub fn into_unboxed(self, alloc: Global) -> RawBox<Client, Global>
+    pub fn into_raw_box(self, alloc: Global) -> RawBox<Client, Global>
         requires { is_some self.value ≡ true }
         ensures { self.value ≡ Some result.value }
     {

@@ -33,7 +33,7 @@ pub(crate) fn take(alloc: Global, h: &mut Handle) -> Option<Box<Client>>
     };
     let Handle { live, client_ptr } = std::mem::replace(h, empty);
     if live {
-        Some(client_ptr.into_unboxed(alloc).into_box())
+        Some(client_ptr.into_raw_box(alloc).into_box())
     } else {
         None
     }

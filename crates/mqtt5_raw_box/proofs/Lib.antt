@@ -1,1 +1,1 @@
-pub mod UnboxedValues
+pub mod RawBoxValues

@@ -7,8 +7,8 @@ use std::test::Fail;
 fn a_box_is_whole_again(rt: HostRuntime) -> Result<(), Fail> {
     let alloc = rt.alloc();
     let text = String::from_str(alloc, "kept")?;
-    let unboxed = RawBox::of(Box::new(alloc, text)?);
-    let kept = unboxed.into_box();
+    let raw_box = RawBox::of(Box::new(alloc, text)?);
+    let kept = raw_box.into_box();
     assert_eq!(rt; kept.as_str(), "kept");
     Ok(())
 }

@@ -1,4 +1,4 @@
--- This file serves the logic alone: `into_unboxed`, statement by statement.
+-- This file serves the logic alone: `into_raw_box`, statement by statement.
 use Rattle.std.proofs.Common.{◌≡◌, List, [], ◌∷◌, ◌++◌, refl, sym, subst}
 use mir.Val.{Val}
 use mir.Raw.{raw as bare}
@@ -25,21 +25,21 @@ use Rattle.std.proofs.raw_atomic.Walks.{proved_at, leaves}
 use Rattle.std_heap.specs.contracts.Global as global
 use Rattle.std_heap.specs.contracts.GlobalAllocator.TheImpl.{ghosts}
 use Rattle.std_heap.proofs.Global.TheLaws as global_laws
-use Rattle.mqtt5_raw_box.proofs.UnboxedValues as unboxed
+use Rattle.mqtt5_raw_box.proofs.RawBoxValues as raw_box
 use Rattle.mqtt5_client.specs.contracts.client.Client as client
 use Rattle.mqtt5_c.specs.Owned.{in_heap, owned_if_some}
-use Rattle.mqtt5_c.proofs.SpotValues.{Value, Row, word, takes_apart, value_of}
-use Rattle.mqtt5_c.specs.contracts.client_ptr.ClientPtr.into_unboxed as into_unboxed
-use Rattle.mqtt5_c.proofs.client_ptr.ClientPtr.into_unboxed.Statement.{statement}
-use Rattle.mqtt5_c.proofs.client_ptr.ClientPtr.into_unboxed.Code as code
+use Rattle.mqtt5_c.proofs.ClientPtrValues.{Value, Row, word, takes_apart, value_of}
+use Rattle.mqtt5_c.specs.contracts.client_ptr.ClientPtr.into_raw_box as into_raw_box
+use Rattle.mqtt5_c.proofs.client_ptr.ClientPtr.into_raw_box.Statement.{statement}
+use Rattle.mqtt5_c.proofs.client_ptr.ClientPtr.into_raw_box.Code as code
 
-pub into_unboxed_spec : {M : Type 1} → statement M
-into_unboxed_spec 𝓤 𝓛 𝓜 𝓡 wired =
-    let 𝓣 = tables 𝓤 𝓛.H 𝓜 𝓡 𝓡.env in let ends = into_unboxed.ended in let clauses = into_unboxed.clauses 𝓛 𝓜.mem 𝓡.returns in
+pub into_raw_box_spec : {M : Type 1} → statement M
+into_raw_box_spec 𝓤 𝓛 𝓜 𝓡 wired =
+    let 𝓣 = tables 𝓤 𝓛.H 𝓜 𝓡 𝓡.env in let ends = into_raw_box.ended in let clauses = into_raw_box.clauses 𝓛 𝓜.mem 𝓡.returns in
     let X = client.the_row in let A = global.the_row in let laws = global_laws.the_row_laws in
     let stays : Stays ends.signature.params ends.kept = (stay_dropped (plain (λ _. Row)) yes, (stay_dropped (plain (λ _. A)) yes, tt)) in
     proved_at 𝓛 ends stays clauses 𝓜 𝓡 (Goes-dropped 𝓛 0 (plain (λ _. Row)) yes (λ κs s words. refl), (Goes-dropped 𝓛 0 (plain (λ _. A)) yes (λ κs a words. refl), tt))
-    into_unboxed.Key.name code.function (code.unfolded 𝓤 𝓛.H 𝓜 𝓡 wired) (λ y are.
+    into_raw_box.Key.name code.function (code.unfolded 𝓤 𝓛.H 𝓜 𝓡 wired) (λ y are.
     let κs = y.0.0 in let s = y.0.3.0 in let alloc = y.0.3.1.0 in
     let Post : Val → SProp 𝓤 = (walk_of 𝓛 ends stays clauses).post y in
     let Run : List Val → SProp 𝓤 = λ words. WpFn 𝓤 𝓛.H 𝓣.C 𝓣.Λ code.function words Post in
@@ -50,14 +50,14 @@ into_unboxed_spec 𝓤 𝓛 𝓜 𝓡 wired =
     rewrite ! 0 (λ (m : Option Value). ‵ (owned_if_some s.pointer m)) value.1 refl $
     -- [the value in its block; the allocator; no further parameter; the tokens]
     in_a_block ! s.pointer (λ p. in_heap p value.0) (fst∗ 𝓤 (never 𝓤) (sem 𝓛 (ghosts.dealloc_token alloc (bare (layout X)) null_ptr))) (λ block offset at.
-    move ! (1 ∷ []) $ handle_tells (unboxed.allocator X A laws ghosts) ! alloc y.0.4.1.0 (λ handle is_handle fits. move ! (1 ∷ []) $
+    move ! (1 ∷ []) $ handle_tells (raw_box.allocator X A laws ghosts) ! alloc y.0.4.1.0 (λ handle is_handle fits. move ! (1 ∷ []) $
     let given_word = word (block_ptr block offset) in let are_words = subst (λ (p : Ptr). y.0.4.0 ≡ word p ∷ []) at is_word in
     suffices ! (Run (given_word ∷ handle ∷ [])) (subst (λ (words : List Val). ent 𝓤 (Run (given_word ∷ handle ∷ [])) (Run words)) (sym (λ i. are_words i ++ (is_handle i ++ []))) (id⊢ 𝓤 (Run (given_word ∷ handle ∷ [])))) $
     enter ! 𝓣.C 𝓣.Λ code.function (given_word ∷ handle ∷ []) Post $ alloc_all ! (λ locals. pass_all ! refl ((tt, (tt, tt)), (fits, tt)) $
     sets ! (of_opd ! (get_in ! (fld ! refl (stop !)) (sub ! 0 refl (whole !)))) refl (tt, tt) $
     sets ! (of_opd ! (get ! refl)) refl (tt, tt) $
-    sets ! (agg ! (and_then ! (get ! refl) (and_then ! (get ! refl) (no_more !)))) refl (unboxed.beside_fits X A laws ghosts block offset handle fits) $
-    unboxed.puts_together X A laws ghosts ! block offset handle alloc value.0 $
+    sets ! (agg ! (and_then ! (get ! refl) (and_then ! (get ! refl) (no_more !)))) refl (raw_box.beside_fits X A laws ghosts block offset handle fits) $
+    raw_box.puts_together X A laws ghosts ! block offset handle alloc value.0 $
     use0 𝓛 (raw (fact 𝓤 (s.value ≡ Some value.0))) (fact_i 𝓤 (s.value ≡ Some value.0) (emp 𝓤) value.1) $ nothing ! $ nothing ! $ fjoin ! $ nothing ! $ fjoin ! $
     returns ! (look_at ! 0 refl) $ free_all ! refl $ keep ! (4 ∷ 0 ∷ 2 ∷ 1 ∷ []) $
-    by ! (leaves 𝓛 ends stays clauses y (unboxed.beside block offset handle) (record { pointer = block_ptr block offset; alloc = alloc; value = value.0 }) _ (tt, (tt, tt)))))))))
+    by ! (leaves 𝓛 ends stays clauses y (raw_box.beside block offset handle) (record { pointer = block_ptr block offset; alloc = alloc; value = value.0 }) _ (tt, (tt, tt)))))))))

@@ -23,7 +23,7 @@ use Rattle.core.proofs.alloc.Calls.{Al, handle_tells}
 use Rattle.core.proofs.cell.Inside.{Good}
 use Rattle.std_alloc.specs.Box.Ownership.{box_owns}
 use Rattle.std_alloc.proofs.ResultValues.{and_tt}
-use Rattle.mqtt5_raw_box.specs.contracts.RawBox as unboxed
+use Rattle.mqtt5_raw_box.specs.contracts.RawBox as raw_box
 
 -- a pointer beside an allocator's handle
 abbrev pub beside : ℕ → ℕ → Val → Val
@@ -31,7 +31,7 @@ beside block offset handle = vstruct (vcons (vptr block offset) (vcons handle vn
 
 module _ (X A : RattleType) (laws : Laws A) (ghosts : Ghosts A.Denot) where
   abbrev pub Row : RattleType
-  Row = unboxed.the_row X A ghosts
+  Row = raw_box.the_row X A ghosts
 
   abbrev pub allocator : Al
   allocator = record { row = A; laws = laws; g = ghosts; d = impl [] tnil dnil; drops = impl [] tnil dnil }
@@ -67,5 +67,5 @@ module _ (X A : RattleType) (laws : Laws A) (ghosts : Ghosts A.Denot) where
     puts_together t block offset handle alloc value = step (λ rest. let word = beside block offset handle in
         nothing t $ move t (2 ∷ 0 ∷ []) $ fjoin t $
         feq_i t (List Val) (vptr block offset ∷ []) _ refl $ fjoin t $ feq_i t (List Val) (word ∷ []) _ refl $ fjoin t $
-        fpack t (Valss (RawPtr ∷ A ∷ [])) (within (shape (unboxed.the_type X A ghosts)) (block_ptr block offset, (alloc, tt)) (word ∷ [])) (vptr block offset ∷ [], (handle ∷ [], tt)) $
+        fpack t (Valss (RawPtr ∷ A ∷ [])) (within (shape (raw_box.the_type X A ghosts)) (block_ptr block offset, (alloc, tt)) (word ∷ [])) (vptr block offset ∷ [], (handle ∷ [], tt)) $
         fjoin t $ rest)

@@ -21,9 +21,9 @@ use Rattle.std.proofs.raw_atomic.Walks.{proved_at, leaves}
 use Rattle.std_heap.specs.contracts.Global as global
 use Rattle.std_heap.specs.contracts.GlobalAllocator.TheImpl.{ghosts}
 use Rattle.std_heap.proofs.Global.TheLaws as global_laws
-use Rattle.mqtt5_raw_box.proofs.UnboxedValues as unboxed
+use Rattle.mqtt5_raw_box.proofs.RawBoxValues as raw_box
 use Rattle.mqtt5_client.specs.contracts.client.Client as client
-use Rattle.mqtt5_c.proofs.SpotValues.{word, puts_together}
+use Rattle.mqtt5_c.proofs.ClientPtrValues.{word, puts_together}
 use Rattle.mqtt5_c.specs.contracts.client_ptr.ClientPtr.of as of
 use Rattle.mqtt5_c.proofs.client_ptr.ClientPtr.of.Statement.{statement}
 use Rattle.mqtt5_c.proofs.client_ptr.ClientPtr.of.Code as code
@@ -32,7 +32,7 @@ pub of_spec : {M : Type 1} → statement M
 of_spec 𝓤 𝓛 𝓜 𝓡 wired =
     let 𝓣 = tables 𝓤 𝓛.H 𝓜 𝓡 𝓡.env in let clauses = of.clauses 𝓛 𝓜.mem 𝓡.returns in
     let X = client.the_row in let A = global.the_row in let laws = global_laws.the_row_laws in
-    let given = plain (λ _. unboxed.Row X A laws ghosts) in
+    let given = plain (λ _. raw_box.Row X A laws ghosts) in
     let stays : Stays of.ended.signature.params of.ended.kept = (stay_dropped given yes, tt) in
     proved_at 𝓛 of.ended stays clauses 𝓜 𝓡 (Goes-dropped 𝓛 0 given yes (λ κs u words. refl), tt)
     of.Key.name code.function (code.unfolded 𝓤 𝓛.H 𝓜 𝓡 wired) (λ y are.
@@ -40,11 +40,11 @@ of_spec 𝓤 𝓛 𝓜 𝓡 wired =
     let Post : Val → SProp 𝓤 = (walk_of 𝓛 of.ended stays clauses).post y in
     let Run : List Val → SProp 𝓤 = λ words. WpFn 𝓤 𝓛.H 𝓣.C 𝓣.Λ code.function words Post in
     qed 𝓛 ((raw (alive 𝓛 of.ended.signature κs y.0.1) ⊛ ‵ (owns (types_at of.ended.signature.params κs) y.0.3 y.0.4)) ∷ raw ((clauses κs y.0.3).requires y.1) ∷ []) ∵
-    split ! $ move ! (1 ∷ []) $ fsplit ! $ unboxed.takes_apart X A laws ghosts ! u y.0.4.0 (λ block offset handle at is_word fits.
-    let given_word = unboxed.beside block offset handle in
+    split ! $ move ! (1 ∷ []) $ fsplit ! $ raw_box.takes_apart X A laws ghosts ! u y.0.4.0 (λ block offset handle at is_word fits.
+    let given_word = raw_box.beside block offset handle in
     -- [the value in its block; the handle; no further parameter; the tokens; the requires]
     suffices ! (Run (given_word ∷ [])) (subst (λ (words : List Val). ent 𝓤 (Run (given_word ∷ [])) (Run words)) (sym (λ i. is_word i ++ [])) (id⊢ 𝓤 (Run (given_word ∷ [])))) $
-    enter ! 𝓣.C 𝓣.Λ code.function (given_word ∷ []) Post $ alloc_all ! (λ locals. pass_all ! refl (unboxed.beside_fits X A laws ghosts block offset handle fits, tt) $
+    enter ! 𝓣.C 𝓣.Λ code.function (given_word ∷ []) Post $ alloc_all ! (λ locals. pass_all ! refl (raw_box.beside_fits X A laws ghosts block offset handle fits, tt) $
     sets ! (of_opd ! (get_in ! (fld ! refl (stop !)) (sub ! 0 refl (whole !)))) refl (tt, tt) $
     sets ! (of_opd ! (get ! refl)) refl (tt, tt) $
     sets ! (agg ! (and_then ! (get ! refl) (no_more !))) refl (tt, (tt, tt)) $

@@ -15,7 +15,7 @@ use denote.Triple.Entry.{alive}
 use denote.Triple.Walked.{walk_of}
 use Rattle.std.specs.Prelude.{Option, None}
 use Rattle.std.proofs.raw_atomic.Walks.{proved_at, leaves}
-use Rattle.mqtt5_c.proofs.SpotValues.{Value, word, puts_together}
+use Rattle.mqtt5_c.proofs.ClientPtrValues.{Value, word, puts_together}
 use Rattle.mqtt5_c.specs.contracts.client_ptr.ClientPtr.none as none
 use Rattle.mqtt5_c.proofs.client_ptr.ClientPtr.none.Statement.{statement}
 use Rattle.mqtt5_c.proofs.client_ptr.ClientPtr.none.Code as code

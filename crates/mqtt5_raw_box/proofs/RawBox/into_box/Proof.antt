@@ -31,7 +31,7 @@ use Rattle.core.proofs.cell.Inside.{Good}
 use Rattle.std_alloc.proofs.BoxSteps.Form as box
 use Rattle.std_alloc.proofs.BoxSteps.Steps.{box_out, box_in}
 use Rattle.std.proofs.raw_atomic.Walks.{proved_at, leaves}
-use Rattle.mqtt5_raw_box.proofs.UnboxedValues.{Row, beside, beside_fits, takes_apart}
+use Rattle.mqtt5_raw_box.proofs.RawBoxValues.{Row, beside, beside_fits, takes_apart}
 use Rattle.std_alloc.specs.contracts.boxed.Box.from_raw as from_raw
 use Rattle.std_alloc.proofs.boxed.Box.from_raw.Met.{met}
 use Rattle.mqtt5_raw_box.specs.contracts.RawBox.into_box as into_box

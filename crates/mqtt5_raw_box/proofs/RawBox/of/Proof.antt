@@ -31,7 +31,7 @@ use Rattle.core.proofs.atomic.Steps.{fm}
 use Rattle.std_alloc.proofs.BoxSteps.Form as box
 use Rattle.std_alloc.proofs.BoxSteps.Steps.{box_out, box_in}
 use Rattle.std.proofs.raw_atomic.Walks.{proved_at, leaves}
-use Rattle.mqtt5_raw_box.proofs.UnboxedValues.{beside, beside_fits, owned, puts_together}
+use Rattle.mqtt5_raw_box.proofs.RawBoxValues.{beside, beside_fits, owned, puts_together}
 use Rattle.std_alloc.specs.contracts.boxed.Box.into_raw_with_allocator as into_raw
 use Rattle.std_alloc.proofs.boxed.Box.into_raw_with_allocator.Met.{met}
 use Rattle.mqtt5_raw_box.specs.contracts.RawBox.of as of
