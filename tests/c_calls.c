@@ -365,6 +365,6 @@ int main(void) {
     a_lost_session();
     misuse();
     refused();
-    if (!failures) printf("each call of c/mqtt5.h, acks by hand, a cut, and misuse: as they should be\n");
+    if (!failures) printf("each call of c/mqtt5.h, acks by hand, a cut, a lost session, and misuse: as they should be\n");
     return failures != 0;
 }

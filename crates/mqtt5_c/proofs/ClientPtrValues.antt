@@ -12,7 +12,7 @@ use denote.RawPtr.{Ptr, ptr_val}
 use denote.Steps.{nothing}
 use denote.Struct.Owning.{shape}
 use denote.Struct.Struct.{within}
-use Rattle.std.specs.Prelude.{Option, Some, None, is_some, true, false}
+use Rattle.std.specs.Prelude.{Option, Some, None, is_some, true}
 use Rattle.mqtt5_c.specs.Owned.{owned_if_some}
 use Rattle.mqtt5_c.specs.contracts.client_ptr.ClientPtr as client_ptr
 use Rattle.mqtt5_client.specs.contracts.client.Client as client

@@ -1,5 +1,5 @@
 -- This file serves the logic alone: no refusal has the number 0.
-use Rattle.std.proofs.Common.{◌≡◌, ◌≢◌, ℕ, ◌+◌, Bool, true, false, cond, ◌==◌, List, [], ◌∷◌, length, Option, Some, None, Result, Ok, Err, sym, subst, ◌∙◌, inl, inr, nat_lt, arith}
+use Rattle.std.proofs.Common.{◌≡◌, ◌≢◌, ℕ, Bool, true, false, cond, ◌==◌, List, [], ◌∷◌, length, Option, Some, None, Result, Ok, Err, sym, subst, inl, inr, nat_lt, arith}
 use Rattle.std.specs.Prelude.{nat_le}
 use Rattle.std.specs.FinMap.{get}
 use Rattle.mqtt5_base.specs.declared.error.Error.{Error}
@@ -17,7 +17,7 @@ use Rattle.mqtt5_inflight.specs.declared.event.Request.TheVariants as requests
 use Rattle.mqtt5_inflight.specs.declared.error.StateError.{StateError}
 use Rattle.mqtt5_inflight.specs.declared.error.StateError.TheVariants as faults
 use Rattle.mqtt5_session.specs.Session.{Session, Answer}
-use Rattle.mqtt5_session.specs.Requests.{on_request, unless, alias_fault, over_maximum, judged, by_alias, by_use, Verdict, Refuse, Wait, Store, out_acked, out_publish, out_release, out_known, id_for, last_after, counts_ping, ping_fault, unanswered}
+use Rattle.mqtt5_session.specs.Requests.{on_request, unless, alias_fault, over_maximum, judged, by_alias, by_use, Verdict, Refuse, Wait, Store, out_acked, out_publish, out_known, id_for, last_after, counts_ping, ping_fault, unanswered}
 use Rattle.mqtt5_session.specs.Resuming.{with_reply, send_all, Sendings}
 use Rattle.mqtt5_session.proofs.Owed.{choose}
 use Rattle.mqtt5_client.specs.declared.client.Client.{Client}

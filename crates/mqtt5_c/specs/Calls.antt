@@ -1,6 +1,5 @@
 -- What a call leaves of a handle's client, and the number that it answers.
 use Rattle.std.specs.Prelude.{◌≡◌, ◌≢◌, ℕ, List, [], ◌∷◌, Option, None, Some, IsOk, IfErr, OnOk, OnErr, drop, length, Bool}
-use Rattle.mqtt5_inflight.specs.declared.error.StateError.{StateError}
 use Rattle.mqtt5_inflight.specs.declared.event.Request.{Request}
 use Rattle.mqtt5_inflight.specs.declared.event.Request.TheVariants as requests
 use Rattle.mqtt5_drive.specs.Run.{piece}
