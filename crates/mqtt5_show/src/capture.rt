@@ -81,7 +81,8 @@ impl Capture {
         Err(Stop::Unread(ErrorKind::TimedOut.into()))
     }
 
-    /// Reads once, and shows the packets of the frames that are whole then. Whether there was anything to read.
+    /// Reads once, and shows the packets of the frames that are whole then. Whether there was
+    /// anything to read.
     fn show_piece<R: Read, S: Screen>(
         &mut self,
         input: &mut R,

@@ -30,8 +30,8 @@ impl Digits {
         self.first.is_none()
     }
 
-    /// Appends the bytes of a piece's digits. `NoDigit` of a byte that is none and no white space, with the bytes before it
-    /// appended; E21.
+    /// Appends the bytes of a piece's digits. `NoDigit` of a byte that is none and no white space,
+    /// with the bytes before it appended; E21.
     pub fn append(&mut self, piece: &[u8], stream: &mut BytesMut) -> Result<(), Stop> {
         for byte in piece {
             self.append_one(*byte, stream)?;
@@ -41,7 +41,7 @@ impl Digits {
     }
 
     fn append_one(&mut self, byte: u8, stream: &mut BytesMut) -> Result<(), Stop> {
-        if is_space(byte) {
+        if byte.is_ascii_whitespace() {
             return Ok(());
         }
         let Some(digit) = digit_of(byte) else {
@@ -55,19 +55,10 @@ impl Digits {
     }
 }
 
-/// A tab, a line feed, a form feed, a carriage return or a space.
-fn is_space(byte: u8) -> bool {
-    byte == 9 || byte == 10 || byte == 12 || byte == 13 || byte == 32
-}
-
 /// The number of a digit.
 fn digit_of(byte: u8) -> Option<u8>
     ensures { IfSome result (λ d. d < 16) }
 {
-    match byte {
-        b'0'..=b'9' => Some(byte - b'0'),
-        b'A'..=b'F' => Some(byte - b'A' + 10),
-        b'a'..=b'f' => Some(byte - b'a' + 10),
-        _ => None,
-    }
+    let digit = char::from(byte).to_digit(16)?;
+    Some(digit as u8)
 }

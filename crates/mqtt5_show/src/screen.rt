@@ -18,7 +18,7 @@ pub trait Screen {
         ensures { OnOk result (shows self.old packet.now self.new) };
 }
 
-/// Each packet is a line.
+/// Each packet is a line. Proofs don't see what it says.
 #[derive(Drop)]
 pub struct Lines<W> {
     pub output: W,

@@ -22,7 +22,7 @@ pub struct Code(pub u8);
 #[derive(Clone, Copy, Debug, PartialEq, Eq)]
 pub struct Quoted<'a>(pub &'a [u8]);
 
-/// Bytes that are printed as a text where they are one, else in hexadecimal.
+/// Bytes that are printed as a text where they are one (`is_text`), else in hexadecimal.
 #[derive(Clone, Copy, Debug, PartialEq, Eq)]
 pub struct Message<'a>(pub &'a [u8]);
 
@@ -99,8 +99,8 @@ impl<'a> Value for Message<'a> {
     }
 }
 
-/// A text in quotes, in which a quote, a backslash, a control character and each byte that isn't of UTF-8 is `\x` and its two
-/// digits.
+/// A text in quotes, in which a quote, a backslash and a control character, and unless it is a text
+/// (`is_text`) each byte beyond ASCII, is `\x` and its two digits.
 fn write_text<W: Write>(output: &mut W, bytes: &[u8]) -> io::Result<()> {
     let is_text = is_text(bytes);
     output.write_all(b"\"")?;
@@ -148,8 +148,8 @@ fn digit(number: u8) -> u8
     }
 }
 
-/// Whether the bytes are UTF-8 without a character beyond ASCII that ends a line, that a terminal may act on, or that turns
-/// or hides what stands beside it.
+/// Whether the bytes are UTF-8 without a character beyond ASCII that ends a line, that a terminal
+/// may act on, or that turns or hides what stands beside it.
 fn is_text(bytes: &[u8]) -> bool {
     match str::from_utf8(bytes) {
         Ok(text) => !text.chars().any(|c| acts(c)),
