@@ -285,7 +285,7 @@ fn hand_on(
 }
 
 /// Takes a request, once its packet is written.
-pub(crate) fn ask(
+pub(crate) fn send_request(
     state: &mut MqttState,
     codec: &Codec,
     output: &mut BytesMut,

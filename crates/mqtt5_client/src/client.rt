@@ -17,7 +17,7 @@ ghost use Rattle.mqtt5_client.specs.Connecting.{connect_packet, opened, IsRefuse
 ghost use Rattle.mqtt5_client.specs.Again.{SendsAgain, Refuses};
 
 use crate::again::{frames, given_back};
-use crate::asking::ask;
+use crate::asking::send_request;
 use crate::connecting::{connect_frame, incoming_limit};
 use bytes::{Bytes, BytesMut};
 use mqtt5_codec::Codec;

@@ -92,7 +92,7 @@ fn fit(
 }
 
 /// Asks the session, and keeps its packet.
-fn ask(
+fn keep_packet(
     state: &mut MqttState,
     request: Request,
     packets: &mut Vec<Packet>,
@@ -125,7 +125,7 @@ fn send_one(
         state.new packets.new.items given.new.items }
 {
     let fitting = fit(alloc, codec, request, given)?;
-    ask(state, fitting, packets, at)
+    keep_packet(state, fitting, packets, at)
 }
 
 /// Sends requests again, and answers their packets.
