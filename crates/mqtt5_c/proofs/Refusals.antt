@@ -74,7 +74,7 @@ identified_tells : (s : Session) (p : Publish) (last at : ℕ) → Tells (out_ac
 identified_tells s p last at =
     acked_tells (judged s.core p) s p last at
     (pick (nat_lt s.core.limit p.pkid) _ _ (λ e. absurd (omega (arith, e)))
-    (alias_judged (over_maximum s.core p) _ (alias_told s.core.alias_max (alias_over s.core.alias_max (alias_of p))) (use_judged (get s.core.held p.pkid) s.core.waiting)))
+    (alias_judged (over_maximum s.core p) _ (alias_told s.core.alias_max (alias_over s.core.alias_max (alias_of p))) (use_judged (get s.core.in_use p.pkid) s.core.waiting)))
 
 publish_tells : (q : QoS) (s : Session) (p : Publish) (at : ℕ) → Tells (out_publish q s p at)
 publish_tells AtMostOnce s p at = unless_tells (over_maximum s.core p) s _ (alias_told s.core.alias_max (alias_over s.core.alias_max (alias_of p))) (tt {0})
@@ -105,7 +105,7 @@ out_tells s (requests.Subscribe p) at = choose Tells (length p.filters == 0) _ _
 out_tells s (requests.Unsubscribe p) at = tt {0}
 out_tells s (requests.PubRel p) at =
     choose Tells (nat_lt s.core.limit (id_for s.core p.pkid)) _ _ (λ _ e. absurd (omega (arith, e)))
-    (λ _. known_tells (get s.core.held (id_for s.core p.pkid)) s (id_for s.core p.pkid) (last_after s.core p.pkid) at)
+    (λ _. known_tells (get s.core.in_use (id_for s.core p.pkid)) s (id_for s.core p.pkid) (last_after s.core p.pkid) at)
 out_tells s (requests.PubAck p) at = tt {0}
 out_tells s (requests.PubRec p) at = tt {0}
 out_tells s requests.PingReq at = unless_tells (ping_fault s.core.waiting (counts_ping s).collision_pings s.awaits_ping) (counts_ping s) _ (ping_may s.core.waiting (counts_ping s).collision_pings s.awaits_ping) (tt {0})

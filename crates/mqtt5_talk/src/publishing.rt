@@ -30,7 +30,7 @@ pub fn publish<R: Read, W: Write>(
         (W.contents writer.old) (W.contents writer.new) pipe.old
         (Asks (OfPublish message) ∷ []) pipe.new }
     // Nothing awaits an ack.
-    ensures delivered { OnOk result (map.len pipe.new.state.core.held ≡ 0) }
+    ensures delivered { OnOk result (map.len pipe.new.state.core.in_use ≡ 0) }
     // So another call may follow.
     ensures ready { OnOk result (IsReady pipe.new) }
 {
@@ -47,7 +47,7 @@ fn await_acks<R: Read, W: Write>(
     requires ready { IsReady pipe.old }
     ensures talked { Talked (R.remaining reader.old) (R.remaining reader.new)
         (W.contents writer.old) (W.contents writer.new) pipe.old [] pipe.new }
-    ensures delivered { OnOk result (map.len pipe.new.state.core.held ≡ 0) }
+    ensures delivered { OnOk result (map.len pipe.new.state.core.in_use ≡ 0) }
     ensures ready { OnOk result (IsReady pipe.new) }
 {
     for _ in 0..u64::MAX {
