@@ -247,7 +247,7 @@ fn looks(
     text: &mut String,
 ) -> Result<(), AllocError> {
     match name {
-        "ready" => write!(text, "={}", pipe.is_ready()),
+        "ready" => write!(text, "={}", pipe.needs_more()),
         "ids" => write!(text, "={}", pipe.state.inflight()),
         "events" => write!(text, "={}", pipe.state.events().len()),
         "left" => add_bytes(alloc, pipe.output.as_slice(), text),
@@ -271,7 +271,7 @@ fn takes(
             looks(alloc, pipe, ends, name, text)?;
         }
         "pipe" | "publisher" | "subscriber" => (),
-        _call if pipe.is_ready() => makes(alloc, pipe, ends, call, text)?,
+        _call if pipe.needs_more() => makes(alloc, pipe, ends, call, text)?,
         _call => text.push('!')?,
     }
     Ok(())
