@@ -1,0 +1,356 @@
+"""A client for asyncio."""
+
+from __future__ import annotations
+
+import asyncio
+import ssl
+import time
+from collections.abc import AsyncIterator
+from dataclasses import replace
+
+from . import _library as library
+from ._session import Event, Session, Settings
+from .errors import ConnectionLost, Fault, MqttError, Refused, SessionLost
+from .values import Message, Properties, Subscription, Will
+
+# How many bytes are read at a time.
+PIECE = 65536
+# The pauses before a connection is opened again grow from the first to the last, in seconds.
+FIRST_PAUSE, LAST_PAUSE = 1, 60
+# How long a broker may take to answer a Connect, in seconds.
+PATIENCE = 20
+# Why a client ends that was asked to.
+DISCONNECTED = ConnectionLost("disconnected")
+
+
+class _Request:
+    """What awaits an answer of the broker: how it is asked for, and the future of its answer."""
+
+    def __init__(self, what, packet, ask, qos=0):
+        self.what, self.packet, self.ask, self.qos = what, packet, ask, qos
+        self.answer = asyncio.get_running_loop().create_future()
+
+
+class Client:
+    """A client of a broker. Its connection is opened by `async with`, and again after each loss, with growing pauses:
+    what awaits an ack is then sent again, or subscribed to again where the broker lost the session.
+
+    async with Client("127.0.0.1") as client:
+        await client.subscribe("a/#", qos=1)
+        await client.publish("a/b", b"hi", qos=1)
+        async for message in client.messages:
+            print(message.topic, message.payload)
+
+    `keep_alive` is in seconds, at least 5. With `clean_start` off the broker's session of this `client_id` is gone on
+    with, and kept for `session_expiry_interval` seconds without a connection. `properties` are those of the Connect.
+    `tls` is True, or a context of `ssl`. With `reconnect` off a connection that is lost isn't opened again.
+    """
+
+    def __init__(
+        self,
+        host: str,
+        port: int | None = None,
+        *,
+        client_id: str = "",
+        username: str = "",
+        password: str = "",
+        will: Will | None = None,
+        keep_alive: int = 60,
+        clean_start: bool = True,
+        session_expiry_interval: int = 0,
+        properties: Properties | None = None,
+        tls: bool | ssl.SSLContext = False,
+        reconnect: bool = True,
+        limit: int = 65535,
+    ):
+        self._address = host, port or (8883 if tls else 1883)
+        self._tls = ssl.create_default_context() if tls is True else tls or None
+        self._settings = Settings(
+            client_id, username, password, will, keep_alive, clean_start, session_expiry_interval, properties
+        )
+        self._reconnect, self._most = reconnect, limit
+        self._session = Session(limit)
+        self._writer: asyncio.StreamWriter | None = None
+        self._connected: asyncio.Future[Properties] | None = None
+        self._changed = asyncio.Event()
+        self._turn = asyncio.Lock()
+        self._awaited: dict[tuple[int, int], _Request] = {}
+        self._subscribed: dict[str, tuple[Subscription, Properties | None]] = {}
+        self._messages: asyncio.Queue[Message | None] = asyncio.Queue()
+        self._ended: MqttError | None = None
+        self._written = 0.0
+        self._keep_alive = keep_alive
+        self._running: asyncio.Task[None] | None = None
+        self.connack = Properties()
+
+    # ---- The life of a client.
+
+    async def __aenter__(self) -> Client:
+        self._connected = asyncio.get_running_loop().create_future()
+        self._running = asyncio.create_task(self._run())
+        await asyncio.shield(self._connected)
+        return self
+
+    async def __aexit__(self, *_):
+        await self.disconnect()
+
+    async def disconnect(self):
+        """Ends the connection by a Disconnect. A client that ended does nothing."""
+        if self._writer:
+            self._session.disconnect(_now())
+            self._flush()
+            await self._drain()
+        self._end(DISCONNECTED)
+        if self._running:
+            self._running.cancel()
+            await asyncio.gather(self._running, return_exceptions=True)
+
+    # ---- Requests.
+
+    async def publish(
+        self,
+        topic: str,
+        payload: bytes | str = b"",
+        qos: int = 0,
+        retain: bool = False,
+        properties: Properties | None = None,
+    ) -> int:
+        """Publishes. At QoS 0 it returns once the message is handed to the connection, else once the broker has it; the
+        answer is the reason code, as 16 where nobody subscribes. Refused, Fault, SessionLost, ConnectionLost."""
+
+        def ask():
+            return self._session.publish(topic, payload, qos, retain, properties, _now())
+
+        if qos == 0:
+            await self._until(lambda: True)
+            ask()
+            self._flush()
+            await self._drain()
+            return 0
+        async with self._turn:
+            await self._until(self._may_publish)
+            request = _Request(f"the message to {topic}", library.PUBACK if qos == 1 else library.PUBCOMP, ask, qos)
+            self._ask(request)
+        event = await request.answer
+        return event.reasons[0]
+
+    async def subscribe(
+        self,
+        filters: str | Subscription | list[str | Subscription],
+        qos: int = 0,
+        properties: Properties | None = None,
+    ) -> list[int]:
+        """Subscribes to topic filters, and answers the QoS that was granted for each. Refused at the first refusal."""
+        filters = filters if isinstance(filters, list) else [filters]
+        wanted = [f if isinstance(f, Subscription) else Subscription(f, qos) for f in filters]
+        await self._until(lambda: True)
+        request = self._subscription(wanted, properties)
+        self._ask(request)
+        event = await request.answer
+        for subscription in wanted:
+            self._subscribed[subscription.filter] = subscription, properties
+        return event.reasons
+
+    async def unsubscribe(self, topic_filter: str, properties: Properties | None = None):
+        """Ends the subscription to a topic filter."""
+        await self._until(lambda: True)
+        what = f"the end of the subscription to {topic_filter}"
+        request = _Request(
+            what, library.UNSUBACK, lambda: self._session.unsubscribe(topic_filter, properties, _now())
+        )
+        self._ask(request)
+        await request.answer
+        self._subscribed.pop(topic_filter, None)
+
+    async def next_message(self, timeout: float | None = None) -> Message | None:
+        """The next message that comes; None once the client ended by `disconnect`, ConnectionLost where it is lost.
+        TimeoutError where none comes for so many seconds."""
+        message = await asyncio.wait_for(self._messages.get(), timeout)
+        if message is None:
+            # (for whoever asks next)
+            self._messages.put_nowait(None)
+            if self._ended is not DISCONNECTED:
+                raise self._ended
+        return message
+
+    @property
+    async def messages(self) -> AsyncIterator[Message]:
+        """The messages that come, in order, until the client ends by `disconnect`; ConnectionLost where it is lost."""
+        while message := await self.next_message():
+            yield message
+
+    def _subscription(self, wanted, properties):
+        what = "the subscription to " + ", ".join(s.filter for s in wanted)
+        return _Request(what, library.SUBACK, lambda: self._session.subscribe(wanted, properties, _now()))
+
+    def _may_publish(self):
+        in_flight = sum(1 for request in self._awaited.values() if request.qos)
+        return in_flight < self._most and self._session.may_publish()
+
+    def _ask(self, request):
+        pkid = request.ask()
+        self._awaited[request.packet, pkid] = request
+        self._flush()
+
+    async def _until(self, holds):
+        """Waits for a connection on which this holds."""
+        while True:
+            if self._ended:
+                raise self._ended
+            if self._writer and holds():
+                return
+            await self._changed.wait()
+
+    def _has_changed(self):
+        self._changed.set()
+        self._changed = asyncio.Event()
+
+    # ---- The connection.
+
+    async def _run(self):
+        pause = FIRST_PAUSE
+        while True:
+            opened = time.monotonic()
+            try:
+                await self._hold_connection()
+                lost = ConnectionLost("the broker closed the connection")
+            except (OSError, asyncio.TimeoutError, asyncio.IncompleteReadError) as error:
+                lost = ConnectionLost(str(error) or "the broker doesn't answer")
+            except MqttError as error:
+                lost = error
+            self._writer = None
+            if not self._reconnect or not self._connected.done() or isinstance(lost, Refused):
+                self._end(lost)
+                return
+            pause = FIRST_PAUSE if time.monotonic() - opened > LAST_PAUSE else pause
+            await asyncio.sleep(pause)
+            pause = min(2 * pause, LAST_PAUSE)
+
+    async def _hold_connection(self):
+        host, port = self._address
+        opening = asyncio.open_connection(host, port, ssl=self._tls)
+        reader, writer = await asyncio.wait_for(opening, PATIENCE)
+        try:
+            self._session.connect(self._settings)
+            writer.write(self._session.output())
+            self._written = time.monotonic()
+            await self._open(reader, writer)
+            while data := await self._read(reader):
+                self._handle(self._take(data))
+                await self._drain()
+        finally:
+            self._writer = None
+            writer.close()
+
+    async def _open(self, reader, writer):
+        """Reads until the ConnAck came, and takes the session up."""
+        events = []
+        while not events:
+            data = await asyncio.wait_for(reader.read(PIECE), PATIENCE)
+            if not data:
+                raise ConnectionLost("the broker closed the connection")
+            events = self._take(data)
+        connack = events[0]
+        self.connack = connack.properties
+        self._keep_alive = self._settings.keep_alive
+        if connack.properties.server_keep_alive is not None:
+            self._keep_alive = connack.properties.server_keep_alive
+        self._most = min(self._most, connack.properties.receive_maximum or 65535)
+        self._session.take_up(connack.session_present, _now())
+        # From now on the session is gone on with, as long as the broker keeps it.
+        self._settings = replace(self._settings, clean_start=False)
+        self._writer = writer
+        self._flush()
+        self._ask_again(connack.session_present)
+        self._handle(events[1:])
+        if not self._connected.done():
+            self._connected.set_result(connack.properties)
+
+    def _ask_again(self, session_present):
+        """Asks again for what the new connection doesn't send by itself."""
+        awaited, self._awaited = self._awaited, {}
+        for key, request in awaited.items():
+            if session_present and request.qos:
+                self._awaited[key] = request
+            elif request.qos == 2:
+                request.answer.set_exception(SessionLost(request.what))
+            elif not request.answer.done():
+                self._ask(request)
+        if not session_present:
+            for subscription, properties in self._subscribed.values():
+                self._ask(self._subscription([subscription], properties))
+
+    async def _read(self, reader):
+        """The next bytes, with a ping where nothing was sent for the keep alive; b"" at the end."""
+        while True:
+            left = self._written + self._keep_alive - time.monotonic() if self._keep_alive else None
+            try:
+                return await asyncio.wait_for(reader.read(PIECE), left if left is None else max(left, 0.01))
+            except asyncio.TimeoutError:
+                self._session.ping(_now())
+                self._flush()
+
+    def _flush(self):
+        data = self._session.output() if self._writer else b""
+        if data:
+            self._writer.write(data)
+            self._written = time.monotonic()
+
+    async def _drain(self):
+        if self._writer:
+            await self._writer.drain()
+
+    # ---- What comes.
+
+    def _take(self, data) -> list[Event]:
+        """The events of these bytes. Refused where the broker refuses or ends the connection; Fault."""
+        try:
+            self._session.receive(data, _now())
+        except Fault as fault:
+            for event in self._session.events():
+                if event.packet in (library.CONNACK, library.DISCONNECT) and event.reasons:
+                    raise Refused("the connection", event.reasons[0], event.properties.reason_string) from fault
+            raise
+        return list(self._session.events())
+
+    def _handle(self, events):
+        for event in events:
+            if event.message:
+                self._messages.put_nowait(event.message)
+            else:
+                self._answer(event)
+        self._flush()
+        self._has_changed()
+
+    def _answer(self, event):
+        packet = event.packet
+        # A PubRec that says no ends a message of QoS 2 (4.3.3).
+        if packet == library.PUBREC:
+            if event.reasons[0] < 128:
+                return
+            packet = library.PUBCOMP
+        request = self._awaited.pop((packet, event.pkid), None)
+        if not request or request.answer.done():
+            return
+        refusal = next((reason for reason in event.reasons if reason >= 128), None)
+        if refusal is None:
+            request.answer.set_result(event)
+        else:
+            text = event.properties.reason_string
+            request.answer.set_exception(Refused(request.what, refusal, text))
+
+    def _end(self, why):
+        if self._ended:
+            return
+        self._ended = why
+        self._messages.put_nowait(None)
+        self._has_changed()
+        for request in self._awaited.values():
+            if not request.answer.done():
+                request.answer.set_exception(why)
+        if self._connected and not self._connected.done():
+            self._connected.set_exception(why)
+
+
+def _now() -> int:
+    return int(time.monotonic())

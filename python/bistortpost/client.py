@@ -1,0 +1,78 @@
+"""A client whose calls wait."""
+
+from __future__ import annotations
+
+import asyncio
+import threading
+from collections.abc import Iterator
+
+from . import aio
+from .values import Message, Properties, Subscription
+
+
+class Client:
+    """The client of `aio`, with the same settings and the same calls, each of which waits until it is done. A thread of
+    its own keeps the connection up; the calls may come from any thread.
+
+    with Client("127.0.0.1") as client:
+        client.subscribe("a/#", qos=1)
+        client.publish("a/b", b"hi", qos=1)
+        for message in client.messages():
+            print(message.topic, message.payload)
+    """
+
+    def __init__(self, host: str, port: int | None = None, **settings):
+        self._loop = asyncio.new_event_loop()
+        self._thread = threading.Thread(target=self._loop.run_forever, daemon=True)
+        self._host, self._port, self._settings = host, port, settings
+        self._client: aio.Client | None = None
+
+    def _do(self, call, timeout=None):
+        return asyncio.run_coroutine_threadsafe(call, self._loop).result(timeout)
+
+    def __enter__(self) -> Client:
+        self._thread.start()
+        try:
+            self._client = self._do(self._open())
+        except BaseException:
+            self._stop()
+            raise
+        return self
+
+    async def _open(self):
+        # (made on the thread that calls it from then on)
+        return await aio.Client(self._host, self._port, **self._settings).__aenter__()
+
+    def __exit__(self, *_):
+        self._do(self._client.disconnect())
+        self._stop()
+
+    def _stop(self):
+        self._loop.call_soon_threadsafe(self._loop.stop)
+        self._thread.join()
+        self._loop.close()
+
+    @property
+    def connack(self) -> Properties:
+        """The properties of the ConnAck."""
+        return self._client.connack
+
+    def publish(self, topic: str, payload: bytes | str = b"", qos=0, retain=False, properties=None) -> int:
+        return self._do(self._client.publish(topic, payload, qos, retain, properties))
+
+    def subscribe(self, filters: str | Subscription | list, qos=0, properties=None) -> list[int]:
+        return self._do(self._client.subscribe(filters, qos, properties))
+
+    def unsubscribe(self, topic_filter: str, properties=None):
+        self._do(self._client.unsubscribe(topic_filter, properties))
+
+    def messages(self, timeout: float | None = None) -> Iterator[Message]:
+        """The messages that come, in order. Ends where none comes for `timeout` seconds, or the client ends."""
+        while True:
+            try:
+                message = self._do(self._client.next_message(timeout))
+            except asyncio.TimeoutError:
+                return
+            if message is None:
+                return
+            yield message

@@ -1,0 +1,433 @@
+//! A client and its connection, by the names of rumqttc's blocking ones.
+
+use crate::inbox::{Came, Inbox};
+use crate::mqttbytes::QoS;
+use crate::options::MqttOptions;
+use crate::packets::{Event, Filter, Packet, Publish};
+use crate::properties::Properties;
+use crate::session::{Fault, Session};
+use std::collections::VecDeque;
+use std::fmt;
+use std::io::{self, ErrorKind, Read, Write};
+use std::net::{Shutdown, TcpStream};
+use std::sync::Arc;
+use std::thread;
+use std::time::{Duration, Instant};
+
+/// How many bytes are read at a time.
+const PIECE: usize = 65536;
+/// How long a broker may take to answer a Connect.
+const PATIENCE: Duration = Duration::from_secs(20);
+
+/// Why a connection stops. The next `recv` opens it again.
+#[derive(Debug)]
+pub enum ConnectionError {
+    Io(io::Error),
+    /// The session refuses what came, or what was asked for.
+    MqttState(Fault),
+    /// The broker refuses the connection; the reason code of its ConnAck.
+    ConnectionRefused(u8),
+    /// The broker doesn't answer.
+    NetworkTimeout,
+    /// The broker lost the session: so many requests were let go. The connection stands.
+    SessionLost(usize),
+    /// No client is left.
+    RequestsDone,
+}
+
+impl fmt::Display for ConnectionError {
+    fn fmt(&self, f: &mut fmt::Formatter<'_>) -> fmt::Result {
+        match self {
+            ConnectionError::Io(error) => write!(f, "{error}"),
+            ConnectionError::MqttState(fault) => write!(f, "{fault}"),
+            ConnectionError::ConnectionRefused(code) => write!(f, "the broker refused the connection: {code}"),
+            ConnectionError::NetworkTimeout => write!(f, "the broker doesn't answer"),
+            ConnectionError::SessionLost(count) => {
+                write!(f, "the broker lost the session: {count} requests are let go")
+            }
+            ConnectionError::RequestsDone => write!(f, "no client is left"),
+        }
+    }
+}
+
+impl std::error::Error for ConnectionError {}
+
+impl From<io::Error> for ConnectionError {
+    fn from(error: io::Error) -> ConnectionError {
+        ConnectionError::Io(error)
+    }
+}
+
+impl From<Fault> for ConnectionError {
+    fn from(fault: Fault) -> ConnectionError {
+        ConnectionError::MqttState(fault)
+    }
+}
+
+/// A request isn't taken: the connection is gone, or, of the calls that don't wait, has no room.
+#[derive(Debug)]
+pub struct ClientError;
+
+impl fmt::Display for ClientError {
+    fn fmt(&self, f: &mut fmt::Formatter<'_>) -> fmt::Result {
+        write!(f, "the request isn't taken")
+    }
+}
+
+impl std::error::Error for ClientError {}
+
+enum Request {
+    Publish(Publish),
+    Subscribe(Vec<Filter>, Option<Properties>),
+    Unsubscribe(String, Option<Properties>),
+    Ack(u16, QoS),
+    Disconnect,
+}
+
+/// Asks a connection, from any thread.
+pub struct Client {
+    inbox: Arc<Inbox<Request>>,
+}
+
+impl Client {
+    /// A client and its connection over TCP, which takes `cap` requests before `publish` waits. The connection is opened by
+    /// its first `recv`.
+    pub fn new(options: MqttOptions, cap: usize) -> (Client, Connection) {
+        let address = options.address.clone();
+        Client::over(options, cap, move || {
+            let stream = TcpStream::connect((address.0.as_str(), address.1))?;
+            stream.set_nodelay(true)?;
+            Ok((stream.try_clone()?, Closing(stream)))
+        })
+    }
+
+    /// The same over any reader and writer, which the function opens, anew for each connection.
+    pub fn over<R, W, F>(options: MqttOptions, cap: usize, mut open: F) -> (Client, Connection)
+    where
+        R: Read + Send + 'static,
+        W: Write + Send + 'static,
+        F: FnMut() -> io::Result<(R, W)> + Send + 'static,
+    {
+        let inbox = Arc::new(Inbox::new(cap));
+        let open = Box::new(move || {
+            let (reader, writer) = open()?;
+            Ok((Box::new(reader) as Box<dyn Read + Send>, Box::new(writer) as Box<dyn Write + Send>))
+        });
+        let connection = Connection {
+            keep_alive: options.keep_alive,
+            options,
+            inbox: inbox.clone(),
+            open,
+            session: None,
+            writer: None,
+            is_acked: false,
+            was_acked: false,
+            written: Instant::now(),
+            came: VecDeque::new(),
+        };
+        (Client { inbox }, connection)
+    }
+
+    fn ask(&self, request: Request, may_wait: bool) -> Result<(), ClientError> {
+        self.inbox.send(request, may_wait).map_err(|_| ClientError)
+    }
+
+    pub fn publish(
+        &self,
+        topic: impl Into<String>,
+        qos: QoS,
+        retain: bool,
+        payload: impl Into<Vec<u8>>,
+    ) -> Result<(), ClientError> {
+        self.ask(publish_of(topic.into(), qos, retain, payload.into(), None), true)
+    }
+
+    pub fn try_publish(
+        &self,
+        topic: impl Into<String>,
+        qos: QoS,
+        retain: bool,
+        payload: impl Into<Vec<u8>>,
+    ) -> Result<(), ClientError> {
+        self.ask(publish_of(topic.into(), qos, retain, payload.into(), None), false)
+    }
+
+    pub fn publish_with_properties(
+        &self,
+        topic: impl Into<String>,
+        qos: QoS,
+        retain: bool,
+        payload: impl Into<Vec<u8>>,
+        properties: Properties,
+    ) -> Result<(), ClientError> {
+        self.ask(publish_of(topic.into(), qos, retain, payload.into(), Some(properties)), true)
+    }
+
+    pub fn subscribe(&self, topic: impl Into<String>, qos: QoS) -> Result<(), ClientError> {
+        self.ask(Request::Subscribe(vec![Filter::new(topic, qos)], None), true)
+    }
+
+    pub fn subscribe_many(&self, topics: impl IntoIterator<Item = Filter>) -> Result<(), ClientError> {
+        self.ask(Request::Subscribe(topics.into_iter().collect(), None), true)
+    }
+
+    pub fn subscribe_many_with_properties(
+        &self,
+        topics: impl IntoIterator<Item = Filter>,
+        properties: Properties,
+    ) -> Result<(), ClientError> {
+        self.ask(Request::Subscribe(topics.into_iter().collect(), Some(properties)), true)
+    }
+
+    pub fn unsubscribe(&self, topic: impl Into<String>) -> Result<(), ClientError> {
+        self.ask(Request::Unsubscribe(topic.into(), None), true)
+    }
+
+    /// Acknowledges a publish that came, where the options have manual acks.
+    pub fn ack(&self, publish: &Publish) -> Result<(), ClientError> {
+        self.ask(Request::Ack(publish.pkid, publish.qos), true)
+    }
+
+    pub fn disconnect(&self) -> Result<(), ClientError> {
+        self.ask(Request::Disconnect, true)
+    }
+}
+
+impl Clone for Client {
+    fn clone(&self) -> Client {
+        self.inbox.add_client();
+        Client { inbox: self.inbox.clone() }
+    }
+}
+
+impl Drop for Client {
+    fn drop(&mut self) {
+        self.inbox.drop_client();
+    }
+}
+
+/// A stream that ends for its reader too once it is dropped.
+struct Closing(TcpStream);
+
+impl Write for Closing {
+    fn write(&mut self, bytes: &[u8]) -> io::Result<usize> {
+        self.0.write(bytes)
+    }
+
+    fn flush(&mut self) -> io::Result<()> {
+        self.0.flush()
+    }
+}
+
+impl Drop for Closing {
+    fn drop(&mut self) {
+        // (one that is closed already is no error)
+        let _ = self.0.shutdown(Shutdown::Both);
+    }
+}
+
+fn publish_of(topic: String, qos: QoS, retain: bool, payload: Vec<u8>, properties: Option<Properties>) -> Request {
+    Request::Publish(Publish { dup: false, qos, retain, topic: topic.into_bytes(), pkid: 0, payload, properties })
+}
+
+type Opened = (Box<dyn Read + Send>, Box<dyn Write + Send>);
+
+/// A connection, which moves on by `recv` and by `iter`, and is opened again after it stopped.
+pub struct Connection {
+    options: MqttOptions,
+    inbox: Arc<Inbox<Request>>,
+    open: Box<dyn FnMut() -> io::Result<Opened> + Send>,
+    session: Option<Session>,
+    writer: Option<Box<dyn Write + Send>>,
+    /// Whether this connection's ConnAck came, and whether one ever did.
+    is_acked: bool,
+    was_acked: bool,
+    keep_alive: Duration,
+    written: Instant,
+    came: VecDeque<Result<Event, ConnectionError>>,
+}
+
+impl Connection {
+    /// The next event.
+    pub fn recv(&mut self) -> Result<Event, ConnectionError> {
+        loop {
+            if let Some(next) = self.came.pop_front() {
+                return next;
+            }
+            if let Err(error) = self.turn() {
+                if let Some(session) = &mut self.session {
+                    // What came before the fault is told of first.
+                    while let Ok(Some(event)) = session.next_event() {
+                        self.came.push_back(Ok(event));
+                    }
+                }
+                self.writer = None;
+                self.is_acked = false;
+                self.inbox.begin_stream();
+                let error = self.refusal().unwrap_or(error);
+                self.came.push_back(Err(error));
+            }
+        }
+    }
+
+    /// The events, until no client is left.
+    pub fn iter(&mut self) -> Iter<'_> {
+        Iter { connection: self }
+    }
+
+    /// Why the broker refused the connection, if it did.
+    fn refusal(&self) -> Option<ConnectionError> {
+        self.came.iter().find_map(|came| match came {
+            Ok(Event::Incoming(Packet::ConnAck { code, .. })) if *code != 0 => {
+                Some(ConnectionError::ConnectionRefused(*code))
+            }
+            _other => None,
+        })
+    }
+
+    fn turn(&mut self) -> Result<(), ConnectionError> {
+        if self.writer.is_none() {
+            self.connect()?;
+        }
+        self.flush()?;
+        let session = self.session.as_mut().expect("a connection has a session");
+        let takes_requests = self.is_acked && session.may_publish()?;
+        match self.inbox.receive(takes_requests, self.due()) {
+            Came::Read(read) => self.take(&read?),
+            Came::Request(request) => self.ask(&request),
+            Came::NoClient => Err(ConnectionError::RequestsDone),
+            Came::Due if self.is_acked => {
+                self.session.as_mut().expect("a connection has a session").ping(0)?;
+                Ok(())
+            }
+            Came::Due => Err(ConnectionError::NetworkTimeout),
+        }
+    }
+
+    /// When a ping is due, or the ConnAck is overdue.
+    fn due(&self) -> Option<Instant> {
+        if !self.is_acked {
+            return Some(self.written + PATIENCE);
+        }
+        (!self.keep_alive.is_zero()).then(|| self.written + self.keep_alive)
+    }
+
+    fn connect(&mut self) -> Result<(), ConnectionError> {
+        if self.session.is_none() {
+            self.session = Some(Session::new(self.options.limit, self.options.manual_acks)?);
+        }
+        let session = self.session.as_mut().expect("it was made");
+        session.connect(&self.options, self.options.clean_start && !self.was_acked)?;
+        let (reader, writer) = (self.open)()?;
+        self.writer = Some(writer);
+        let stream = self.inbox.begin_stream();
+        let inbox = self.inbox.clone();
+        thread::spawn(move || read_on(&inbox, stream, reader));
+        Ok(())
+    }
+
+    fn flush(&mut self) -> Result<(), ConnectionError> {
+        let output = self.session.as_mut().expect("a connection has a session").output()?;
+        let writer = self.writer.as_mut().expect("a connection has a writer");
+        if !output.is_empty() {
+            writer.write_all(&output)?;
+            writer.flush()?;
+            self.written = Instant::now();
+        }
+        Ok(())
+    }
+
+    fn take(&mut self, bytes: &[u8]) -> Result<(), ConnectionError> {
+        if bytes.is_empty() {
+            return Err(io::Error::from(ErrorKind::UnexpectedEof).into());
+        }
+        let session = self.session.as_mut().expect("a connection has a session");
+        session.receive(bytes, 0)?;
+        self.tell()
+    }
+
+    /// Takes the events out, and the session up where one is a ConnAck.
+    fn tell(&mut self) -> Result<(), ConnectionError> {
+        let session = self.session.as_mut().expect("a connection has a session");
+        let mut present = None;
+        while let Some(event) = session.next_event()? {
+            if let Event::Incoming(Packet::ConnAck { session_present, properties, .. }) = &event {
+                present = Some(*session_present);
+                self.keep_alive = properties
+                    .server_keep_alive
+                    .map_or(self.options.keep_alive, |seconds| Duration::from_secs(u64::from(seconds)));
+            }
+            self.came.push_back(Ok(event));
+        }
+        let Some(present) = present else { return Ok(()) };
+        let let_go = session.take_up(present, 0)?;
+        self.is_acked = true;
+        self.was_acked = true;
+        if let_go > 0 {
+            self.came.push_back(Err(ConnectionError::SessionLost(let_go)));
+        }
+        while let Some(event) = session.next_event()? {
+            self.came.push_back(Ok(event));
+        }
+        Ok(())
+    }
+
+    fn ask(&mut self, request: &Request) -> Result<(), ConnectionError> {
+        let session = self.session.as_mut().expect("a connection has a session");
+        let asked = match request {
+            Request::Publish(p) => {
+                let topic = String::from_utf8_lossy(&p.topic);
+                session.publish(&topic, p.qos, p.retain, &p.payload, p.properties.as_ref(), 0)
+            }
+            Request::Subscribe(filters, properties) => session.subscribe(filters, properties.as_ref(), 0),
+            Request::Unsubscribe(filter, properties) => session.unsubscribe(filter, properties.as_ref(), 0),
+            Request::Ack(pkid, QoS::AtLeastOnce) => session.puback(*pkid, 0),
+            Request::Ack(pkid, QoS::ExactlyOnce) => session.pubrec(*pkid, 0),
+            Request::Ack(_, QoS::AtMostOnce) => Ok(()),
+            Request::Disconnect => session.disconnect(0),
+        };
+        // A request that is refused changes nothing, and the connection goes on.
+        if let Err(fault) = asked {
+            self.came.push_back(Err(fault.into()));
+        }
+        self.tell()
+    }
+}
+
+impl Drop for Connection {
+    fn drop(&mut self) {
+        self.inbox.close();
+        self.inbox.begin_stream();
+    }
+}
+
+/// Reads a stream to its end, or until it is no longer wanted.
+fn read_on(inbox: &Inbox<Request>, stream: u64, mut reader: Box<dyn Read + Send>) {
+    let mut piece = vec![0; PIECE];
+    loop {
+        let read = match reader.read(&mut piece) {
+            Err(error) if error.kind() == ErrorKind::Interrupted => continue,
+            read => read.map(|count| piece[..count].to_vec()),
+        };
+        let is_last = read.as_ref().map_or(true, Vec::is_empty);
+        if !inbox.hand_on(stream, read) || is_last {
+            return;
+        }
+    }
+}
+
+/// The events of a connection.
+pub struct Iter<'a> {
+    connection: &'a mut Connection,
+}
+
+impl Iterator for Iter<'_> {
+    type Item = Result<Event, ConnectionError>;
+
+    fn next(&mut self) -> Option<Self::Item> {
+        match self.connection.recv() {
+            Err(ConnectionError::RequestsDone) => None,
+            next => Some(next),
+        }
+    }
+}

@@ -1,0 +1,180 @@
+//! The client against a broker that follows a script: the frames that it gets and says are written by hand, from the sections
+//! of MQTT 5.0 that stand beside them.
+
+use bistortpost::mqttbytes::QoS;
+use bistortpost::{Client, ConnectionError, Event, Filter, LastWill, MqttOptions, Outgoing, Packet, Properties};
+use std::io::{Read, Write};
+use std::net::{TcpListener, TcpStream};
+use std::thread::{self, JoinHandle};
+
+// A Connect (3.1): client id "c", clean start, keep alive 60, session expiry 0. The ConnAck (3.2) of a new session.
+const CONNECT: &str = "10 13 0004 4D515454 05 02 003C 05 11 00000000 0001 63";
+const CONNACK: &str = "20 03 00 00 00";
+// Without clean start, and the ConnAck of a session that is there.
+const CONNECT_AGAIN: &str = "10 13 0004 4D515454 05 00 003C 05 11 00000000 0001 63";
+const CONNACK_AGAIN: &str = "20 03 01 00 00";
+// A normal Disconnect (3.14).
+const DISCONNECT: &str = "E0 00";
+
+enum Step {
+    Gets(&'static str),
+    Says(&'static str),
+}
+use Step::{Gets, Says};
+
+fn bytes_of(digits: &str) -> Vec<u8> {
+    let digits: Vec<u8> = digits.bytes().filter(|digit| *digit != b' ').collect();
+    let byte = |pair: &[u8]| u8::from_str_radix(std::str::from_utf8(pair).unwrap(), 16).unwrap();
+    digits.chunks(2).map(byte).collect()
+}
+
+fn follow(mut stream: TcpStream, script: Vec<Step>) {
+    for step in script {
+        match step {
+            Says(digits) => stream.write_all(&bytes_of(digits)).unwrap(),
+            Gets(digits) => {
+                let wanted = bytes_of(digits);
+                let mut got = vec![0; wanted.len()];
+                stream.read_exact(&mut got).unwrap();
+                assert_eq!(got, wanted, "{digits}");
+            }
+        }
+    }
+}
+
+/// A broker that follows one script for each connection, and ends it then.
+fn broker(scripts: Vec<Vec<Step>>) -> (MqttOptions, JoinHandle<()>) {
+    let listener = TcpListener::bind("127.0.0.1:0").unwrap();
+    let port = listener.local_addr().unwrap().port();
+    let following = thread::spawn(move || {
+        for script in scripts {
+            follow(listener.accept().unwrap().0, script);
+        }
+    });
+    (MqttOptions::new("c", "127.0.0.1", port), following)
+}
+
+#[test]
+fn settings() {
+    // User name, password, a retained will of QoS 1 with a delay of 5 and a content type, receive maximum 20 (3.1.2, 3.1.3).
+    let connect = "10 2F 0004 4D515454 05 EE 003C 08 11 0000000A 21 0014 0001 63 \
+                   09 18 00000005 03 0001 74 0001 77 0004 676F6E65 0001 75 0001 70";
+    // Server keep alive 30, assigned client identifier "x", a user property (3.2.2.3).
+    let connack = "20 11 00 00 0E 13 001E 12 0001 78 26 0001 6B 0001 76";
+    let (mut options, following) = broker(vec![vec![Gets(connect), Says(connack), Gets(DISCONNECT)]]);
+    let properties =
+        Properties { will_delay_interval: Some(5), content_type: Some("t".to_owned()), ..Properties::default() };
+    options
+        .set_credentials("u", "p")
+        .set_last_will(LastWill::new("w", "gone", QoS::AtLeastOnce, true, Some(properties)))
+        .set_session_expiry_interval(Some(10))
+        .set_receive_maximum(Some(20));
+    let (client, mut connection) = Client::new(options, 10);
+    let Ok(Event::Incoming(Packet::ConnAck { session_present, code, properties })) = connection.recv() else {
+        panic!("no ConnAck");
+    };
+    assert_eq!((session_present, code), (false, 0));
+    assert_eq!(properties.server_keep_alive, Some(30));
+    assert_eq!(properties.assigned_client_identifier.as_deref(), Some("x"));
+    assert_eq!(properties.user_properties, [("k".to_owned(), "v".to_owned())]);
+    client.disconnect().unwrap();
+    assert_eq!(connection.recv().unwrap(), Event::Outgoing(Outgoing::Disconnect));
+    drop(client);
+    while connection.recv().is_ok() {}
+    following.join().unwrap();
+}
+
+#[test]
+fn messages() {
+    // Two filters with their options (3.8); a message of QoS 2 in its four packets, ours and theirs (4.3.3).
+    let script = vec![
+        Gets(CONNECT),
+        Says(CONNACK),
+        Gets("82 0D 0001 00 0003 612F23 0D 0001 62 02"),
+        Says("90 05 0001 00 01 02"),
+        Gets("34 07 0001 61 0002 00 78"),
+        Says("50 02 0002"),
+        Gets("62 02 0002"),
+        Says("70 02 0002"),
+        Says("34 0C 0001 62 0007 05 02 0000000A 79"),
+        Gets("50 02 0007"),
+        Says("62 02 0007"),
+        Gets("70 02 0007"),
+        Gets(DISCONNECT),
+    ];
+    let (options, following) = broker(vec![script]);
+    let (client, mut connection) = Client::new(options, 10);
+    let first = Filter { nolocal: true, preserve_retain: true, ..Filter::new("a/#", QoS::AtLeastOnce) };
+    client.subscribe_many([first, Filter::new("b", QoS::ExactlyOnce)]).unwrap();
+    client.publish("a", QoS::ExactlyOnce, false, "x").unwrap();
+    let mut told = Vec::new();
+    for event in connection.iter() {
+        let Ok(Event::Incoming(packet)) = event else { continue };
+        match packet {
+            Packet::SubAck { pkid, return_codes, .. } => told.push(format!("suback {pkid} {return_codes:?}")),
+            Packet::PubComp { pkid, reason, .. } => told.push(format!("pubcomp {pkid} {reason}")),
+            Packet::Publish(publish) => {
+                let expiry = publish.properties.unwrap().message_expiry_interval.unwrap();
+                told.push(format!("publish {:?} {:?} {expiry}", publish.topic, publish.payload));
+            }
+            Packet::PubRel { .. } => break,
+            _other => {}
+        }
+    }
+    assert_eq!(told, ["suback 1 [1, 2]", "pubcomp 2 0", "publish [98] [121] 10"]);
+    client.disconnect().unwrap();
+    drop(client);
+    while connection.recv().is_ok() {}
+    following.join().unwrap();
+}
+
+#[test]
+fn a_cut() {
+    // Cut after the Publish: it is sent again where the broker has the session (4.4).
+    let scripts = vec![
+        vec![Gets(CONNECT), Says(CONNACK), Gets("34 07 0001 61 0001 00 78")],
+        vec![
+            Gets(CONNECT_AGAIN),
+            Says(CONNACK_AGAIN),
+            Gets("3C 07 0001 61 0001 00 78"),
+            Says("50 02 0001"),
+            Gets("62 02 0001"),
+            Says("70 02 0001"),
+        ],
+    ];
+    let (options, following) = broker(scripts);
+    let (client, mut connection) = Client::new(options, 10);
+    client.publish("a", QoS::ExactlyOnce, false, "x").unwrap();
+    let mut cuts = 0;
+    for event in connection.iter() {
+        match event {
+            Ok(Event::Incoming(Packet::PubComp { .. })) => break,
+            Err(ConnectionError::Io(_)) => cuts += 1,
+            _other => {}
+        }
+    }
+    assert_eq!(cuts, 1);
+    following.join().unwrap();
+}
+
+#[test]
+fn refusals() {
+    // A login that is refused (3.2.2.2); a session that the broker lost (3.2.2.1.1).
+    let scripts = vec![
+        vec![Gets(CONNECT), Says("20 03 00 86 00")],
+        vec![Gets(CONNECT), Says(CONNACK), Gets("32 07 0001 61 0001 00 78")],
+        vec![Gets(CONNECT_AGAIN), Says(CONNACK)],
+    ];
+    let (options, following) = broker(scripts);
+    let (client, mut connection) = Client::new(options, 10);
+    let Ok(Event::Incoming(Packet::ConnAck { code: 134, .. })) = connection.recv() else {
+        panic!("no refusal told");
+    };
+    let Err(ConnectionError::ConnectionRefused(134)) = connection.recv() else {
+        panic!("no refusal");
+    };
+    client.publish("a", QoS::AtLeastOnce, false, "x").unwrap();
+    let lost = connection.iter().find(|event| matches!(event, Err(ConnectionError::SessionLost(_))));
+    assert!(matches!(lost, Some(Err(ConnectionError::SessionLost(1)))));
+    following.join().unwrap();
+}

@@ -1,0 +1,179 @@
+"""Both Python clients at a broker: request and response, a hundred filters in one Subscribe, expiry, a will, the broker's keep
+alive, and ten cuts at QoS 2. Usage: live_clients.py HOST PORT [USER PASSWORD]"""
+
+import asyncio
+import random
+import sys
+
+from bistortpost import Client, Properties, Subscription, Will, aio
+
+HOST, PORT = sys.argv[1], int(sys.argv[2])
+LOGIN = {"username": sys.argv[3], "password": sys.argv[4]} if len(sys.argv) > 3 else {}
+CUTS, MESSAGES = 10, 200
+# (the same cuts each time)
+CHANCE = random.Random(5)
+
+
+def client(name, port=PORT, **settings):
+    return aio.Client(HOST, port, client_id=f"live-{name}", **LOGIN, **settings)
+
+
+async def next_of(client, seconds=20):
+    return await client.next_message(seconds)
+
+
+async def silent(client, seconds=1):
+    try:
+        message = await client.next_message(seconds)
+    except asyncio.TimeoutError:
+        return
+    raise AssertionError(f"a message more: {message}")
+
+
+class Relay:
+    """Stands between a client and the broker, and cuts the connection."""
+
+    def __init__(self):
+        self.ways = set()
+        self.cuts = 0
+
+    async def __aenter__(self):
+        self.server = await asyncio.start_server(self.serve, HOST, 0)
+        self.port = self.server.sockets[0].getsockname()[1]
+        return self
+
+    async def __aexit__(self, *_):
+        self.server.close()
+        self.cut()
+
+    async def serve(self, reader, writer):
+        there, back = await asyncio.open_connection(HOST, PORT)
+        self.ways.add(writer)
+        self.ways.add(back)
+        await asyncio.gather(self.carry(reader, back), self.carry(there, writer))
+
+    async def carry(self, reader, writer):
+        try:
+            while data := await reader.read(1000):
+                writer.write(data)
+                await writer.drain()
+        except OSError:
+            pass
+        finally:
+            writer.close()
+
+    def cut(self):
+        for way in self.ways:
+            way.transport.abort()
+        self.ways.clear()
+        self.cuts += 1
+
+
+async def request_and_response():
+    async with client("asks") as asks, client("answers") as answers:
+        await asks.subscribe("a/answers", 1)
+        await answers.subscribe("a/requests", 1)
+        properties = Properties(response_topic="a/answers", correlation_data=b"\0\7", user_property=[("k", "v")])
+        await asks.publish("a/requests", b"6 * 7", 1, properties=properties)
+        request = await next_of(answers)
+        assert request.properties.user_property == [("k", "v")], request
+        back = Properties(correlation_data=request.properties.correlation_data)
+        await answers.publish(request.properties.response_topic, b"42", 1, properties=back)
+        answer = await next_of(asks)
+        assert (answer.payload, answer.properties.correlation_data) == (b"42", b"\0\7"), answer
+
+
+async def hundred_filters():
+    async with client("hundred") as c:
+        granted = await c.subscribe([Subscription(f"a/many/{i}", 1, no_local=i % 2 == 1) for i in range(100)])
+        assert granted == [1] * 100, granted
+        await c.publish("a/many/7", b"its own", 1)
+        await c.publish("a/many/8", b"taken", 1)
+        assert (await next_of(c)).payload == b"taken"
+
+
+async def expiry_of_messages():
+    kept = {"clean_start": False, "session_expiry_interval": 100}
+    async with client("late", **kept) as late:
+        await late.subscribe("a/late", 1)
+    async with client("early") as early:
+        await early.publish("a/late", b"gone", 1, properties=Properties(message_expiry_interval=1))
+        await early.publish("a/late", b"kept", 1, properties=Properties(message_expiry_interval=100))
+    await asyncio.sleep(2.5)
+    async with client("late", **kept) as late:
+        message = await next_of(late)
+        assert message.payload == b"kept", message
+        assert 0 < message.properties.message_expiry_interval < 100, message
+
+
+async def a_will():
+    will = Will("a/will", b"cut off", 1, properties=Properties(content_type="text"))
+    async with client("heir") as heir, Relay() as relay:
+        await heir.subscribe("a/will", 1)
+        async with client("leaves", relay.port, will=will, reconnect=False):
+            relay.cut()
+            message = await next_of(heir)
+            assert (message.payload, message.properties.content_type) == (b"cut off", "text"), message
+
+
+async def keep_alive_of_the_broker():
+    """Its connection stands for longer than the broker bears a client that is silent."""
+    async with client("quiet", keep_alive=1000, reconnect=False) as quiet:
+        seconds = quiet.connack.server_keep_alive
+        if seconds is None:
+            return "the broker says no keep alive"
+        await quiet.subscribe("a/quiet", 1)
+        await asyncio.sleep(1.5 * seconds + 3)
+        await quiet.publish("a/quiet", b"still here", 1)
+        assert (await next_of(quiet)).payload == b"still here"
+
+
+async def ten_cuts():
+    """At QoS 2 nothing is lost and nothing comes twice, while both connections are cut."""
+    kept = {"clean_start": False, "session_expiry_interval": 100}
+    async with Relay() as up, Relay() as down:
+        async with client("sends", up.port, **kept) as sends, client("takes", down.port, **kept) as takes:
+            await takes.subscribe("a/cuts", 2)
+
+            async def cut():
+                for _ in range(CUTS // 2):
+                    for relay in up, down:
+                        await asyncio.sleep(CHANCE.uniform(0.2, 0.6))
+                        relay.cut()
+
+            async def send():
+                for number in range(MESSAGES):
+                    await sends.publish("a/cuts", str(number).encode(), 2)
+                    await asyncio.sleep(0.01)
+
+            cutting, sending = asyncio.create_task(cut()), asyncio.create_task(send())
+            came = [int((await next_of(takes, 60)).payload) for _ in range(MESSAGES)]
+            await asyncio.gather(cutting, sending)
+            await silent(takes)
+            assert sorted(came) == list(range(MESSAGES)), came
+
+
+def calls_that_wait():
+    with Client(HOST, PORT, client_id="live-waits", **LOGIN) as c:
+        assert c.subscribe("a/waits/+", 2) == [2]
+        for qos in 0, 1, 2:
+            c.publish(f"a/waits/{qos}", f"at {qos}", qos)
+        came = [(m.topic, m.payload) for _, m in zip(range(3), c.messages(10))]
+        assert came == [(f"a/waits/{q}", b"at %d" % q) for q in (0, 1, 2)], came
+        c.unsubscribe("a/waits/+")
+
+
+async def main():
+    await asyncio.gather(
+        request_and_response(),
+        hundred_filters(),
+        expiry_of_messages(),
+        a_will(),
+        keep_alive_of_the_broker(),
+        ten_cuts(),
+        asyncio.to_thread(calls_that_wait),
+    )
+
+
+asyncio.run(asyncio.wait_for(main(), 100))
+print("done")
