@@ -68,7 +68,20 @@ put_in_order() {
     order+=("$1")
 }
 
-# ---- The lines of a build, which begin each crate with a line `library NAME`. ----
+# The crates of `order`, those side by side that stand on the same number of others above one another, lowest first.
+levels() {
+    local name library
+    local -A level=()
+    for name in "${order[@]}"; do
+        level[$name]=0
+        for library in ${libraries[$name]}; do
+            [ -z "${level[$library]+known}" ] || [ "${level[$library]}" -lt "${level[$name]}" ] || level[$name]=$((level[$library] + 1))
+        done
+        echo "${level[$name]} $name"
+    done | sort -s -n -k 1,1 | awk '$1 != at { if (NR > 1) print ""; at = $1 } { printf "%s ", $2 } END { print "" }'
+}
+
+# ---- The lines of a build, which begin each crate with a line `library NAME`; of a library the last is `all is built`. ----
 
 at='' began=0 is_built=0
 
@@ -95,15 +108,16 @@ tell_first() {
 hear_run() {
     printf '%s\n' "$1" >&3
     case $1 in
+        'library '*': modules loaded='*) ;;
         'library '*) begin "$(place_of "${1#library }")" ;;
-        'rt: running '*) is_built=1 ;;
+        'rt: running '* | 'all is built') is_built=1 ;;
         'rt: '*waiting*) tell "${1#rt: }" ;;
     esac
 }
 
 still_run() { tell "${at:-looking at what changed}: $(since "$began")"; }
 
-# Reads what a build of a program says into a log, and answers whether it is built.
+# Reads what a build says into a log, and answers whether it is built.
 tell_run() {
     exec 3> "$1"
     follow hear_run still_run
