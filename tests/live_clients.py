@@ -22,14 +22,6 @@ async def next_of(client, seconds=20):
     return await client.next_message(seconds)
 
 
-async def silent(client, seconds=1):
-    try:
-        message = await client.next_message(seconds)
-    except asyncio.TimeoutError:
-        return
-    raise AssertionError(f"a message more: {message}")
-
-
 class Relay:
     """Stands between a client and the broker, and cuts the connection."""
 
@@ -63,10 +55,10 @@ class Relay:
             writer.close()
 
     def cut(self):
+        self.cuts += bool(self.ways)
         for way in self.ways:
             way.transport.abort()
         self.ways.clear()
-        self.cuts += 1
 
 
 async def request_and_response():
@@ -136,21 +128,31 @@ async def ten_cuts():
             await takes.subscribe("a/cuts", 2)
 
             async def cut():
-                for _ in range(CUTS // 2):
-                    for relay in up, down:
-                        await asyncio.sleep(CHANCE.uniform(0.2, 0.6))
-                        relay.cut()
+                while up.cuts + down.cuts < CUTS:
+                    await asyncio.sleep(CHANCE.uniform(0.1, 0.5))
+                    CHANCE.choice([up, down]).cut()
 
             async def send():
-                for number in range(MESSAGES):
+                number = 0
+                while number < MESSAGES or not cutting.done():
                     await sends.publish("a/cuts", str(number).encode(), 2)
-                    await asyncio.sleep(0.01)
+                    number += 1
+                return number
 
-            cutting, sending = asyncio.create_task(cut()), asyncio.create_task(send())
-            came = [int((await next_of(takes, 60)).payload) for _ in range(MESSAGES)]
-            await asyncio.gather(cutting, sending)
-            await silent(takes)
-            assert sorted(came) == list(range(MESSAGES)), came
+            async def take():
+                while True:
+                    came.append(int((await takes.next_message()).payload))
+
+            came = []
+            cutting, taking = asyncio.create_task(cut()), asyncio.create_task(take())
+            sent = await send()
+            while len(came) < sent:
+                await asyncio.sleep(0.1)
+            # (one that comes twice would come by then)
+            await asyncio.sleep(1)
+            taking.cancel()
+            assert sorted(came) == list(range(sent)), came
+            print(f"{len(came)} messages over {up.cuts + down.cuts} cuts")
 
 
 def calls_that_wait():

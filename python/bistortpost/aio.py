@@ -29,6 +29,8 @@ class _Request:
     def __init__(self, what, packet, ask, qos=0):
         self.what, self.packet, self.ask, self.qos = what, packet, ask, qos
         self.answer = asyncio.get_running_loop().create_future()
+        # (nobody may wait for it)
+        self.answer.add_done_callback(lambda answer: answer.cancelled() or answer.exception())
 
 
 class Client:
@@ -79,6 +81,7 @@ class Client:
         self._messages: asyncio.Queue[Message | None] = asyncio.Queue()
         self._ended: MqttError | None = None
         self._written = 0.0
+        self._pause = FIRST_PAUSE
         self._keep_alive = keep_alive
         self._running: asyncio.Task[None] | None = None
         self.connack = Properties()
@@ -208,9 +211,7 @@ class Client:
     # ---- The connection.
 
     async def _run(self):
-        pause = FIRST_PAUSE
         while True:
-            opened = time.monotonic()
             try:
                 await self._hold_connection()
                 lost = ConnectionLost("the broker closed the connection")
@@ -222,9 +223,8 @@ class Client:
             if not self._reconnect or not self._connected.done() or isinstance(lost, Refused):
                 self._end(lost)
                 return
-            pause = FIRST_PAUSE if time.monotonic() - opened > LAST_PAUSE else pause
+            pause, self._pause = self._pause, min(2 * self._pause, LAST_PAUSE)
             await asyncio.sleep(pause)
-            pause = min(2 * pause, LAST_PAUSE)
 
     async def _hold_connection(self):
         host, port = self._address
@@ -252,6 +252,7 @@ class Client:
             events = self._take(data)
         connack = events[0]
         self.connack = connack.properties
+        self._pause = FIRST_PAUSE
         self._keep_alive = self._settings.keep_alive
         if connack.properties.server_keep_alive is not None:
             self._keep_alive = connack.properties.server_keep_alive
