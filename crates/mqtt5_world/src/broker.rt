@@ -43,6 +43,13 @@ impl Broker {
         }
     }
 
+    /// What was handed on so far.
+    pub fn handed(&self) -> &[Publish]
+        ensures { result.now ≡ self.now.handed }
+    {
+        self.handed.as_slice()
+    }
+
     /// What was handed on.
     pub fn into_handed(self) -> Vec<Publish>
         ensures { result.items ≡ self.handed }
