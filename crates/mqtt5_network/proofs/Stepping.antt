@@ -183,7 +183,7 @@ module _ (handed : List Publish) (c : Client) (i : IsClient handed c) (can : Can
     taken_moves (Ok reply) s t = omega arith
     taken_moves (Err e) s t = absurd (let f = t.1 in cc)
 
-    passes_moves : (p : Publish) (rest : List Publish) → (passes_on c (p ∷ rest)).passed - c.passed ≡ 1
+    pub passes_moves : (p : Publish) (rest : List Publish) → (passes_on c (p ∷ rest)).passed - c.passed ≡ 1
     passes_moves p rest = by (granted_for c.subscriptions p)
       where
         by : (o : Option QoS) → (passes_under o c p).passed - c.passed ≡ 1

@@ -1,0 +1,5 @@
+pub mod Asked
+pub mod Passing
+pub mod Placed
+pub mod Stepped
+pub mod Told

@@ -1,0 +1,17 @@
+//! A broker and its clients in code: what happens among them is played, and how often each publish
+//! is shown to each client is counted.
+#![tactic(auto)]
+
+mod client;
+mod forwarding;
+mod network;
+mod player;
+mod profile;
+mod report;
+mod sessions;
+
+pub use forwarding::{forward, granted_for};
+pub use network::Network;
+pub use player::{play_network, play_network_out};
+pub use profile::{Profile, Subscription};
+pub use report::{ClientReport, NetworkReport};

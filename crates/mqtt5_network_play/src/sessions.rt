@@ -1,0 +1,150 @@
+//! What is asked of the sessions at both ends of a connection.
+
+ghost use Rattle.std.specs.Prelude.{◌≡◌, ◌++◌, is_ok, IfOk, IfErr, OnOk};
+ghost use Rattle.std.specs.Option.{option_to_list};
+ghost use Rattle.mqtt5_inflight.specs.declared.event.Request.TheVariants as requests;
+ghost use Rattle.mqtt5_session.specs.Requests.{on_request};
+ghost use Rattle.mqtt5_session.specs.Packets.{on_packet};
+ghost use Rattle.mqtt5_session.specs.Resuming.{resume_of};
+ghost use Rattle.mqtt5_session.specs.Ledger.{kept_by};
+ghost use Rattle.mqtt5_network.specs.Client.{reply_in, connected, sent_in};
+ghost use Rattle.mqtt5_network.specs.Receiver.{shown, publish_in};
+ghost use Rattle.std.specs.List.{filter_map};
+
+use mqtt5_base::copied;
+use mqtt5_codec::Packet;
+use mqtt5_publish::Publish;
+use mqtt5_session::{Event, MqttState, Request, StateError};
+use mqtt5_world::taken_back;
+use std::alloc::{AllocError, Global};
+use std::collections::VecDeque;
+
+/// Asks a session for a publish, and puts its reply on a way: whether it accepted it.
+pub fn ask(
+    state: &mut MqttState,
+    publish: Publish,
+    way: &mut VecDeque<Packet>,
+) -> Result<bool, StateError>
+    ensures accepted { IfOk result (λ accepted. accepted
+        ≡ is_ok (on_request state.old (requests.Publish publish) 0).0) }
+    ensures state { OnOk result
+        (state.new ≡ (on_request state.old (requests.Publish publish) 0).1) }
+    ensures reply { OnOk result (way.new.items
+        ≡ way.old.items ++ reply_in (on_request state.old (requests.Publish publish) 0).0) }
+    ensures err { IfErr result (λ e. e ≡ StateError.OutOfMemory) }
+{
+    match state.handle_outgoing_packet(Request::Publish(publish), 0) {
+        Ok(reply) => {
+            send(way, reply)?;
+            Ok(true)
+        }
+        Err(StateError::OutOfMemory) => Err(StateError::OutOfMemory),
+        Err(_) => Ok(false),
+    }
+}
+
+/// A session takes a packet, and its reply, if there is one, goes on a way.
+pub fn take(
+    state: &mut MqttState,
+    packet: Packet,
+    way: &mut VecDeque<Packet>,
+) -> Result<(), StateError>
+    ensures state { OnOk result (state.new ≡ (on_packet state.old packet 0).1) }
+    ensures reply { OnOk result
+        (way.new.items ≡ way.old.items ++ reply_in (on_packet state.old packet 0).0) }
+    ensures err { IfErr result (λ e. e ≡ StateError.OutOfMemory) }
+{
+    match state.handle_incoming_packet(packet, 0) {
+        Ok(reply) => {
+            send(way, reply)?;
+            Ok(())
+        }
+        Err(StateError::OutOfMemory) => Err(StateError::OutOfMemory),
+        Err(_) => Ok(()),
+    }
+}
+
+/// A session learns the other side's receive maximum on a new connection.
+pub fn connect(
+    state: &mut MqttState,
+    alloc: Global,
+    receive_max: Option<u16>,
+) -> Result<(), StateError>
+    ensures ok { OnOk result (state.new ≡ connected receive_max state.old) }
+    ensures err { IfErr result (λ e. e ≡ StateError.OutOfMemory) }
+{
+    match state.handle_incoming_packet(taken_back(alloc, receive_max), 0) {
+        Ok(_) => Ok(()),
+        Err(StateError::OutOfMemory) => Err(StateError::OutOfMemory),
+        Err(_) => Ok(()),
+    }
+}
+
+/// What a session sends again on a new connection.
+pub fn take_up(state: &mut MqttState, alloc: Global) -> Result<VecDeque<Packet>, StateError>
+    ensures kept { OnOk result (state.new ≡ kept_by state.old (resume_of state.old 0)) }
+    ensures sent { IfOk result (λ way. way.items ≡ sent_in (resume_of state.old 0)) }
+    ensures err { IfErr result (λ e. e ≡ StateError.OutOfMemory) }
+{
+    match state.resume(0) {
+        Ok(packets) => Ok(VecDeque::from(packets)),
+        Err(StateError::OutOfMemory) => Err(StateError::OutOfMemory),
+        Err(_) => Ok(VecDeque::new(alloc)),
+    }
+}
+
+/// Puts a reply at the end of a way, if there is one.
+pub fn send(way: &mut VecDeque<Packet>, reply: Option<Packet>) -> Result<(), AllocError>
+    ensures { OnOk result (way.new.items ≡ way.old.items ++ option_to_list reply) }
+{
+    match reply {
+        Some(packet) => {
+            if let Err(refused) = way.reserve(1) {
+                drop(packet);
+                return Err(refused);
+            }
+            way.push_back_reserved(packet);
+            Ok(())
+        }
+        None => Ok(()),
+    }
+}
+
+/// The publishes that a session's user was shown, in order.
+pub fn shown(alloc: Global, state: &MqttState) -> Result<Vec<Publish>, AllocError>
+    ensures { IfOk result (λ ps. ps.items ≡ shown state.now) }
+{
+    shown_in(alloc, state.events())
+}
+
+#[tactic(auto, using(crate::proofs::Asked::shown_next))]
+fn shown_in(alloc: Global, events: &VecDeque<Event>) -> Result<Vec<Publish>, AllocError>
+    ensures { IfOk result (λ ps. ps.items ≡ filter_map publish_in events.now.items) }
+{
+    let mut shown = Vec::new(alloc);
+    for i in 0..events.len() {
+        show(&events[i], &mut shown)?;
+    }
+    Ok(shown)
+}
+
+/// Puts the publish that an event tells of behind others, if it tells of one.
+fn show(event: &Event, shown: &mut Vec<Publish>) -> Result<(), AllocError>
+    ensures { OnOk result
+        (shown.new.items ≡ shown.old.items ++ option_to_list (publish_in event.now)) }
+{
+    if let Event::Incoming(Packet::Publish(publish)) = event {
+        shown.push(copied(publish)?)?;
+    }
+    Ok(())
+}
+
+/// Puts copies of publishes behind others.
+pub fn push_all(publishes: &[Publish], all: &mut Vec<Publish>) -> Result<(), AllocError>
+    ensures { OnOk result (all.new.items ≡ all.old.items ++ publishes.now) }
+{
+    for publish in publishes {
+        all.push(copied(publish)?)?;
+    }
+    Ok(())
+}
