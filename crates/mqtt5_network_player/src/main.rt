@@ -1,0 +1,41 @@
+//! The program of `./mqtt5 network`: it plays a script of what happens among a broker and its clients, and prints how
+//! often each content was shown to each client.
+#![tactic(auto)]
+
+mod contents;
+pub mod run;
+mod script;
+#[cfg(test)]
+mod tests;
+
+use mqtt5_scripts::refuse_words;
+use std::env::Env;
+use std::io::{BufWriter, Write};
+use std::process::ExitCode;
+use std::{env, io};
+
+/// The words after the program's name.
+fn words(rt: &(impl Env + AllocGlobal)) -> io::Result<Vec<String>> {
+    Ok(env::args(rt)?.skip(1).collect(rt.alloc())?)
+}
+
+/// Runs the program, and answers its exit status: 1 also where what is printed can't be written out.
+fn print_all(rt: &HostRuntime, output: &mut impl Write) -> u8 {
+    let status = match words(rt) {
+        Ok(words) => run::run(rt.alloc(), words.as_slice(), &mut rt.reader(), output),
+        Err(error) => refuse_words(&error, output),
+    };
+    match output.flush() {
+        Ok(()) => status,
+        Err(_failed) => 1,
+    }
+}
+
+/// Prints through one buffer; where memory for that is refused, without.
+fn main(rt: HostRuntime) -> ExitCode {
+    let status = match BufWriter::new(rt.alloc(), io::writer(&rt)) {
+        Ok(mut output) => print_all(&rt, &mut output),
+        Err(_refused) => print_all(&rt, &mut io::writer(&rt)),
+    };
+    ExitCode::from(status)
+}
