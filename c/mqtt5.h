@@ -23,8 +23,65 @@ enum {
     MQTT5_BAD_ARGUMENT = 201,
     /* mqtt5_client_new of a handle that has a client, which stays. */
     MQTT5_HAS_CLIENT = 202,
-    /* mqtt5_client_next_event: a buffer is too small, and the event stays. */
-    MQTT5_SMALL_BUFFER = 203
+    /* A buffer is too small: nothing is copied, and an event stays. */
+    MQTT5_SMALL_BUFFER = 203,
+    /* The oldest event hasn't what is asked for. */
+    MQTT5_ABSENT = 204
+};
+
+/* Properties by their identifiers (MQTT 5.0 section 2.2.2.2). */
+enum {
+    MQTT5_PAYLOAD_FORMAT_INDICATOR = 1,
+    MQTT5_MESSAGE_EXPIRY_INTERVAL = 2,
+    MQTT5_CONTENT_TYPE = 3,
+    MQTT5_RESPONSE_TOPIC = 8,
+    MQTT5_CORRELATION_DATA = 9,
+    MQTT5_SUBSCRIPTION_IDENTIFIER = 11,
+    MQTT5_SESSION_EXPIRY_INTERVAL = 17,
+    MQTT5_ASSIGNED_CLIENT_IDENTIFIER = 18,
+    MQTT5_SERVER_KEEP_ALIVE = 19,
+    MQTT5_AUTHENTICATION_METHOD = 21,
+    MQTT5_AUTHENTICATION_DATA = 22,
+    MQTT5_REQUEST_PROBLEM_INFORMATION = 23,
+    MQTT5_WILL_DELAY_INTERVAL = 24,
+    MQTT5_REQUEST_RESPONSE_INFORMATION = 25,
+    MQTT5_RESPONSE_INFORMATION = 26,
+    MQTT5_SERVER_REFERENCE = 28,
+    MQTT5_REASON_STRING = 31,
+    MQTT5_RECEIVE_MAXIMUM = 33,
+    MQTT5_TOPIC_ALIAS_MAXIMUM = 34,
+    MQTT5_TOPIC_ALIAS = 35,
+    MQTT5_MAXIMUM_QOS = 36,
+    MQTT5_RETAIN_AVAILABLE = 37,
+    MQTT5_USER_PROPERTY = 38,
+    MQTT5_MAXIMUM_PACKET_SIZE = 39,
+    MQTT5_WILDCARD_SUBSCRIPTION_AVAILABLE = 40,
+    MQTT5_SUBSCRIPTION_IDENTIFIER_AVAILABLE = 41,
+    MQTT5_SHARED_SUBSCRIPTION_AVAILABLE = 42
+};
+
+/* Packet types (MQTT 5.0 section 2.1.2), and the kinds of an event. */
+enum {
+    MQTT5_CONNACK = 2,
+    MQTT5_PUBLISH = 3,
+    MQTT5_PUBACK = 4,
+    MQTT5_PUBREC = 5,
+    MQTT5_PUBREL = 6,
+    MQTT5_PUBCOMP = 7,
+    MQTT5_SUBSCRIBE = 8,
+    MQTT5_SUBACK = 9,
+    MQTT5_UNSUBSCRIBE = 10,
+    MQTT5_UNSUBACK = 11,
+    MQTT5_PINGREQ = 12,
+    MQTT5_PINGRESP = 13,
+    MQTT5_DISCONNECT = 14,
+    MQTT5_AUTH = 15
+};
+enum {
+    MQTT5_NO_EVENT = 0,
+    MQTT5_CAME = 1,
+    MQTT5_SENT = 2,
+    MQTT5_WAITS = 3
 };
 
 /* A handle. All zero is one without a client, and so it must start: mqtt5_client h = {0}. It is never copied and never
@@ -71,6 +128,21 @@ uint32_t mqtt5_client_free(mqtt5_client *h);
 uint32_t mqtt5_client_connect(mqtt5_client *h, const uint8_t *client_id, size_t client_id_len, uint16_t keep_alive,
                               bool clean_start, uint32_t session_expiry);
 
+/* The next packet that the program makes takes a list of properties, and empties it, also where it is refused: the next
+   connect, publish, subscribe, unsubscribe, or will. These add to its end; of a property that may stand once the last one counts. A
+   number, a text or binary data, or a user property. A packet that can't have one of them is refused with 201. */
+uint32_t mqtt5_client_add_number(mqtt5_client *h, uint32_t property, uint32_t number);
+uint32_t mqtt5_client_add_bytes(mqtt5_client *h, uint32_t property, const uint8_t *bytes, size_t len);
+uint32_t mqtt5_client_add_pair(mqtt5_client *h, const uint8_t *name, size_t name_len, const uint8_t *value,
+                               size_t value_len);
+
+/* What each later connect says: a user name and a password, texts of which an empty one is left out; and a will, with
+   the properties of the list. */
+uint32_t mqtt5_client_set_login(mqtt5_client *h, const uint8_t *user_name, size_t user_name_len,
+                                const uint8_t *password, size_t password_len);
+uint32_t mqtt5_client_set_will(mqtt5_client *h, const uint8_t *topic, size_t topic_len, const uint8_t *payload,
+                               size_t payload_len, uint8_t qos, bool retain);
+
 /* Takes a piece of the bytes that came in, cut anywhere. After a refusal the connection must be closed. */
 uint32_t mqtt5_client_receive(mqtt5_client *h, const uint8_t *bytes, size_t len, uint64_t at);
 
@@ -87,6 +159,18 @@ uint32_t mqtt5_client_publish(mqtt5_client *h, const uint8_t *topic, size_t topi
 
 /* Asks for a subscription to one topic filter, of this QoS at most. */
 uint32_t mqtt5_client_subscribe(mqtt5_client *h, const uint8_t *filter, size_t filter_len, uint8_t qos, uint64_t at);
+
+/* A Subscribe to several filters: each is added with its options (MQTT 5.0 section 3.8.3.1), and then they are asked for,
+   with the properties of the list. They are taken, also where the Subscribe is refused. */
+uint32_t mqtt5_client_add_filter(mqtt5_client *h, const uint8_t *filter, size_t filter_len, uint8_t qos, bool no_local,
+                                 bool retain_as_published, uint8_t retain_handling);
+uint32_t mqtt5_client_subscribe_all(mqtt5_client *h, uint64_t at);
+
+/* The packet identifier that the next publish of QoS 1 or 2, subscribe or unsubscribe gets. */
+uint32_t mqtt5_client_next_id(mqtt5_client *h, uint16_t *id);
+
+/* Whether that one is free: else a publish of QoS 1 or 2 waits (kind 3), or is refused with 1 where one waits. */
+uint32_t mqtt5_client_may_publish(mqtt5_client *h, bool *may);
 
 /* Asks for the end of a subscription. */
 uint32_t mqtt5_client_unsubscribe(mqtt5_client *h, const uint8_t *filter, size_t filter_len, uint64_t at);
@@ -107,6 +191,20 @@ uint32_t mqtt5_client_disconnect(mqtt5_client *h, uint64_t at);
 uint32_t mqtt5_client_next_event(mqtt5_client *h, mqtt5_event *event, uint8_t *topic, size_t topic_len,
                                  uint8_t *payload, size_t payload_len);
 
+/* The oldest event, which stays: a property of the packet that came, by its identifier, as a number, or as a text or
+   binary data; `count` tells how many bytes it has, also where the buffer is too small. */
+uint32_t mqtt5_client_event_number(mqtt5_client *h, uint32_t property, uint32_t *number);
+uint32_t mqtt5_client_event_bytes(mqtt5_client *h, uint32_t property, uint8_t *buffer, size_t buffer_len, size_t *count);
+
+/* The same of what may stand often, from 0 on: a user property, and a subscription identifier of a Publish. */
+uint32_t mqtt5_client_event_pair(mqtt5_client *h, size_t index, uint8_t *name, size_t name_len, size_t *name_count,
+                                 uint8_t *value, size_t value_len, size_t *value_count);
+uint32_t mqtt5_client_event_subscription(mqtt5_client *h, size_t index, size_t *identifier);
+
+/* The same of a reason code: of a SubAck and an UnsubAck one for each filter, of a ConnAck, a PubAck, a PubRec, a PubRel,
+   a PubComp, a Disconnect and an Auth one at 0. */
+uint32_t mqtt5_client_event_reason(mqtt5_client *h, size_t index, uint8_t *reason);
+
 /* After a cut, once the ConnAck's event was taken out, which says whether the broker has the session. With it, all that
    awaits an ack is sent again, but the publishes that the broker's limit doesn't let pass; without it the session ends,
    and all that awaits an ack is let go. `count` tells how many requests were let go. 1: a session ends, and an event isn't
@@ -120,6 +218,11 @@ uint32_t mqtt5_client_resume(mqtt5_client *h, uint64_t at);
 /* Ends the session: what awaits an ack is let go, and `count` tells how many requests that were. 1: an event isn't taken
    out yet. After a refusal the client is as before. */
 uint32_t mqtt5_client_clean(mqtt5_client *h, size_t *count);
+
+/* Whether bytes can be the topic of a publish, or a topic filter, and whether a topic matches a filter (MQTT 5.0 section 4.7). */
+bool mqtt5_valid_topic(const uint8_t *topic, size_t len);
+bool mqtt5_valid_filter(const uint8_t *filter, size_t len);
+bool mqtt5_topic_matches(const uint8_t *topic, size_t topic_len, const uint8_t *filter, size_t filter_len);
 
 #ifdef __cplusplus
 }

@@ -55,6 +55,14 @@ static int failures;
 #define CONNACK "\x20\x03\0\0\0"
 #define CONNACK_WITH_SESSION "\x20\x03\x01\0\0"
 #define CONNACK_OF_EIGHT "\x20\x08\x01\0\x05\x27\0\0\0\x08"
+/* Server keep alive 10, client identifier z, reason r, user property k vw, maximum QoS 1. */
+#define CONNACK_WITH_PROPERTIES \
+    "\x20\x18\0\0\x15\x13\0\x0a\x12\0\x01z\x1f\0\x01r\x26\0\x01k\0\x02vw\x24\x01"
+#define CONNACK_REFUSED "\x20\x03\0\x86\0"
+#define SUBACK_OF_THREE "\x90\x06\0\x01\0\x02\x01\x80"
+/* Content type t, response topic q, correlation data 0 and 255, subscription identifiers 5 and 128, expiry 60. */
+#define PUBLISH_WITH_PROPERTIES \
+    "\x30\x1c\0\x01" "a" "\x17\x03\0\x01t\x08\0\x01q\x09\0\x02\0\xff\x0b\x05\x0b\x80\x01\x02\0\0\0\x3c" "x"
 #define SUBSCRIBE "\x82\x07\0\x01\0\0\x01" "a" "\x02"
 #define SUBACK "\x90\x04\0\x01\0\x02"
 #define PUBLISH_1 "\x32\x07\0\x01" "a" "\0\x01\0" "x"
@@ -104,10 +112,27 @@ static mqtt5_event expect_event(mqtt5_client *h, uint32_t kind, uint32_t packet,
 
 #define EVENT(h, kind, packet, pkid) expect_event(h, kind, packet, pkid, __LINE__)
 
+/* A property of the oldest event as bytes. */
+static void expect_bytes(mqtt5_client *h, uint32_t property, const uint8_t *wanted, size_t len, int line) {
+    uint8_t buffer[8];
+    size_t count = 99;
+    uint32_t code = mqtt5_client_event_bytes(h, property, buffer, sizeof buffer, &count);
+    if (code || count != len || memcmp(buffer, wanted, len)) {
+        printf("line %d: answer %u, %zu bytes\n", line, code, count);
+        failures++;
+    }
+}
+
+#define EVENT_BYTES(h, property, literal) expect_bytes(h, property, BYTES(literal), __LINE__)
+
 /* Every call but new and free of a handle without a client. */
 static void expect_no_client(mqtt5_client *h, int line) {
     uint8_t buffer[4] = {7, 7, 7, 7};
-    size_t count = 5;
+    size_t count = 5, other;
+    uint32_t number;
+    uint8_t reason;
+    uint16_t id;
+    bool may = false;
     mqtt5_event e;
     uint32_t answers[] = {
         mqtt5_client_free(h),
@@ -126,6 +151,20 @@ static void expect_no_client(mqtt5_client *h, int line) {
         mqtt5_client_resume(h, 0),
         mqtt5_client_clean(h, &count),
         mqtt5_client_take_up(h, true, 0, &count),
+        mqtt5_client_event_number(h, MQTT5_SERVER_KEEP_ALIVE, &number),
+        mqtt5_client_event_bytes(h, MQTT5_REASON_STRING, buffer, 4, &count),
+        mqtt5_client_event_pair(h, 0, buffer, 2, &count, buffer + 2, 2, &other),
+        mqtt5_client_event_subscription(h, 0, &count),
+        mqtt5_client_event_reason(h, 0, &reason),
+        mqtt5_client_add_number(h, MQTT5_RECEIVE_MAXIMUM, 1),
+        mqtt5_client_add_bytes(h, MQTT5_REASON_STRING, BYTES("a")),
+        mqtt5_client_add_pair(h, BYTES("a"), BYTES("b")),
+        mqtt5_client_set_login(h, BYTES("a"), BYTES("b")),
+        mqtt5_client_set_will(h, BYTES("a"), BYTES("b"), 1, false),
+        mqtt5_client_add_filter(h, BYTES("a"), 1, false, false, 0),
+        mqtt5_client_subscribe_all(h, 0),
+        mqtt5_client_next_id(h, &id),
+        mqtt5_client_may_publish(h, &may),
     };
     for (size_t i = 0; i < sizeof answers / sizeof *answers; i++) {
         if (answers[i] != MQTT5_NO_CLIENT) {
@@ -208,6 +247,197 @@ static void each_call(void) {
     EVENT(&h, 0, 0, 0);
     EXPECT(mqtt5_client_free(&h), MQTT5_DONE);
     EXPECT(blocks, 0);
+}
+
+/* What the oldest event has, and what it hasn't. It stays. */
+static void properties_that_came(void) {
+    mqtt5_client h = {0};
+    uint32_t number = 7;
+    uint8_t reason = 7, name[2], value[2];
+    size_t count = 7, other = 7;
+    EXPECT(mqtt5_client_new(&h, 10, false), MQTT5_DONE);
+    EXPECT(mqtt5_client_event_number(&h, MQTT5_SERVER_KEEP_ALIVE, &number), MQTT5_ABSENT);
+    EXPECT(mqtt5_client_event_reason(&h, 0, &reason), MQTT5_ABSENT);
+    EXPECT(number, 7);
+    EXPECT(reason, 7);
+    EXPECT(mqtt5_client_receive(&h, BYTES(CONNACK_WITH_PROPERTIES), 1), MQTT5_DONE);
+    EXPECT(mqtt5_client_event_number(&h, MQTT5_SERVER_KEEP_ALIVE, &number), MQTT5_DONE);
+    EXPECT(number, 10);
+    EXPECT(mqtt5_client_event_number(&h, MQTT5_MAXIMUM_QOS, &number), MQTT5_DONE);
+    EXPECT(number, 1);
+    EXPECT(mqtt5_client_event_number(&h, MQTT5_RETAIN_AVAILABLE, &number), MQTT5_ABSENT);
+    EVENT_BYTES(&h, MQTT5_ASSIGNED_CLIENT_IDENTIFIER, "z");
+    EVENT_BYTES(&h, MQTT5_REASON_STRING, "r");
+    EXPECT(mqtt5_client_event_bytes(&h, MQTT5_REASON_STRING, name, 0, &count), MQTT5_SMALL_BUFFER);
+    EXPECT(count, 1);
+    EXPECT(mqtt5_client_event_bytes(&h, MQTT5_SERVER_REFERENCE, name, 2, &count), MQTT5_ABSENT);
+    EXPECT(mqtt5_client_event_pair(&h, 0, name, 2, &count, value, 2, &other), MQTT5_DONE);
+    EXPECT(count, 1);
+    EXPECT(other, 2);
+    EXPECT(name[0], 'k');
+    EXPECT(value[0], 'v');
+    EXPECT(value[1], 'w');
+    EXPECT(mqtt5_client_event_pair(&h, 0, name, 2, &count, value, 1, &other), MQTT5_SMALL_BUFFER);
+    EXPECT(mqtt5_client_event_pair(&h, 1, name, 2, &count, value, 2, &other), MQTT5_ABSENT);
+    EXPECT(mqtt5_client_event_reason(&h, 0, &reason), MQTT5_DONE);
+    EXPECT(reason, 0);
+    EXPECT(mqtt5_client_event_reason(&h, 1, &reason), MQTT5_ABSENT);
+    EVENT(&h, 1, 2, 0);
+
+    EXPECT(mqtt5_client_receive(&h, BYTES(PUBLISH_WITH_PROPERTIES), 1), MQTT5_DONE);
+    EXPECT(mqtt5_client_event_number(&h, MQTT5_MESSAGE_EXPIRY_INTERVAL, &number), MQTT5_DONE);
+    EXPECT(number, 60);
+    EVENT_BYTES(&h, MQTT5_CONTENT_TYPE, "t");
+    EVENT_BYTES(&h, MQTT5_RESPONSE_TOPIC, "q");
+    EVENT_BYTES(&h, MQTT5_CORRELATION_DATA, "\0\xff");
+    EXPECT(mqtt5_client_event_subscription(&h, 1, &count), MQTT5_DONE);
+    EXPECT(count, 128);
+    EXPECT(mqtt5_client_event_subscription(&h, 2, &count), MQTT5_ABSENT);
+    EXPECT(mqtt5_client_event_reason(&h, 0, &reason), MQTT5_ABSENT);
+    EVENT(&h, 1, 3, 0);
+
+    EXPECT(mqtt5_client_subscribe(&h, BYTES("a"), 2, 2), MQTT5_DONE);
+    EVENT(&h, 2, 8, 1);
+    EXPECT(mqtt5_client_receive(&h, BYTES(SUBACK_OF_THREE), 2), MQTT5_DONE);
+    static const uint8_t reasons[] = {2, 1, 128};
+    for (size_t i = 0; i < 3; i++) {
+        EXPECT(mqtt5_client_event_reason(&h, i, &reason), MQTT5_DONE);
+        EXPECT(reason, reasons[i]);
+    }
+    EXPECT(mqtt5_client_event_reason(&h, 3, &reason), MQTT5_ABSENT);
+    EVENT(&h, 1, 9, 1);
+
+    EXPECT(mqtt5_client_publish(&h, BYTES("a"), BYTES("x"), 1, false, 3), MQTT5_DONE);
+    EVENT(&h, 2, 3, 2);
+    EXPECT(mqtt5_client_receive(&h, BYTES("\x40\x08\0\x02\x10\x04\x1f\0\x01n"), 3), MQTT5_DONE);
+    EVENT_BYTES(&h, MQTT5_REASON_STRING, "n");
+    EXPECT(mqtt5_client_event_reason(&h, 0, &reason), MQTT5_DONE);
+    EXPECT(reason, 16);
+    EVENT(&h, 1, 4, 2);
+
+    /* A broker that refuses: its event stands, with its reason. */
+    EXPECT(mqtt5_client_receive(&h, BYTES(CONNACK_REFUSED), 4) != MQTT5_DONE, true);
+    EXPECT(mqtt5_client_event_reason(&h, 0, &reason), MQTT5_DONE);
+    EXPECT(reason, 0x86);
+    EXPECT(EVENT(&h, 1, 2, 0).code, 0x86);
+    EXPECT(mqtt5_client_free(&h), MQTT5_DONE);
+    EXPECT(blocks, 0);
+}
+
+/* The list of properties goes with the next packet, and with no other. */
+static void properties_to_send(void) {
+    mqtt5_client h = {0};
+    EXPECT(mqtt5_client_new(&h, 10, false), MQTT5_DONE);
+    EXPECT(mqtt5_client_add_number(&h, MQTT5_WILL_DELAY_INTERVAL, 5), MQTT5_DONE);
+    EXPECT(mqtt5_client_set_will(&h, BYTES("w"), BYTES("y"), 1, true), MQTT5_DONE);
+    EXPECT(mqtt5_client_set_login(&h, BYTES("u"), BYTES("p")), MQTT5_DONE);
+    EXPECT(mqtt5_client_add_number(&h, MQTT5_RECEIVE_MAXIMUM, 9), MQTT5_DONE);
+    EXPECT(mqtt5_client_add_number(&h, MQTT5_RECEIVE_MAXIMUM, 10), MQTT5_DONE);
+    EXPECT(mqtt5_client_connect(&h, BYTES("c"), 60, true, 3600), MQTT5_DONE);
+    OUTPUT(&h, "\x10\x28\0\x04MQTT\x05\xee\0\x3c\x08\x11\0\0\x0e\x10\x21\0\x0a\0\x01" "c"
+        "\x05\x18\0\0\0\x05\0\x01w\0\x01y\0\x01u\0\x01p");
+    EXPECT(mqtt5_client_receive(&h, BYTES(CONNACK), 1), MQTT5_DONE);
+    EVENT(&h, 1, 2, 0);
+
+    EXPECT(mqtt5_client_add_number(&h, MQTT5_MESSAGE_EXPIRY_INTERVAL, 60), MQTT5_DONE);
+    EXPECT(mqtt5_client_add_bytes(&h, MQTT5_RESPONSE_TOPIC, BYTES("q")), MQTT5_DONE);
+    EXPECT(mqtt5_client_add_pair(&h, BYTES("k"), BYTES("v")), MQTT5_DONE);
+    EXPECT(mqtt5_client_publish(&h, BYTES("a"), BYTES("x"), 0, false, 2), MQTT5_DONE);
+    OUTPUT(&h, "\x30\x15\0\x01" "a" "\x10\x02\0\0\0\x3c\x08\0\x01q\x26\0\x01k\0\x01v" "x");
+    EXPECT(mqtt5_client_publish(&h, BYTES("a"), BYTES("x"), 0, false, 2), MQTT5_DONE);
+    OUTPUT(&h, "\x30\x05\0\x01" "a" "\0" "x");
+    EXPECT(mqtt5_client_add_number(&h, MQTT5_SUBSCRIPTION_IDENTIFIER, 5), MQTT5_DONE);
+    EXPECT(mqtt5_client_subscribe(&h, BYTES("a"), 2, 2), MQTT5_DONE);
+    OUTPUT(&h, "\x82\x09\0\x01\x02\x0b\x05\0\x01" "a" "\x02");
+    EXPECT(mqtt5_client_add_pair(&h, BYTES("k"), BYTES("v")), MQTT5_DONE);
+    EXPECT(mqtt5_client_unsubscribe(&h, BYTES("a"), 2), MQTT5_DONE);
+    OUTPUT(&h, "\xa2\x0d\0\x02\x07\x26\0\x01k\0\x01v\0\x01" "a");
+
+    /* What a packet can't have is refused, and the list is empty then too. */
+    EXPECT(mqtt5_client_add_number(&h, MQTT5_RECEIVE_MAXIMUM, 10), MQTT5_DONE);
+    EXPECT(mqtt5_client_publish(&h, BYTES("a"), BYTES("x"), 0, false, 2), MQTT5_BAD_ARGUMENT);
+    EXPECT(mqtt5_client_publish(&h, BYTES("a"), BYTES("x"), 0, false, 2), MQTT5_DONE);
+    OUTPUT(&h, "\x30\x05\0\x01" "a" "\0" "x");
+    EXPECT(mqtt5_client_add_number(&h, MQTT5_RECEIVE_MAXIMUM, 65536), MQTT5_BAD_ARGUMENT);
+    EXPECT(mqtt5_client_add_number(&h, MQTT5_REASON_STRING, 1), MQTT5_BAD_ARGUMENT);
+    EXPECT(mqtt5_client_add_number(&h, 99, 1), MQTT5_BAD_ARGUMENT);
+    EXPECT(mqtt5_client_add_bytes(&h, MQTT5_REASON_STRING, BYTES("\xff")), MQTT5_BAD_ARGUMENT);
+    EXPECT(mqtt5_client_add_bytes(&h, MQTT5_RECEIVE_MAXIMUM, BYTES("a")), MQTT5_BAD_ARGUMENT);
+    EXPECT(mqtt5_client_add_bytes(&h, MQTT5_CORRELATION_DATA, BYTES("\xff")), MQTT5_DONE);
+    EXPECT(mqtt5_client_add_pair(&h, BYTES("k"), BYTES("\xff")), MQTT5_BAD_ARGUMENT);
+    EXPECT(mqtt5_client_set_login(&h, BYTES("u"), BYTES("\xff")), MQTT5_BAD_ARGUMENT);
+    EXPECT(mqtt5_client_set_will(&h, BYTES("w"), BYTES("y"), 3, true), MQTT5_BAD_ARGUMENT);
+    EXPECT(mqtt5_client_free(&h), MQTT5_DONE);
+    EXPECT(blocks, 0);
+}
+
+/* Several filters in one Subscribe, with their options. */
+static void several_filters(void) {
+    mqtt5_client h = {0};
+    EXPECT(mqtt5_client_new(&h, 10, false), MQTT5_DONE);
+    EXPECT(mqtt5_client_add_filter(&h, BYTES("a"), 2, true, true, 2), MQTT5_DONE);
+    EXPECT(mqtt5_client_add_filter(&h, BYTES("b"), 0, false, false, 0), MQTT5_DONE);
+    EXPECT(mqtt5_client_add_filter(&h, BYTES("\xff"), 0, false, false, 0), MQTT5_BAD_ARGUMENT);
+    EXPECT(mqtt5_client_add_filter(&h, BYTES("b"), 3, false, false, 0), MQTT5_BAD_ARGUMENT);
+    EXPECT(mqtt5_client_add_filter(&h, BYTES("b"), 0, false, false, 3), MQTT5_BAD_ARGUMENT);
+    EXPECT(mqtt5_client_add_number(&h, MQTT5_SUBSCRIPTION_IDENTIFIER, 5), MQTT5_DONE);
+    EXPECT(mqtt5_client_subscribe_all(&h, 1), MQTT5_DONE);
+    OUTPUT(&h, "\x82\x0d\0\x01\x02\x0b\x05\0\x01" "a" "\x2e\0\x01" "b" "\0");
+    EVENT(&h, 2, 8, 1);
+    EXPECT(mqtt5_client_subscribe_all(&h, 1) != MQTT5_DONE, true);
+    OUTPUT(&h, "");
+    EXPECT(mqtt5_client_free(&h), MQTT5_DONE);
+    EXPECT(blocks, 0);
+}
+
+/* A client of two identifiers: a third publish would wait. */
+static void next_ids(void) {
+    mqtt5_client h = {0};
+    uint16_t id = 7;
+    bool may = false;
+    EXPECT(mqtt5_client_new(&h, 2, false), MQTT5_DONE);
+    EXPECT(mqtt5_client_next_id(&h, &id), MQTT5_DONE);
+    EXPECT(id, 1);
+    EXPECT(mqtt5_client_publish(&h, BYTES("a"), BYTES("x"), 1, false, 1), MQTT5_DONE);
+    EVENT(&h, 2, 3, 1);
+    EXPECT(mqtt5_client_next_id(&h, &id), MQTT5_DONE);
+    EXPECT(id, 2);
+    EXPECT(mqtt5_client_may_publish(&h, &may), MQTT5_DONE);
+    EXPECT(may, true);
+    EXPECT(mqtt5_client_publish(&h, BYTES("a"), BYTES("x"), 2, false, 1), MQTT5_DONE);
+    EVENT(&h, 2, 3, 2);
+    EXPECT(mqtt5_client_next_id(&h, &id), MQTT5_DONE);
+    EXPECT(id, 1);
+    EXPECT(mqtt5_client_may_publish(&h, &may), MQTT5_DONE);
+    EXPECT(may, false);
+    EXPECT(mqtt5_client_receive(&h, BYTES(PUBACK), 2), MQTT5_DONE);
+    EXPECT(mqtt5_client_may_publish(&h, &may), MQTT5_DONE);
+    EXPECT(may, true);
+    EXPECT(mqtt5_client_free(&h), MQTT5_DONE);
+    EXPECT(blocks, 0);
+}
+
+/* MQTT 5.0 section 4.7, whose examples these are. */
+static void topics(void) {
+    EXPECT(mqtt5_valid_topic(BYTES("sport/tennis/player1")), true);
+    EXPECT(mqtt5_valid_topic(BYTES("/")), true);
+    EXPECT(mqtt5_valid_topic(BYTES("")), false);
+    EXPECT(mqtt5_valid_topic(BYTES("a/#")), false);
+    EXPECT(mqtt5_valid_topic(BYTES("a\0b")), false);
+    EXPECT(mqtt5_valid_topic(BYTES("\xff")), false);
+    EXPECT(mqtt5_valid_filter(BYTES("sport/tennis/#")), true);
+    EXPECT(mqtt5_valid_filter(BYTES("+/tennis/#")), true);
+    EXPECT(mqtt5_valid_filter(BYTES("sport/tennis#")), false);
+    EXPECT(mqtt5_valid_filter(BYTES("sport/tennis/#/ranking")), false);
+    EXPECT(mqtt5_valid_filter(BYTES("sport+")), false);
+    EXPECT(mqtt5_valid_filter(BYTES("")), false);
+    EXPECT(mqtt5_valid_filter(BYTES("a\0")), false);
+    EXPECT(mqtt5_topic_matches(BYTES("sport/tennis/player1/ranking"), BYTES("sport/tennis/player1/#")), true);
+    EXPECT(mqtt5_topic_matches(BYTES("sport"), BYTES("sport/#")), true);
+    EXPECT(mqtt5_topic_matches(BYTES("sport/tennis/player1/ranking"), BYTES("sport/tennis/+")), false);
+    EXPECT(mqtt5_topic_matches(BYTES("/finance"), BYTES("+")), false);
+    EXPECT(mqtt5_topic_matches(BYTES("$SYS/"), BYTES("#")), false);
+    EXPECT(mqtt5_topic_matches(BYTES("\xff"), BYTES("#")), false);
 }
 
 static void acks_by_hand(void) {
@@ -315,9 +545,15 @@ static bool all_calls(mqtt5_client *h, uint32_t *code) {
     size_t count;
     mqtt5_event e;
     bool whole = !(*code = mqtt5_client_new(h, 10, true))
+        && !(*code = mqtt5_client_set_login(h, BYTES("u"), BYTES("p")))
+        && !(*code = mqtt5_client_add_bytes(h, MQTT5_CONTENT_TYPE, BYTES("t")))
+        && !(*code = mqtt5_client_set_will(h, BYTES("w"), BYTES("y"), 1, true))
+        && !(*code = mqtt5_client_add_pair(h, BYTES("k"), BYTES("v")))
         && !(*code = mqtt5_client_connect(h, BYTES("c"), 60, true, 3600))
         && !(*code = mqtt5_client_receive(h, BYTES(CONNACK_WITH_SESSION), 1))
         && !(*code = mqtt5_client_subscribe(h, BYTES("a"), 2, 1))
+        && !(*code = mqtt5_client_add_filter(h, BYTES("b"), 1, true, false, 1))
+        && !(*code = mqtt5_client_subscribe_all(h, 1))
         && !(*code = mqtt5_client_publish(h, BYTES("a"), BYTES("x"), 1, false, 1))
         && !(*code = mqtt5_client_publish(h, BYTES("a"), BYTES("x"), 2, false, 1))
         && !(*code = mqtt5_client_receive(h, BYTES(PUBLISH_1 PUBLISH_2), 1))
@@ -360,6 +596,11 @@ static void refused(void) {
 
 int main(void) {
     each_call();
+    properties_that_came();
+    properties_to_send();
+    several_filters();
+    next_ids();
+    topics();
     acks_by_hand();
     a_cut();
     a_lost_session();

@@ -15,10 +15,10 @@ use denote.Struct.Struct.{within}
 use Rattle.std.specs.Prelude.{Option, Some, None, is_some, true}
 use Rattle.mqtt5_c.specs.Owned.{owned_if_some}
 use Rattle.mqtt5_c.specs.contracts.client_ptr.ClientPtr as client_ptr
-use Rattle.mqtt5_client.specs.contracts.client.Client as client
+use Rattle.mqtt5_holder.specs.contracts.holder.Holder as holder
 
 abbrev pub Value : Type 0
-Value = client.the_row.Denot
+Value = holder.the_row.Denot
 
 abbrev pub Row : RattleType
 Row = client_ptr.the_row

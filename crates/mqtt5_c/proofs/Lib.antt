@@ -1,3 +1,4 @@
 pub mod CallLemmas
 pub mod ClientPtrValues
+pub mod Free
 pub mod Refusals

@@ -1,9 +1,12 @@
 -- What a call leaves of a handle's client, and the number that it answers.
 use Rattle.std.specs.Prelude.{◌≡◌, ◌≢◌, ℕ, List, [], ◌∷◌, Option, None, Some, IsOk, IfErr, OnOk, OnErr, drop, length, Bool}
+use Rattle.mqtt5_base.specs.Texts.{text_of}
+use Rattle.mqtt5_options.specs.Options.{defaults}
 use Rattle.mqtt5_inflight.specs.declared.event.Request.{Request}
 use Rattle.mqtt5_inflight.specs.declared.event.Request.TheVariants as requests
 use Rattle.mqtt5_drive.specs.Run.{piece}
 use Rattle.mqtt5_client.specs.declared.client.Client.{Client}
+use Rattle.mqtt5_holder.specs.declared.holder.Holder.{Holder}
 use Rattle.mqtt5_session.specs.Session.{fresh}
 use Rattle.mqtt5_client.specs.Client.{asking, Runs, Fails, no_limits}
 use Rattle.mqtt5_drive.specs.Limit.{allowed}
@@ -13,11 +16,16 @@ use Rattle.mqtt5_client.specs.TakingUp.{NotTakenUp}
 use Rattle.mqtt5_client.specs.TakingUp as taking_up
 use Rattle.mqtt5_c.specs.Numbers.{Outcome, code_of, no_client}
 
--- Without a client a call is answered by 200, and there is still none. Else there is one after it too, and the number is that of an
--- outcome of which Does holds: of the client before, the outcome and the client after.
-pub record Called (Does : Client → Outcome → Client → Type 0) (before : Option Client) (code : ℕ) (after : Option Client) : Type 0 where
+-- a holder of another client, of which the rest is as before
+abbrev pub with_client : Holder → Client → Holder
+with_client h c = record h { client = c }
+
+-- Without a client a call is answered by 200, and there is still none. Else there is one after it too, what its packets have is as
+-- before, and the number is that of an outcome of which Does holds: of the client before, the outcome and the client after.
+pub record Called (Does : Client → Outcome → Client → Type 0) (before : Option Holder) (code : ℕ) (after : Option Holder) : Type 0 where
   pub none : before ≡ None → (code ≡ no_client) × (after ≡ None)
-  pub one : (old : Client) → before ≡ Some old → (new : Client) × (outcome : Outcome) × (after ≡ Some new) × (code ≡ code_of outcome) × Does old outcome new
+  pub one : (old : Holder) → before ≡ Some old
+      → (new : Client) × (outcome : Outcome) × (after ≡ Some (with_client old new)) × (code ≡ code_of outcome) × Does old.client outcome new
 
 -- Bytes came in: session, input and output are the run's (MQTT 5.0 section 4.2). After a fault no input is left. The limit on what is
 -- sent is that of the ConnAcks among the new events (3.2.2.3.6).
@@ -56,9 +64,14 @@ abbrev pub Looks : Client → Outcome → Client → Type 0
 Looks old outcome new = IsOk outcome × (new ≡ old)
 
 -- a client in which nothing happened
-abbrev pub IsNew : ℕ → Bool → Client → Type 0
-IsNew limit manual_acks c =
+abbrev pub IsNewClient : ℕ → Bool → Client → Type 0
+IsNewClient limit manual_acks c =
     (c.state ≡ fresh limit manual_acks) × (c.codec ≡ no_limits) × (c.input.items ≡ []) × (c.output.items ≡ [])
+
+-- one without login and will, and with nothing for its next packets
+abbrev pub IsNew : ℕ → Bool → Holder → Type 0
+IsNew limit manual_acks h =
+    IsNewClient limit manual_acks h.client × (h.settings ≡ defaults (text_of []) (text_of []) 0) × (h.properties ≡ []) × (h.filters ≡ [])
 
 -- the session ends: the client is as a new one, with its limits on packets; or it is as before
 abbrev pub Cleans : Client → Outcome → Client → Type 0

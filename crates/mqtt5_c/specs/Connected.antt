@@ -1,25 +1,32 @@
--- The settings of C's arguments, and what a Connect of them leaves (MQTT 5.0 section 3.1).
-use Rattle.std.specs.Prelude.{◌≡◌, ◌<◌, ◌⊎◌, ℕ, Bool, List, [], Option, Some, Ok, IfErr, OnOk, OnErr}
+-- What a Connect of C's arguments leaves (MQTT 5.0 section 3.1).
+use Rattle.std.specs.Prelude.{◌≡◌, ◌<◌, ◌⊎◌, ℕ, Bool, List, [], Option, Some, None, Ok, IfErr, OnOk, OnErr, unwrap_or}
 use Rattle.std.specs.Str.{IsUtf8}
-use Rattle.mqtt5_base.specs.Texts.{text_of}
+use Rattle.mqtt5_base.specs.Texts.{Utf8, text_of}
+use Rattle.mqtt5_base.specs.declared.property.Property.{Property}
+use Rattle.mqtt5_connect.specs.declared.connect.ConnectProperties.{ConnectProperties}
+use Rattle.mqtt5_connect.specs.Connects.{connect_found}
+use Rattle.mqtt5_connect.specs.Rows.{connect_table}
 use Rattle.mqtt5_codec.specs.Packets.{packet_writing}
-use Rattle.mqtt5_options.specs.Options.{Settings, defaults, no_properties, seconds}
+use Rattle.mqtt5_options.specs.Options.{Settings, no_properties, seconds}
 use Rattle.mqtt5_client.specs.declared.client.Client.{Client}
 use Rattle.mqtt5_client.specs.Connecting.{connect_packet, opened, IsRefused}
+use Rattle.mqtt5_holder.specs.declared.holder.Holder.{Holder}
+use Rattle.mqtt5_properties.specs.Gathering.{IsSet}
 use Rattle.mqtt5_c.specs.Asked.{IsDeclined}
-use Rattle.mqtt5_c.specs.Calls.{Called}
-use Rattle.mqtt5_c.specs.Numbers.{Outcome}
+use Rattle.mqtt5_c.specs.Numbers.{Outcome, code_of, no_client}
 
 -- an identifier that isn't UTF-8 (1.5.4), or a keep alive below 5 seconds
 abbrev pub IsBadConnect : List ℕ → ℕ → Type 0
 IsBadConnect client_id keep_alive = ¬ (IsUtf8 client_id) ⊎ (keep_alive < 5)
 
--- the client identifier, the keep alive (3.1.2.10), the clean start (3.1.2.4) and the session expiry interval (3.1.2.11.2)
-abbrev pub settings_of : List ℕ → ℕ → Bool → ℕ → Settings
-settings_of client_id keep_alive clean_start session_expiry = record (defaults (text_of client_id) (text_of []) 0) {
+-- the settings with this client identifier, keep alive (3.1.2.10), clean start (3.1.2.4) and session expiry interval (3.1.2.11.2), and
+-- with these properties besides (3.1.2.11); login and will are as before
+abbrev pub settled : Utf8 → ℕ → Bool → ℕ → ConnectProperties → Settings → Settings
+settled client_id keep_alive clean_start session_expiry p settings = record settings {
+  client_id = client_id;
   keep_alive = seconds keep_alive;
   clean_start = clean_start;
-  connect_properties = Some (record no_properties { session_expiry_interval = Some session_expiry });
+  connect_properties = Some (record p { session_expiry_interval = Some session_expiry });
 }
 
 -- the output is the Connect, and the input is empty; or all is as before
@@ -32,7 +39,16 @@ Connects settings old outcome new =
     × IfErr outcome (IsRefused (connect_packet settings))
     × OnErr outcome (new ≡ old)
 
--- A call is declined, and the handle is as before; or it is the client's.
-pub data Given (Bad : Type 0) (Does : Client → Outcome → Client → Type 0) (before : Option Client) (code : ℕ) (after : Option Client) : Type 0 where
-  Declined : IsDeclined Bad code → after ≡ before → Given Bad Does before code after
-  Put : Called Does before code after → Given Bad Does before code after
+-- without a client there is none after the call either, and it is answered by 200; else the settings are these
+pub record Begins (settles : Settings → Settings) (before : Option Holder) (code : ℕ) (after : Option Holder) : Type 0 where
+  pub none : before ≡ None → (code ≡ no_client) × (after ≡ None)
+  pub one : (old : Holder) → before ≡ Some old
+      → (new : Client) × (outcome : Outcome) × (after ≡ Some (record old { client = new; settings = settles old.settings })) × (code ≡ code_of outcome)
+      × Connects (settles old.settings) old.client outcome new
+
+-- A call is declined, and the handle is as before; or the Connect has these properties, and it is begun.
+pub data Connected (Bad : Type 0) (client_id : List ℕ) (keep_alive : ℕ) (clean_start : Bool) (session_expiry : ℕ) (properties : List Property) (before : Option Holder) (code : ℕ) (after : Option Holder) : Type 0 where
+  Declined : IsDeclined Bad code → after ≡ before → Connected Bad client_id keep_alive clean_start session_expiry properties before code after
+  Put : (set : Option ConnectProperties) → IsSet connect_found connect_table properties set
+      → Begins (settled (text_of client_id) keep_alive clean_start session_expiry (unwrap_or set no_properties)) before code after
+      → Connected Bad client_id keep_alive clean_start session_expiry properties before code after

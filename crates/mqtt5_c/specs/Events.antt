@@ -1,5 +1,5 @@
 -- Events as numbers; what an event hasn't is 0.
-use Rattle.std.specs.Prelude.{◌≡◌, ℕ, Bool, true, false, ◌&&◌, nat_le, List, [], ◌∷◌, ◌++◌, length, Option, None, Some, drop}
+use Rattle.std.specs.Prelude.{◌≡◌, ℕ, Bool, true, false, ◌&&◌, nat_le, List, [], ◌∷◌, ◌++◌, length, Option, None, Some, IsSome, IfSome, drop}
 use Rattle.mqtt5_base.specs.Views.{qos_number}
 use Rattle.mqtt5_publish.specs.declared.publish.Publish.{Publish}
 use Rattle.mqtt5_publish.specs.Acks.{puback_code}
@@ -17,6 +17,7 @@ use Rattle.mqtt5_inflight.specs.declared.event.Event.TheVariants as events
 use Rattle.mqtt5_inflight.specs.declared.event.Outgoing.{Outgoing}
 use Rattle.mqtt5_inflight.specs.declared.event.Outgoing.TheVariants as outgoing
 use Rattle.mqtt5_client.specs.declared.client.Client.{Client}
+use Rattle.mqtt5_holder.specs.declared.holder.Holder.{Holder}
 use Rattle.mqtt5_c.specs.declared.event.EventInfo.{EventInfo}
 use Rattle.mqtt5_c.specs.Numbers.{small_buffer}
 
@@ -122,3 +123,7 @@ over bytes buffer = bytes ++ drop (length bytes) buffer
 abbrev pub Pops : Bool → Client → ℕ → Client → Type 0
 Pops true old code new = (code ≡ 0) × (new ≡ record old { state = record old.state { events = drop 1 old.state.events } })
 Pops false old code new = (code ≡ small_buffer) × (new ≡ old)
+
+-- the same in a holder, of which the rest is as before
+abbrev pub PopsIn : Bool → Holder → ℕ → Option Holder → Type 0
+PopsIn room old code after = IsSome after × IfSome after (λ new. (new ≡ record old { client = new.client }) × Pops room old.client code new.client)

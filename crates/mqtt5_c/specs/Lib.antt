@@ -3,5 +3,11 @@ pub mod Handles
 pub mod Numbers
 pub mod Calls
 pub mod Asked
+pub mod Properties
+pub mod Filters
 pub mod Connected
+pub mod Settings
 pub mod Events
+pub mod Told
+pub mod Ids
+pub mod Topics

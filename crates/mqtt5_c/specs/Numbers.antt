@@ -34,6 +34,10 @@ has_client = 202
 abbrev pub small_buffer : ℕ
 small_buffer = 203
 
+-- the oldest event hasn't what is asked for
+abbrev pub absent : ℕ
+absent = 204
+
 -- memory is refused (S12)
 abbrev pub out_of_memory : ℕ
 out_of_memory = 12

@@ -4,12 +4,12 @@ use base.Fml.{Fml, ftrue}
 use denote.RawPtr.{Ptr}
 use Rattle.std_alloc.specs.Box.Ownership.{box_owns}
 use Rattle.std_heap.specs.contracts.GlobalAllocator.TheImpl.{ghosts}
-use Rattle.mqtt5_client.specs.contracts.client.Client as client
+use Rattle.mqtt5_holder.specs.contracts.holder.Holder as holder
 
 -- the heap frees the block that the pointer leads to
-abbrev pub in_heap : Ptr → client.the_row.Denot → Fml
-in_heap p x = box_owns (ghosts.dealloc_token (record { memory = record { seal = tt } })) client.the_row p x
+abbrev pub in_heap : Ptr → holder.the_row.Denot → Fml
+in_heap p x = box_owns (ghosts.dealloc_token (record { memory = record { seal = tt } })) holder.the_row p x
 
-abbrev pub owned_if_some : Ptr → Option client.the_row.Denot → Fml
+abbrev pub owned_if_some : Ptr → Option holder.the_row.Denot → Fml
 owned_if_some p None = ftrue
 owned_if_some p (Some x) = in_heap p x

@@ -1,46 +1,50 @@
 //! Calls that ask the client for a packet.
 
-ghost use Rattle.std.specs.Prelude.{◌≡◌, IfOk, IfErr};
+ghost use Rattle.std.specs.Prelude.{◌≡◌, ◌⊎◌, IfOk, IfErr};
 ghost use Rattle.std.specs.Str.{IsUtf8};
 ghost use Rattle.mqtt5_inflight.specs.declared.event.Request.TheVariants as requests;
-ghost use Rattle.mqtt5_c.specs.Asked.{IsBad, IsPublish, IsSubscribe, IsUnsubscribe, puback_of, pubrec_of, Asked, IsDeclined};
+ghost use Rattle.mqtt5_c.specs.Asked.{IsBad, IsPlainPublish, IsPublish, IsPlainSubscribe, IsSubscribe, IsPlainUnsubscribe, IsUnsubscribe, CantHave, puback_of, pubrec_of, Asked, IsDeclined};
 ghost use Rattle.mqtt5_c.specs.Calls.{Called, Asks};
 ghost use Rattle.mqtt5_c.specs.Handles.{IsKept};
+ghost use Rattle.mqtt5_c.specs.Properties.{properties_in, emptied};
+ghost use Rattle.mqtt5_publish.specs.Rows.{publish_table};
+ghost use Rattle.mqtt5_subscribe.specs.Rows.{subscribe_table, unsubscribe_table};
 
 use crate::handle::{Handle, put, take};
 use crate::number::{BAD_ARGUMENT, NO_CLIENT, OUT_OF_MEMORY, code_of};
+use crate::properties::{gather, take_properties};
 use bytes::Bytes;
-use mqtt5_base::qos;
-use mqtt5_publish::{PubAck, PubRec, Publish};
+use mqtt5_base::{Property, Sequence, qos};
+use mqtt5_publish::{PubAck, PubRec, Publish, PublishProperties};
 use mqtt5_session::Request;
-use mqtt5_subscribe::{Filter, Subscribe, Unsubscribe};
+use mqtt5_subscribe::{Filter, Subscribe, SubscribeProperties, Unsubscribe, UnsubscribeProperties};
 use std::alloc::Global;
 
 /// Asks the client.
 #[tactic(auto, using(crate::proofs::CallLemmas::called, crate::proofs::CallLemmas::uncalled))]
-fn ask(alloc: Global, h: &mut Handle, request: Request, at: u64) -> u32
+pub(crate) fn ask(alloc: Global, h: &mut Handle, request: Request, at: u64) -> u32
     requires { IsKept h.old }
     ensures kept { IsKept h.new }
     ensures answer { Called (Asks request at) h.old.client_ptr.value result h.new.client_ptr.value }
 {
-    let Some(mut client) = take(alloc, h) else {
+    let Some(mut holder) = take(alloc, h) else {
         drop(request);
         return NO_CLIENT;
     };
-    let outcome = client.request(request, at);
-    put(h, client);
+    let outcome = holder.client.request(request, at);
+    put(h, holder);
     code_of(&outcome)
 }
 
-/// The Publish of C's arguments.
+/// The Publish of C's arguments, without properties.
 fn publish_of(
     alloc: Global,
     topic: &[u8],
     payload: &[u8],
     quality: u8,
     retain: bool,
-) -> Result<Request, u32>
-    ensures ok { IfOk result (IsPublish topic.now payload.now quality retain) }
+) -> Result<Publish, u32>
+    ensures ok { IfOk result (IsPlainPublish topic.now payload.now quality retain) }
     ensures err { IfErr result (IsDeclined (IsBad topic.now quality)) }
 {
     let Ok(topic) = std::str::from_utf8(topic) else {
@@ -56,12 +60,43 @@ fn publish_of(
         return Err(OUT_OF_MEMORY);
     };
     publish.retain = retain;
-    Ok(Request::Publish(publish))
+    Ok(publish)
 }
 
-/// The Subscribe of C's arguments.
-fn subscribe_of(alloc: Global, filter: &[u8], quality: u8) -> Result<Request, u32>
-    ensures ok { IfOk result (IsSubscribe filter.now quality) }
+/// The request of a Publish with these properties.
+fn publish_request(mut publish: Publish, set: Option<PublishProperties>) -> Request
+    ensures { result ≡ Request.Publish (record publish { properties = set }) }
+{
+    publish.properties = set;
+    Request::Publish(publish)
+}
+
+/// The same with these properties.
+fn publish_with(
+    alloc: Global,
+    topic: &[u8],
+    payload: &[u8],
+    quality: u8,
+    retain: bool,
+    properties: Sequence<Property>,
+) -> Result<Request, u32>
+    ensures ok { IfOk result (IsPublish topic.now payload.now quality retain properties) }
+    ensures err { IfErr result (IsDeclined (IsBad topic.now quality ⊎ CantHave publish_table
+        properties)) }
+{
+    let set = match gather(alloc, properties) {
+        Ok(set) => set,
+        Err(code) => return Err(code),
+    };
+    match publish_of(alloc, topic, payload, quality, retain) {
+        Ok(publish) => Ok(publish_request(publish, set)),
+        Err(code) => Err(code),
+    }
+}
+
+/// The Subscribe of C's arguments, without properties.
+fn subscribe_of(alloc: Global, filter: &[u8], quality: u8) -> Result<Subscribe, u32>
+    ensures ok { IfOk result (IsPlainSubscribe filter.now quality) }
     ensures err { IfErr result (IsDeclined (IsBad filter.now quality)) }
 {
     let Ok(filter) = std::str::from_utf8(filter) else {
@@ -76,12 +111,41 @@ fn subscribe_of(alloc: Global, filter: &[u8], quality: u8) -> Result<Request, u3
     let Ok(subscribe) = Subscribe::new(alloc, filter, None) else {
         return Err(OUT_OF_MEMORY);
     };
-    Ok(Request::Subscribe(subscribe))
+    Ok(subscribe)
 }
 
-/// The Unsubscribe of C's arguments.
-fn unsubscribe_of(alloc: Global, filter: &[u8]) -> Result<Request, u32>
-    ensures ok { IfOk result (IsUnsubscribe filter.now) }
+/// The request of a Subscribe with these properties.
+fn subscribe_request(mut subscribe: Subscribe, set: Option<SubscribeProperties>) -> Request
+    ensures { result ≡ Request.Subscribe (record subscribe { properties = set }) }
+{
+    subscribe.properties = set;
+    Request::Subscribe(subscribe)
+}
+
+/// The same with these properties.
+fn subscribe_with(
+    alloc: Global,
+    filter: &[u8],
+    quality: u8,
+    properties: Sequence<Property>,
+) -> Result<Request, u32>
+    ensures ok { IfOk result (IsSubscribe filter.now quality properties) }
+    ensures err { IfErr result (IsDeclined (IsBad filter.now quality ⊎ CantHave subscribe_table
+        properties)) }
+{
+    let set = match gather(alloc, properties) {
+        Ok(set) => set,
+        Err(code) => return Err(code),
+    };
+    match subscribe_of(alloc, filter, quality) {
+        Ok(subscribe) => Ok(subscribe_request(subscribe, set)),
+        Err(code) => Err(code),
+    }
+}
+
+/// The Unsubscribe of C's arguments, without properties.
+fn unsubscribe_of(alloc: Global, filter: &[u8]) -> Result<Unsubscribe, u32>
+    ensures ok { IfOk result (IsPlainUnsubscribe filter.now) }
     ensures err { IfErr result (IsDeclined (¬ (IsUtf8 filter.now))) }
 {
     let Ok(filter) = std::str::from_utf8(filter) else {
@@ -90,7 +154,35 @@ fn unsubscribe_of(alloc: Global, filter: &[u8]) -> Result<Request, u32>
     let Ok(unsubscribe) = Unsubscribe::new(alloc, filter, None) else {
         return Err(OUT_OF_MEMORY);
     };
-    Ok(Request::Unsubscribe(unsubscribe))
+    Ok(unsubscribe)
+}
+
+/// The request of a Unsubscribe with these properties.
+fn unsubscribe_request(mut unsubscribe: Unsubscribe, set: Option<UnsubscribeProperties>) -> Request
+    ensures { result ≡ Request.Unsubscribe (record unsubscribe { properties = set }) }
+{
+    unsubscribe.properties = set;
+    Request::Unsubscribe(unsubscribe)
+}
+
+/// The same with these properties.
+fn unsubscribe_with(
+    alloc: Global,
+    filter: &[u8],
+    properties: Sequence<Property>,
+) -> Result<Request, u32>
+    ensures ok { IfOk result (IsUnsubscribe filter.now properties) }
+    ensures err { IfErr result (IsDeclined (¬ (IsUtf8 filter.now) ⊎ CantHave unsubscribe_table
+        properties)) }
+{
+    let set = match gather(alloc, properties) {
+        Ok(set) => set,
+        Err(code) => return Err(code),
+    };
+    match unsubscribe_of(alloc, filter) {
+        Ok(unsubscribe) => Ok(unsubscribe_request(unsubscribe, set)),
+        Err(code) => Err(code),
+    }
 }
 
 /// Asks for a publish under the next packet identifier, at a moment. 0; 1, 7 and so on as of `Client::request`; 201 of
@@ -108,10 +200,13 @@ pub extern "C" fn mqtt5_client_publish(
 ) -> u32
     requires { IsKept h.old }
     ensures kept { IsKept h.new }
-    ensures answer { Asked (IsBad topic.now qos) (IsPublish topic.now payload.now qos retain) at
-        h.old.client_ptr.value result h.new.client_ptr.value }
+    ensures answer { Asked (IsBad topic.now qos
+        ⊎ CantHave publish_table (properties_in h.old.client_ptr.value))
+        (IsPublish topic.now payload.now qos retain (properties_in h.old.client_ptr.value)) at
+        (emptied h.old.client_ptr.value) result h.new.client_ptr.value }
 {
-    match publish_of(alloc, topic, payload, qos, retain) {
+    let properties = take_properties(alloc, h);
+    match publish_with(alloc, topic, payload, qos, retain, properties) {
         Ok(request) => ask(alloc, h, request, at),
         Err(code) => code,
     }
@@ -128,10 +223,13 @@ pub extern "C" fn mqtt5_client_subscribe(
 ) -> u32
     requires { IsKept h.old }
     ensures kept { IsKept h.new }
-    ensures answer { Asked (IsBad filter.now qos) (IsSubscribe filter.now qos) at
-        h.old.client_ptr.value result h.new.client_ptr.value }
+    ensures answer { Asked (IsBad filter.now qos
+        ⊎ CantHave subscribe_table (properties_in h.old.client_ptr.value))
+        (IsSubscribe filter.now qos (properties_in h.old.client_ptr.value)) at
+        (emptied h.old.client_ptr.value) result h.new.client_ptr.value }
 {
-    match subscribe_of(alloc, filter, qos) {
+    let properties = take_properties(alloc, h);
+    match subscribe_with(alloc, filter, qos, properties) {
         Ok(request) => ask(alloc, h, request, at),
         Err(code) => code,
     }
@@ -147,10 +245,13 @@ pub extern "C" fn mqtt5_client_unsubscribe(
 ) -> u32
     requires { IsKept h.old }
     ensures kept { IsKept h.new }
-    ensures answer { Asked (¬ (IsUtf8 filter.now)) (IsUnsubscribe filter.now) at
-        h.old.client_ptr.value result h.new.client_ptr.value }
+    ensures answer { Asked (¬ (IsUtf8 filter.now)
+        ⊎ CantHave unsubscribe_table (properties_in h.old.client_ptr.value))
+        (IsUnsubscribe filter.now (properties_in h.old.client_ptr.value)) at
+        (emptied h.old.client_ptr.value) result h.new.client_ptr.value }
 {
-    match unsubscribe_of(alloc, filter) {
+    let properties = take_properties(alloc, h);
+    match unsubscribe_with(alloc, filter, properties) {
         Ok(request) => ask(alloc, h, request, at),
         Err(code) => code,
     }

@@ -1,12 +1,12 @@
-//! Where C keeps a client: a bare pointer.
+//! Where C keeps a client, with what its packets have: a bare pointer.
 
 ghost use Rattle.std.specs.Coded.{coded_option};
 ghost use Rattle.std.specs.Prelude.{◌≡◌, Option, Some, None, is_some, true};
 ghost use Rattle.mqtt5_c.specs.Owned.{owned_if_some};
-ghost use Rattle.mqtt5_client.specs.contracts.client.Client as client;
-ghost use Rattle.mqtt5_client.specs.declared.client.Client.{Client};
+ghost use Rattle.mqtt5_holder.specs.contracts.holder.Holder as holder;
+ghost use Rattle.mqtt5_holder.specs.declared.holder.Holder.{Holder};
 
-use mqtt5_client::Client;
+use mqtt5_holder::Holder;
 use mqtt5_raw_box::RawBox;
 use std::alloc::Global;
 use std::marker::Model;
@@ -15,10 +15,10 @@ use std::marker::Model;
 #[repr(C)]
 #[derive(Drop)]
 pub struct ClientPtr {
-    /// Where the client lies.
+    /// Where they lie.
     pub pointer: *mut u8,
-    /// The client.
-    pub ghost value: { Option Client } by { coded_option client.the_row.coded },
+    /// The client, and what its packets have.
+    pub ghost value: { Option Holder } by { coded_option holder.the_row.coded },
 }
 
 impl Model for ClientPtr {
@@ -36,7 +36,7 @@ impl ClientPtr {
     }
 
     /// Keeps a client.
-    pub fn of(raw_box: RawBox<Client, Global>) -> ClientPtr
+    pub fn of(raw_box: RawBox<Holder, Global>) -> ClientPtr
         ensures { result.value ≡ Some raw_box.value }
     {
         let RawBox { pointer, alloc: _ } = raw_box;
@@ -46,13 +46,13 @@ impl ClientPtr {
     }
 
     /// Gives the client out.
-    pub fn into_raw_box(self, alloc: Global) -> RawBox<Client, Global>
+    pub fn into_raw_box(self, alloc: Global) -> RawBox<Holder, Global>
         requires { is_some self.value ≡ true }
         ensures { self.value ≡ Some result.value }
     {
         let ClientPtr { pointer } = self;
         RawBox {
-            pointer: pointer as *mut Client,
+            pointer: pointer as *mut Holder,
             alloc,
         }
     }

@@ -1,7 +1,7 @@
 //! The call that takes an event out.
 
 ghost use Rattle.std.specs.Prelude.{◌≡◌, ◌≤◌, None, Some, IsNone, IsSome, IfSome, length, slice_get, true};
-ghost use Rattle.mqtt5_c.specs.Events.{came, sent, publish_told, connack_told, first_sub, first_unsub, packet_told, outgoing_told, event_told, first_told, topic_in, payload_in, first_topic, first_payload, has_room, over, Pops};
+ghost use Rattle.mqtt5_c.specs.Events.{came, sent, publish_told, connack_told, first_sub, first_unsub, packet_told, outgoing_told, event_told, first_told, topic_in, payload_in, first_topic, first_payload, has_room, over, Pops, PopsIn};
 ghost use Rattle.mqtt5_c.specs.Handles.{IsKept};
 ghost use Rattle.mqtt5_c.specs.Numbers.{no_client};
 
@@ -205,7 +205,7 @@ fn payload_in(event: &Event) -> &[u8]
 }
 
 /// Copies bytes over the beginning of a buffer that has room for them.
-fn copy_over(buffer: &mut [u8], bytes: &[u8])
+pub(crate) fn copy_over(buffer: &mut [u8], bytes: &[u8])
     requires { length bytes.now ≤ length buffer.old }
     ensures { buffer.new ≡ over bytes.now buffer.old }
 {
@@ -279,20 +279,19 @@ pub extern "C" fn mqtt5_client_next_event(
     ensures none { IsNone h.old.client_ptr.value → (result ≡ no_client)
         × (h.new.client_ptr.value ≡ None) }
     ensures told { IfSome h.old.client_ptr.value
-        (λ c. info.new ≡ first_told (slice_get c.state.events 0)) }
-    ensures pops { IfSome h.old.client_ptr.value (λ c. IsSome h.new.client_ptr.value
-        × IfSome h.new.client_ptr.value
-        (Pops (has_room (slice_get c.state.events 0) (length topic.old) (length payload.old)) c
-        result)) }
-    ensures topic { IfSome h.old.client_ptr.value (λ c. result ≡ 0
-        → topic.new ≡ over (first_topic (slice_get c.state.events 0)) topic.old) }
-    ensures payload { IfSome h.old.client_ptr.value (λ c. result ≡ 0
-        → payload.new ≡ over (first_payload (slice_get c.state.events 0)) payload.old) }
+        (λ x. info.new ≡ first_told (slice_get x.client.state.events 0)) }
+    ensures pops { IfSome h.old.client_ptr.value (λ x. PopsIn (has_room
+        (slice_get x.client.state.events 0) (length topic.old) (length payload.old)) x result
+        h.new.client_ptr.value) }
+    ensures topic { IfSome h.old.client_ptr.value (λ x. result ≡ 0
+        → topic.new ≡ over (first_topic (slice_get x.client.state.events 0)) topic.old) }
+    ensures payload { IfSome h.old.client_ptr.value (λ x. result ≡ 0
+        → payload.new ≡ over (first_payload (slice_get x.client.state.events 0)) payload.old) }
 {
-    let Some(mut client) = take(alloc, h) else {
+    let Some(mut holder) = take(alloc, h) else {
         return NO_CLIENT;
     };
-    let code = pop(&mut client, info, topic, payload);
-    put(h, client);
+    let code = pop(&mut holder.client, info, topic, payload);
+    put(h, holder);
     code
 }

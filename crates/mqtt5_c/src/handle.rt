@@ -5,7 +5,7 @@ ghost use Rattle.mqtt5_c.specs.Handles.{IsKept};
 ghost use Rattle.mqtt5_client.specs.Client.{IsReady};
 
 use crate::client_ptr::ClientPtr;
-use mqtt5_client::Client;
+use mqtt5_holder::Holder;
 use mqtt5_raw_box::RawBox;
 use std::alloc::Global;
 
@@ -20,11 +20,11 @@ pub struct Handle {
 }
 
 /// Takes the client out, where there is one. Takes no memory.
-pub(crate) fn take(alloc: Global, h: &mut Handle) -> Option<Box<Client>>
+pub(crate) fn take(alloc: Global, h: &mut Handle) -> Option<Box<Holder>>
     requires { IsKept h.old }
     ensures given { option_map (λ b. b.value) result ≡ h.old.client_ptr.value }
     ensures left { h.new.client_ptr.value ≡ None }
-    ensures ready { IfSome result (λ b. IsReady b.value) }
+    ensures ready { IfSome result (λ b. IsReady b.value.client) }
     ensures kept { IsKept h.new }
 {
     let empty = Handle {
@@ -40,13 +40,13 @@ pub(crate) fn take(alloc: Global, h: &mut Handle) -> Option<Box<Client>>
 }
 
 /// Puts a client in; one that was there is leaked. Takes no memory.
-pub(crate) fn put(h: &mut Handle, client: Box<Client>)
-    requires { IsReady client.value }
-    ensures put { h.new.client_ptr.value ≡ Some client.value }
+pub(crate) fn put(h: &mut Handle, holder: Box<Holder>)
+    requires { IsReady holder.value.client }
+    ensures put { h.new.client_ptr.value ≡ Some holder.value }
     ensures kept { IsKept h.new }
 {
     *h = Handle {
         live: true,
-        client_ptr: ClientPtr::of(RawBox::of(client)),
+        client_ptr: ClientPtr::of(RawBox::of(holder)),
     };
 }

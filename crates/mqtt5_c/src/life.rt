@@ -11,18 +11,22 @@ ghost use Rattle.mqtt5_c.specs.Numbers.{no_client, has_client, bad_argument, out
 use crate::handle::{Handle, put, take};
 use crate::number::{BAD_ARGUMENT, HAS_CLIENT, NO_CLIENT, OUT_OF_MEMORY, code_of, fault_code};
 use mqtt5_client::Client;
+use mqtt5_holder::Holder;
 use std::alloc::Global;
 
 /// A client in a box.
-fn boxed(alloc: Global, limit: u16, manual_acks: bool) -> Option<Box<Client>>
+fn boxed(alloc: Global, limit: u16, manual_acks: bool) -> Option<Box<Holder>>
     requires { 0 < limit }
     ensures new { IfSome result (λ b. IsNew limit manual_acks b.value) }
-    ensures ready { IfSome result (λ b. IsReady b.value) }
+    ensures ready { IfSome result (λ b. IsReady b.value.client) }
 {
     let Ok(client) = Client::new(alloc, limit, manual_acks) else {
         return None;
     };
-    Box::new(alloc, client).ok()
+    let Ok(holder) = Holder::new(alloc, client) else {
+        return None;
+    };
+    Box::new(alloc, holder).ok()
 }
 
 /// Makes a client in an empty handle, without limits on packets. `limit`, at least 1, is the greatest packet
@@ -47,16 +51,16 @@ pub extern "C" fn mqtt5_client_new(
     ensures none { IsNone h.old.client_ptr.value → limit ≡ 0
         → (result ≡ bad_argument) × (h.new.client_ptr.value ≡ None) }
 {
-    if let Some(client) = take(alloc, h) {
-        put(h, client);
+    if let Some(holder) = take(alloc, h) {
+        put(h, holder);
         return HAS_CLIENT;
     }
     if limit == 0 {
         return BAD_ARGUMENT;
     }
     match boxed(alloc, limit, manual_acks) {
-        Some(client) => {
-            put(h, client);
+        Some(holder) => {
+            put(h, holder);
             0
         }
         None => OUT_OF_MEMORY,
@@ -73,7 +77,7 @@ pub extern "C" fn mqtt5_client_free(alloc: Global, h: &mut Handle) -> u32
     ensures freed { IsSome h.old.client_ptr.value → result ≡ 0 }
 {
     match take(alloc, h) {
-        Some(_client) => 0,
+        Some(_holder) => 0,
         None => NO_CLIENT,
     }
 }
@@ -88,11 +92,11 @@ pub extern "C" fn mqtt5_client_resume(alloc: Global, h: &mut Handle, at: u64) ->
     ensures kept { IsKept h.new }
     ensures answer { Called (Resumes at) h.old.client_ptr.value result h.new.client_ptr.value }
 {
-    let Some(mut client) = take(alloc, h) else {
+    let Some(mut holder) = take(alloc, h) else {
         return NO_CLIENT;
     };
-    let outcome = client.resume(at);
-    put(h, client);
+    let outcome = holder.client.resume(at);
+    put(h, holder);
     code_of(&outcome)
 }
 
@@ -104,19 +108,19 @@ pub extern "C" fn mqtt5_client_clean(alloc: Global, h: &mut Handle, count: &mut 
     ensures kept { IsKept h.new }
     ensures answer { Called Cleans h.old.client_ptr.value result h.new.client_ptr.value }
     ensures count { result ≡ 0 → IfSome h.old.client_ptr.value
-        (λ c. count.new ≡ length (given_back c.state.core)) }
+        (λ x. count.new ≡ length (given_back x.client.state.core)) }
 {
-    let Some(mut client) = take(alloc, h) else {
+    let Some(mut holder) = take(alloc, h) else {
         return NO_CLIENT;
     };
-    match client.clean() {
+    match holder.client.clean() {
         Ok(requests) => {
-            put(h, client);
+            put(h, holder);
             *count = requests.len();
             0
         }
         Err(fault) => {
-            put(h, client);
+            put(h, holder);
             fault_code(&fault)
         }
     }
@@ -140,19 +144,19 @@ pub extern "C" fn mqtt5_client_take_up(
     ensures answer { Called (TakesUp session_present at) h.old.client_ptr.value result
         h.new.client_ptr.value }
     ensures count { result ≡ 0
-        → IfSome h.old.client_ptr.value (λ c. count.new ≡ length (returned session_present c)) }
+        → IfSome h.old.client_ptr.value (λ x. count.new ≡ length (returned session_present x.client)) }
 {
-    let Some(mut client) = take(alloc, h) else {
+    let Some(mut holder) = take(alloc, h) else {
         return NO_CLIENT;
     };
-    match client.take_up(session_present, at) {
+    match holder.client.take_up(session_present, at) {
         Ok(given) => {
-            put(h, client);
+            put(h, holder);
             *count = given.len();
             0
         }
         Err(fault) => {
-            put(h, client);
+            put(h, holder);
             fault_code(&fault)
         }
     }

@@ -17,6 +17,9 @@ pub(crate) const HAS_CLIENT: u32 = 202;
 /// A buffer is too small.
 pub(crate) const SMALL_BUFFER: u32 = 203;
 
+/// The oldest event hasn't what is asked for.
+pub(crate) const ABSENT: u32 = 204;
+
 /// Memory ran out: S12.
 pub(crate) const OUT_OF_MEMORY: u32 = 12;
 

@@ -18,11 +18,11 @@ pub extern "C" fn mqtt5_client_receive(alloc: Global, h: &mut Handle, bytes: &[u
     ensures answer { Called (Receives bytes.now at) h.old.client_ptr.value result
         h.new.client_ptr.value }
 {
-    let Some(mut client) = take(alloc, h) else {
+    let Some(mut holder) = take(alloc, h) else {
         return NO_CLIENT;
     };
-    let outcome = client.receive(bytes, at);
-    put(h, client);
+    let outcome = holder.client.receive(bytes, at);
+    put(h, holder);
     code_of(&outcome)
 }
 
@@ -52,14 +52,14 @@ pub extern "C" fn mqtt5_client_output(
     ensures none { IsNone h.old.client_ptr.value → (count.new ≡ count.old)
         × (buffer.new ≡ buffer.old) }
     ensures copied { IfSome h.old.client_ptr.value
-        (λ c. (count.new ≡ min (length c.output.items) (length buffer.old))
-        × (buffer.new ≡ take count.new c.output.items ++ drop count.new buffer.old)) }
+        (λ x. (count.new ≡ min (length x.client.output.items) (length buffer.old))
+        × (buffer.new ≡ take count.new x.client.output.items ++ drop count.new buffer.old)) }
 {
-    let Some(client) = take(alloc, h) else {
+    let Some(holder) = take(alloc, h) else {
         return NO_CLIENT;
     };
-    *count = fill(buffer, client.output());
-    put(h, client);
+    *count = fill(buffer, holder.client.output());
+    put(h, holder);
     0
 }
 
@@ -71,10 +71,10 @@ pub extern "C" fn mqtt5_client_sent(alloc: Global, h: &mut Handle, count: usize)
     ensures kept { IsKept h.new }
     ensures answer { Called (Sends count) h.old.client_ptr.value result h.new.client_ptr.value }
 {
-    let Some(mut client) = take(alloc, h) else {
+    let Some(mut holder) = take(alloc, h) else {
         return NO_CLIENT;
     };
-    client.sent(count);
-    put(h, client);
+    holder.client.sent(count);
+    put(h, holder);
     0
 }

@@ -1,7 +1,6 @@
 use Rattle.std.proofs.Common.{[], ◌∷◌, None, ap, ◌∙◌}
 use Rattle.mqtt5_subscribe.specs.declared.filter.Filter.{Filter}
 use Rattle.mqtt5_subscribe.specs.declared.subscribe.Subscribe.{Subscribe}
-use Rattle.mqtt5_inflight.specs.declared.event.Request.TheVariants as requests
 use Rattle.mqtt5_c.proofs.ask.subscribe_of.Goals as goal
 
 abbrev to_one : Filter → Subscribe
@@ -13,5 +12,5 @@ returns-clause-ok c = (
   c.in-Ok-new.filter.path,
   c.in-Some.ensures.number,
   c.in-Ok-new.ensures.ok.0 ∙ c.in-Ok.ensures.cases.0,
-  ap requests.Subscribe (c.in-Ok-new-2.ensures.ok ∙ ap to_one c.in-Ok-new.ensures.ok.1),
+  c.in-Ok-new-2.ensures.ok ∙ ap to_one c.in-Ok-new.ensures.ok.1,
 )

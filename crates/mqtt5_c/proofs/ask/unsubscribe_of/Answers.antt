@@ -1,7 +1,6 @@
-use Rattle.std.proofs.Common.{ap, ◌∙◌}
-use Rattle.mqtt5_inflight.specs.declared.event.Request.TheVariants as requests
+use Rattle.std.proofs.Common.{◌∙◌}
 use Rattle.mqtt5_c.proofs.ask.unsubscribe_of.Goals as goal
 
 pub returns-clause-ok : goal.returns-clause-ok
 returns-clause-ok c =
-    let one = c.in-Ok-new.ensures.ok in (one.0, one.1 ∙ c.in-Ok.ensures.cases.0, ap requests.Unsubscribe one.2)
+    let one = c.in-Ok-new.ensures.ok in (one.0, one.1 ∙ c.in-Ok.ensures.cases.0, one.2)

@@ -14,4 +14,4 @@ returns-in-Err-clause-answer c =
     (tt, c.in-Err.ensures.err, c.in-Err.ensures.unchanged, c.in-Err.ensures.unsent, c.take_up.ensures.input, c.take_up.ensures.codec)
 
 pub returns-in-Err-clause-count : goal.returns-in-Err-clause-count
-returns-in-Err-clause-count c = λ zero. absurd (not_taken_up c.args.session_present c.in-Err.fault c.deref_mut.result.now c.args.at c.in-Err.ensures.err (sym c.fault_code.ensures ∙ zero))
+returns-in-Err-clause-count c = λ zero. absurd (not_taken_up c.args.session_present c.in-Err.fault c.deref_mut.result.now.client c.args.at c.in-Err.ensures.err (sym c.fault_code.ensures ∙ zero))

@@ -26,7 +26,7 @@ use Rattle.std_heap.specs.contracts.Global as global
 use Rattle.std_heap.specs.contracts.GlobalAllocator.TheImpl.{ghosts}
 use Rattle.std_heap.proofs.Global.TheLaws as global_laws
 use Rattle.mqtt5_raw_box.proofs.RawBoxValues as raw_box
-use Rattle.mqtt5_client.specs.contracts.client.Client as client
+use Rattle.mqtt5_holder.specs.contracts.holder.Holder as holder
 use Rattle.mqtt5_c.specs.Owned.{in_heap, owned_if_some}
 use Rattle.mqtt5_c.proofs.ClientPtrValues.{Value, Row, word, takes_apart, value_of}
 use Rattle.mqtt5_c.specs.contracts.client_ptr.ClientPtr.into_raw_box as into_raw_box
@@ -36,7 +36,7 @@ use Rattle.mqtt5_c.proofs.client_ptr.ClientPtr.into_raw_box.Code as code
 pub into_raw_box_spec : {M : Type 1} → statement M
 into_raw_box_spec 𝓤 𝓛 𝓜 𝓡 wired =
     let 𝓣 = tables 𝓤 𝓛.H 𝓜 𝓡 𝓡.env in let ends = into_raw_box.ended in let clauses = into_raw_box.clauses 𝓛 𝓜.mem 𝓡.returns in
-    let X = client.the_row in let A = global.the_row in let laws = global_laws.the_row_laws in
+    let X = holder.the_row in let A = global.the_row in let laws = global_laws.the_row_laws in
     let stays : Stays ends.signature.params ends.kept = (stay_dropped (plain (λ _. Row)) yes, (stay_dropped (plain (λ _. A)) yes, tt)) in
     proved_at 𝓛 ends stays clauses 𝓜 𝓡 (Goes-dropped 𝓛 0 (plain (λ _. Row)) yes (λ κs s words. refl), (Goes-dropped 𝓛 0 (plain (λ _. A)) yes (λ κs a words. refl), tt))
     into_raw_box.Key.name code.function (code.unfolded 𝓤 𝓛.H 𝓜 𝓡 wired) (λ y are.

@@ -22,7 +22,7 @@ use Rattle.std_heap.specs.contracts.Global as global
 use Rattle.std_heap.specs.contracts.GlobalAllocator.TheImpl.{ghosts}
 use Rattle.std_heap.proofs.Global.TheLaws as global_laws
 use Rattle.mqtt5_raw_box.proofs.RawBoxValues as raw_box
-use Rattle.mqtt5_client.specs.contracts.client.Client as client
+use Rattle.mqtt5_holder.specs.contracts.holder.Holder as holder
 use Rattle.mqtt5_c.proofs.ClientPtrValues.{word, puts_together}
 use Rattle.mqtt5_c.specs.contracts.client_ptr.ClientPtr.of as of
 use Rattle.mqtt5_c.proofs.client_ptr.ClientPtr.of.Statement.{statement}
@@ -31,7 +31,7 @@ use Rattle.mqtt5_c.proofs.client_ptr.ClientPtr.of.Code as code
 pub of_spec : {M : Type 1} → statement M
 of_spec 𝓤 𝓛 𝓜 𝓡 wired =
     let 𝓣 = tables 𝓤 𝓛.H 𝓜 𝓡 𝓡.env in let clauses = of.clauses 𝓛 𝓜.mem 𝓡.returns in
-    let X = client.the_row in let A = global.the_row in let laws = global_laws.the_row_laws in
+    let X = holder.the_row in let A = global.the_row in let laws = global_laws.the_row_laws in
     let given = plain (λ _. raw_box.Row X A laws ghosts) in
     let stays : Stays of.ended.signature.params of.ended.kept = (stay_dropped given yes, tt) in
     proved_at 𝓛 of.ended stays clauses 𝓜 𝓡 (Goes-dropped 𝓛 0 given yes (λ κs u words. refl), tt)
