@@ -316,9 +316,9 @@ static void properties_that_came(void) {
     EVENT(&h, 1, 4, 2);
 
     /* A broker that refuses: its event stands, with its reason. */
-    EXPECT(mqtt5_client_receive(&h, BYTES(CONNACK_REFUSED), 4) != MQTT5_DONE, true);
+    EXPECT(mqtt5_client_receive(&h, BYTES(CONNACK_REFUSED), 4), MQTT5_CONNECTION_REFUSED);
     EXPECT(mqtt5_client_event_reason(&h, 0, &reason), MQTT5_DONE);
-    EXPECT(reason, 0x86);
+    EXPECT(reason, MQTT5_REASON_BAD_USER_NAME_OR_PASSWORD);
     EXPECT(EVENT(&h, 1, 2, 0).code, 0x86);
     EXPECT(mqtt5_client_free(&h), MQTT5_DONE);
     EXPECT(blocks, 0);
@@ -384,7 +384,7 @@ static void several_filters(void) {
     EXPECT(mqtt5_client_subscribe_all(&h, 1), MQTT5_DONE);
     OUTPUT(&h, "\x82\x0d\0\x01\x02\x0b\x05\0\x01" "a" "\x2e\0\x01" "b" "\0");
     EVENT(&h, 2, 8, 1);
-    EXPECT(mqtt5_client_subscribe_all(&h, 1) != MQTT5_DONE, true);
+    EXPECT(mqtt5_client_subscribe_all(&h, 1), MQTT5_EMPTY_SUBSCRIPTION);
     OUTPUT(&h, "");
     EXPECT(mqtt5_client_free(&h), MQTT5_DONE);
     EXPECT(blocks, 0);
@@ -524,6 +524,13 @@ static void misuse(void) {
     EXPECT(mqtt5_client_subscribe(&h, BYTES("\xc3"), 1, 0), MQTT5_BAD_ARGUMENT);
     EXPECT(mqtt5_client_subscribe(&h, BYTES("a"), 3, 0), MQTT5_BAD_ARGUMENT);
     EXPECT(mqtt5_client_unsubscribe(&h, BYTES("\xff"), 0), MQTT5_BAD_ARGUMENT);
+    EXPECT(mqtt5_client_publish(&h, BYTES("a/#"), BYTES("x"), 0, false, 0), MQTT5_BAD_ARGUMENT);
+    EXPECT(mqtt5_client_publish(&h, BYTES("a\0b"), BYTES("x"), 0, false, 0), MQTT5_BAD_ARGUMENT);
+    EXPECT(mqtt5_client_subscribe(&h, BYTES("a#"), 1, 0), MQTT5_BAD_ARGUMENT);
+    EXPECT(mqtt5_client_subscribe(&h, BYTES(""), 1, 0), MQTT5_BAD_ARGUMENT);
+    EXPECT(mqtt5_client_unsubscribe(&h, BYTES("#/a"), 0), MQTT5_BAD_ARGUMENT);
+    EXPECT(mqtt5_client_add_filter(&h, BYTES("+a"), 0, false, false, 0), MQTT5_BAD_ARGUMENT);
+    EXPECT(mqtt5_client_set_will(&h, BYTES("+"), BYTES("y"), 0, false), MQTT5_BAD_ARGUMENT);
     /* An ack of nothing, a frame of no packet, a ping that isn't answered. */
     EXPECT(mqtt5_client_receive(&h, BYTES(PUBACK), 0), 2);
     EXPECT(mqtt5_client_receive(&h, BYTES("\0\0"), 0), 105);

@@ -1,6 +1,5 @@
 -- The requests of C's arguments, and what a call leaves that makes one.
 use Rattle.std.specs.Prelude.{◌≡◌, ◌<◌, ◌⊎◌, ℕ, Bool, false, List, [], ◌∷◌, Option, None}
-use Rattle.std.specs.Str.{IsUtf8}
 use Rattle.mqtt5_base.specs.Texts.{Utf8}
 use Rattle.mqtt5_base.specs.Views.{qos_number}
 use Rattle.mqtt5_base.specs.declared.quality.QoS.{QoS}
@@ -24,12 +23,17 @@ use Rattle.mqtt5_properties.specs.Gathering.{gathered, IsSet}
 use Rattle.mqtt5_inflight.specs.declared.event.Request.{Request}
 use Rattle.mqtt5_inflight.specs.declared.event.Request.TheVariants as requests
 use Rattle.mqtt5_holder.specs.declared.holder.Holder.{Holder}
+use Rattle.mqtt5_c.specs.Topics.{IsTopicName, IsTopicFilter}
 use Rattle.mqtt5_c.specs.Calls.{Called, Asks}
 use Rattle.mqtt5_c.specs.Numbers.{bad_argument, out_of_memory}
 
--- a text that isn't UTF-8 (MQTT 5.0 section 1.5.4), or a QoS above 2 (3.3.1.2)
-abbrev pub IsBad : List ℕ → ℕ → Type 0
-IsBad text quality = ¬ (IsUtf8 text) ⊎ (2 < quality)
+-- a topic that no publish has (MQTT 5.0 section 4.7), or a QoS above 2 (3.3.1.2)
+abbrev pub IsBadTopic : List ℕ → ℕ → Type 0
+IsBadTopic topic quality = ¬ (IsTopicName topic) ⊎ (2 < quality)
+
+-- what is no topic filter (4.7), or a QoS above 2 (3.8.3.1)
+abbrev pub IsBadFilter : List ℕ → ℕ → Type 0
+IsBadFilter filter quality = ¬ (IsTopicFilter filter) ⊎ (2 < quality)
 
 -- a Publish of this topic, payload, QoS and retain, without properties, whose packet identifier the session gives (3.3)
 abbrev pub IsPlainPublish : List ℕ → List ℕ → ℕ → Bool → Publish → Type 0
@@ -40,7 +44,7 @@ IsPlainPublish topic payload quality retain p =
 -- the same with these properties (3.3.2.3)
 abbrev pub IsPublish : List ℕ → List ℕ → ℕ → Bool → List Property → Request → Type 0
 IsPublish topic payload quality retain properties request =
-    (p : Publish) × (set : Option PublishProperties) × IsPlainPublish topic payload quality retain p
+    IsTopicName topic × (p : Publish) × (set : Option PublishProperties) × IsPlainPublish topic payload quality retain p
     × IsSet publish_found publish_table properties set × (request ≡ requests.Publish (record p { properties = set }))
 
 -- a topic filter whose options but the QoS are 0 (3.8.3.1)
@@ -56,7 +60,7 @@ IsPlainSubscribe filter quality s =
 -- the same with these properties (3.8.2.1)
 abbrev pub IsSubscribe : List ℕ → ℕ → List Property → Request → Type 0
 IsSubscribe filter quality properties request =
-    (s : Subscribe) × (set : Option SubscribeProperties) × IsPlainSubscribe filter quality s
+    IsTopicFilter filter × (s : Subscribe) × (set : Option SubscribeProperties) × IsPlainSubscribe filter quality s
     × IsSet subscribe_found subscribe_table properties set × (request ≡ requests.Subscribe (record s { properties = set }))
 
 -- an Unsubscribe of this filter alone (3.10)
@@ -67,7 +71,7 @@ IsPlainUnsubscribe filter u =
 -- the same with these properties (3.10.2.1)
 abbrev pub IsUnsubscribe : List ℕ → List Property → Request → Type 0
 IsUnsubscribe filter properties request =
-    (u : Unsubscribe) × (set : Option UnsubscribeProperties) × IsPlainUnsubscribe filter u
+    IsTopicFilter filter × (u : Unsubscribe) × (set : Option UnsubscribeProperties) × IsPlainUnsubscribe filter u
     × IsSet unsubscribe_found unsubscribe_table properties set × (request ≡ requests.Unsubscribe (record u { properties = set }))
 
 -- a PubAck of success (3.4)

@@ -1,11 +1,8 @@
 -- The list of filters of a Subscribe (MQTT 5.0 section 3.8.3).
 use Rattle.std.specs.Prelude.{◌≡◌, ◌⊎◌, ℕ, Bool, List, [], ◌∷◌, ◌++◌, Option, Some, None}
-use Rattle.mqtt5_base.specs.Texts.{Utf8}
 use Rattle.mqtt5_base.specs.Views.{qos_number}
-use Rattle.mqtt5_base.specs.declared.quality.QoS.{QoS}
 use Rattle.mqtt5_base.specs.declared.property.Property.{Property}
 use Rattle.mqtt5_subscribe.specs.declared.filter.Filter.{Filter}
-use Rattle.mqtt5_subscribe.specs.declared.filter.RetainForwardRule.{RetainForwardRule}
 use Rattle.mqtt5_subscribe.specs.declared.subscribe.SubscribeProperties.{SubscribeProperties}
 use Rattle.mqtt5_subscribe.specs.Subscribes.{rule_number, subscribe_found}
 use Rattle.mqtt5_subscribe.specs.Rows.{subscribe_table}
@@ -14,6 +11,7 @@ use Rattle.mqtt5_inflight.specs.declared.event.Request.TheVariants as requests
 use Rattle.mqtt5_holder.specs.declared.holder.Holder.{Holder}
 use Rattle.mqtt5_properties.specs.Gathering.{IsSet}
 use Rattle.mqtt5_c.specs.Asked.{IsDeclined}
+use Rattle.mqtt5_c.specs.Topics.{IsTopicFilter}
 use Rattle.mqtt5_c.specs.Numbers.{no_client, out_of_memory}
 
 -- the list of a handle's client; without a client none
@@ -29,7 +27,7 @@ cleared (Some h) = Some (record h { filters = [] })
 -- a topic filter with these options (3.8.3.1)
 abbrev pub IsFilter : List ℕ → ℕ → Bool → Bool → ℕ → Filter → Type 0
 IsFilter path quality no_local retain_as_published handling f =
-    (f.path.bytes ≡ path) × (qos_number f.qos ≡ quality) × (f.nolocal ≡ no_local) × (f.preserve_retain ≡ retain_as_published)
+    IsTopicFilter path × (f.path.bytes ≡ path) × (qos_number f.qos ≡ quality) × (f.nolocal ≡ no_local) × (f.preserve_retain ≡ retain_as_published)
     × (rule_number f.retain_forward_rule ≡ handling)
 
 -- a Subscribe to these filters, with these properties (3.8)

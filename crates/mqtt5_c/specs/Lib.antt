@@ -2,6 +2,7 @@ pub mod Owned
 pub mod Handles
 pub mod Numbers
 pub mod Calls
+pub mod Topics
 pub mod Asked
 pub mod Properties
 pub mod Filters
@@ -10,4 +11,3 @@ pub mod Settings
 pub mod Events
 pub mod Told
 pub mod Ids
-pub mod Topics

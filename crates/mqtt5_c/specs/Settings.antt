@@ -12,6 +12,7 @@ use Rattle.mqtt5_options.specs.Options.{Settings}
 use Rattle.mqtt5_holder.specs.declared.holder.Holder.{Holder}
 use Rattle.mqtt5_properties.specs.Gathering.{IsSet}
 use Rattle.mqtt5_c.specs.Asked.{IsDeclined}
+use Rattle.mqtt5_c.specs.Topics.{IsTopicName}
 use Rattle.mqtt5_c.specs.Numbers.{no_client, out_of_memory}
 
 -- the settings with this user name and this password (3.1.3.5, 3.1.3.6)
@@ -25,7 +26,7 @@ with_will will s = record s { last_will = Some will }
 -- a will of this topic, payload, QoS and retain, without properties (3.1.3.3, 3.1.3.4)
 abbrev pub IsWill : List ℕ → List ℕ → ℕ → Bool → LastWill → Type 0
 IsWill topic payload quality retain will =
-    (q : QoS) × (qos_number q ≡ quality) × (will ≡ record { topic = topic; message = payload; qos = q; retain = retain; properties = None })
+    IsTopicName topic × (q : QoS) × (qos_number q ≡ quality) × (will ≡ record { topic = topic; message = payload; qos = q; retain = retain; properties = None })
 
 -- without a client nothing is set, and the answer is 200; else it is set, or memory is refused, and all is as before
 abbrev pub Sets : (Settings → Settings) → Option Holder → ℕ → Option Holder → Type 0

@@ -1,9 +1,7 @@
 -- What a call answers that asks for one thing of the oldest event, which stays.
 use Rattle.std.specs.Prelude.{◌≡◌, ℕ, Bool, true, false, ◌&&◌, nat_le, List, [], ◌∷◌, length, Option, None, Some, slice_get}
-use Rattle.std.specs.Option.{option_and_then}
 use Rattle.mqtt5_base.specs.Texts.{Utf8}
 use Rattle.mqtt5_inflight.specs.declared.event.Event.{Event}
-use Rattle.mqtt5_client.specs.declared.client.Client.{Client}
 use Rattle.mqtt5_events.specs.Properties as properties
 use Rattle.mqtt5_events.specs.Reasons as reasons
 use Rattle.mqtt5_c.specs.Events.{over}

@@ -8,9 +8,13 @@ use Rattle.mqtt5_base.specs.Topics.{is_valid_topic, is_valid_filter, topic_match
 abbrev pub IsText : List ℕ → Type 0
 IsText t = IsUtf8 t × (is_among t 0 ≡ false)
 
--- the topic of a publish (4.7.1, 4.7.3)
+-- a topic without wildcards (4.7.1); with a topic alias it may be empty (3.3.2.3.4)
+abbrev pub IsTopicName : List ℕ → Type 0
+IsTopicName t = IsText t × (is_valid_topic t ≡ true)
+
+-- the topic of a publish without a topic alias (4.7.3)
 abbrev pub IsTopic : List ℕ → Type 0
-IsTopic t = IsText t × ((length t == 0) ≡ false) × (is_valid_topic t ≡ true)
+IsTopic t = IsTopicName t × ((length t == 0) ≡ false)
 
 -- a topic filter (4.7.1, 4.7.3)
 abbrev pub IsTopicFilter : List ℕ → Type 0

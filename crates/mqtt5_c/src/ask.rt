@@ -1,18 +1,19 @@
 //! Calls that ask the client for a packet.
 
-ghost use Rattle.std.specs.Prelude.{◌≡◌, ◌⊎◌, IfOk, IfErr};
-ghost use Rattle.std.specs.Str.{IsUtf8};
+ghost use Rattle.std.specs.Prelude.{◌≡◌, ◌⊎◌, IsOk, IfOk, IfErr};
 ghost use Rattle.mqtt5_inflight.specs.declared.event.Request.TheVariants as requests;
-ghost use Rattle.mqtt5_c.specs.Asked.{IsBad, IsPlainPublish, IsPublish, IsPlainSubscribe, IsSubscribe, IsPlainUnsubscribe, IsUnsubscribe, CantHave, puback_of, pubrec_of, Asked, IsDeclined};
+ghost use Rattle.mqtt5_c.specs.Asked.{IsBadTopic, IsBadFilter, IsPlainPublish, IsPublish, IsPlainSubscribe, IsSubscribe, IsPlainUnsubscribe, IsUnsubscribe, CantHave, puback_of, pubrec_of, Asked, IsDeclined};
 ghost use Rattle.mqtt5_c.specs.Calls.{Called, Asks};
 ghost use Rattle.mqtt5_c.specs.Handles.{IsKept};
 ghost use Rattle.mqtt5_c.specs.Properties.{properties_in, emptied};
+ghost use Rattle.mqtt5_c.specs.Topics.{IsTopicName, IsTopicFilter};
 ghost use Rattle.mqtt5_publish.specs.Rows.{publish_table};
 ghost use Rattle.mqtt5_subscribe.specs.Rows.{subscribe_table, unsubscribe_table};
 
 use crate::handle::{Handle, put, take};
 use crate::number::{BAD_ARGUMENT, NO_CLIENT, OUT_OF_MEMORY, code_of};
 use crate::properties::{gather, take_properties};
+use crate::topic::{topic_filter, topic_name};
 use bytes::Bytes;
 use mqtt5_base::{Property, Sequence, qos};
 use mqtt5_publish::{PubAck, PubRec, Publish, PublishProperties};
@@ -45,9 +46,10 @@ fn publish_of(
     retain: bool,
 ) -> Result<Publish, u32>
     ensures ok { IfOk result (IsPlainPublish topic.now payload.now quality retain) }
-    ensures err { IfErr result (IsDeclined (IsBad topic.now quality)) }
+    ensures valid { IsOk result → IsTopicName topic.now }
+    ensures err { IfErr result (IsDeclined (IsBadTopic topic.now quality)) }
 {
-    let Ok(topic) = std::str::from_utf8(topic) else {
+    let Some(topic) = topic_name(topic) else {
         return Err(BAD_ARGUMENT);
     };
     let Some(quality) = qos(quality) else {
@@ -81,7 +83,7 @@ fn publish_with(
     properties: Sequence<Property>,
 ) -> Result<Request, u32>
     ensures ok { IfOk result (IsPublish topic.now payload.now quality retain properties) }
-    ensures err { IfErr result (IsDeclined (IsBad topic.now quality ⊎ CantHave publish_table
+    ensures err { IfErr result (IsDeclined (IsBadTopic topic.now quality ⊎ CantHave publish_table
         properties)) }
 {
     let set = match gather(alloc, properties) {
@@ -97,9 +99,10 @@ fn publish_with(
 /// The Subscribe of C's arguments, without properties.
 fn subscribe_of(alloc: Global, filter: &[u8], quality: u8) -> Result<Subscribe, u32>
     ensures ok { IfOk result (IsPlainSubscribe filter.now quality) }
-    ensures err { IfErr result (IsDeclined (IsBad filter.now quality)) }
+    ensures valid { IsOk result → IsTopicFilter filter.now }
+    ensures err { IfErr result (IsDeclined (IsBadFilter filter.now quality)) }
 {
-    let Ok(filter) = std::str::from_utf8(filter) else {
+    let Some(filter) = topic_filter(filter) else {
         return Err(BAD_ARGUMENT);
     };
     let Some(quality) = qos(quality) else {
@@ -130,7 +133,7 @@ fn subscribe_with(
     properties: Sequence<Property>,
 ) -> Result<Request, u32>
     ensures ok { IfOk result (IsSubscribe filter.now quality properties) }
-    ensures err { IfErr result (IsDeclined (IsBad filter.now quality ⊎ CantHave subscribe_table
+    ensures err { IfErr result (IsDeclined (IsBadFilter filter.now quality ⊎ CantHave subscribe_table
         properties)) }
 {
     let set = match gather(alloc, properties) {
@@ -146,9 +149,10 @@ fn subscribe_with(
 /// The Unsubscribe of C's arguments, without properties.
 fn unsubscribe_of(alloc: Global, filter: &[u8]) -> Result<Unsubscribe, u32>
     ensures ok { IfOk result (IsPlainUnsubscribe filter.now) }
-    ensures err { IfErr result (IsDeclined (¬ (IsUtf8 filter.now))) }
+    ensures valid { IsOk result → IsTopicFilter filter.now }
+    ensures err { IfErr result (IsDeclined (¬ (IsTopicFilter filter.now))) }
 {
-    let Ok(filter) = std::str::from_utf8(filter) else {
+    let Some(filter) = topic_filter(filter) else {
         return Err(BAD_ARGUMENT);
     };
     let Ok(unsubscribe) = Unsubscribe::new(alloc, filter, None) else {
@@ -172,7 +176,7 @@ fn unsubscribe_with(
     properties: Sequence<Property>,
 ) -> Result<Request, u32>
     ensures ok { IfOk result (IsUnsubscribe filter.now properties) }
-    ensures err { IfErr result (IsDeclined (¬ (IsUtf8 filter.now) ⊎ CantHave unsubscribe_table
+    ensures err { IfErr result (IsDeclined (¬ (IsTopicFilter filter.now) ⊎ CantHave unsubscribe_table
         properties)) }
 {
     let set = match gather(alloc, properties) {
@@ -200,7 +204,7 @@ pub extern "C" fn mqtt5_client_publish(
 ) -> u32
     requires { IsKept h.old }
     ensures kept { IsKept h.new }
-    ensures answer { Asked (IsBad topic.now qos
+    ensures answer { Asked (IsBadTopic topic.now qos
         ⊎ CantHave publish_table (properties_in h.old.client_ptr.value))
         (IsPublish topic.now payload.now qos retain (properties_in h.old.client_ptr.value)) at
         (emptied h.old.client_ptr.value) result h.new.client_ptr.value }
@@ -223,7 +227,7 @@ pub extern "C" fn mqtt5_client_subscribe(
 ) -> u32
     requires { IsKept h.old }
     ensures kept { IsKept h.new }
-    ensures answer { Asked (IsBad filter.now qos
+    ensures answer { Asked (IsBadFilter filter.now qos
         ⊎ CantHave subscribe_table (properties_in h.old.client_ptr.value))
         (IsSubscribe filter.now qos (properties_in h.old.client_ptr.value)) at
         (emptied h.old.client_ptr.value) result h.new.client_ptr.value }
@@ -245,7 +249,7 @@ pub extern "C" fn mqtt5_client_unsubscribe(
 ) -> u32
     requires { IsKept h.old }
     ensures kept { IsKept h.new }
-    ensures answer { Asked (¬ (IsUtf8 filter.now)
+    ensures answer { Asked (¬ (IsTopicFilter filter.now)
         ⊎ CantHave unsubscribe_table (properties_in h.old.client_ptr.value))
         (IsUnsubscribe filter.now (properties_in h.old.client_ptr.value)) at
         (emptied h.old.client_ptr.value) result h.new.client_ptr.value }

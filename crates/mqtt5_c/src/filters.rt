@@ -3,7 +3,7 @@
 ghost use Rattle.std.specs.Prelude.{◌≡◌, ◌⊎◌, ◌<◌, ◌↔◌, IfOk, IfErr, IfSome, IsSome};
 ghost use Rattle.mqtt5_subscribe.specs.Rows.{subscribe_table};
 ghost use Rattle.mqtt5_subscribe.specs.Subscribes.{rule_number};
-ghost use Rattle.mqtt5_c.specs.Asked.{CantHave, IsBad, IsDeclined, Asked};
+ghost use Rattle.mqtt5_c.specs.Asked.{CantHave, IsBadFilter, IsDeclined, Asked};
 ghost use Rattle.mqtt5_c.specs.Filters.{filters_in, cleared, IsFilter, IsSubscribeTo, AddedFilter, FilterAdded};
 ghost use Rattle.mqtt5_c.specs.Handles.{IsKept};
 ghost use Rattle.mqtt5_c.specs.Properties.{properties_in, emptied};
@@ -12,6 +12,7 @@ use crate::ask::ask;
 use crate::handle::{Handle, put, take};
 use crate::number::{BAD_ARGUMENT, NO_CLIENT, OUT_OF_MEMORY};
 use crate::properties::{gather, take_properties};
+use crate::topic::topic_filter;
 use mqtt5_base::{Property, Sequence, qos};
 use mqtt5_session::Request;
 use mqtt5_subscribe::{Filter, RetainForwardRule, Subscribe};
@@ -41,9 +42,9 @@ fn filter_of(
 ) -> Result<Filter, u32>
     ensures ok { IfOk result (IsFilter filter.now quality no_local retain_as_published
         retain_handling) }
-    ensures err { IfErr result (IsDeclined (IsBad filter.now quality ⊎ (2 < retain_handling))) }
+    ensures err { IfErr result (IsDeclined (IsBadFilter filter.now quality ⊎ (2 < retain_handling))) }
 {
-    let Ok(path) = std::str::from_utf8(filter) else {
+    let Some(path) = topic_filter(filter) else {
         return Err(BAD_ARGUMENT);
     };
     let Some(quality) = qos(quality) else {
@@ -93,7 +94,7 @@ pub extern "C" fn mqtt5_client_add_filter(
 ) -> u32
     requires { IsKept h.old }
     ensures kept { IsKept h.new }
-    ensures answer { FilterAdded (IsBad filter.now qos ⊎ (2 < retain_handling))
+    ensures answer { FilterAdded (IsBadFilter filter.now qos ⊎ (2 < retain_handling))
         (IsFilter filter.now qos no_local retain_as_published retain_handling)
         h.old.client_ptr.value result h.new.client_ptr.value }
 {
@@ -145,7 +146,7 @@ fn subscribe_to(
 }
 
 /// Asks for a subscription to the filters of the list, with the properties of theirs, at a moment; both are emptied. Answers
-/// as `mqtt5_client_publish`, and 10 where there is no filter.
+/// as `mqtt5_client_publish`, and 6 where there is no filter.
 #[unsafe(no_mangle)]
 pub extern "C" fn mqtt5_client_subscribe_all(alloc: Global, h: &mut Handle, at: u64) -> u32
     requires { IsKept h.old }

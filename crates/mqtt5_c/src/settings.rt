@@ -2,7 +2,7 @@
 
 ghost use Rattle.std.specs.Prelude.{◌≡◌, ◌⊎◌, IfOk, IfErr};
 ghost use Rattle.mqtt5_connect.specs.Rows.{will_table};
-ghost use Rattle.mqtt5_c.specs.Asked.{CantHave, IsBad, IsDeclined};
+ghost use Rattle.mqtt5_c.specs.Asked.{CantHave, IsBadTopic, IsDeclined};
 ghost use Rattle.mqtt5_c.specs.Handles.{IsKept};
 ghost use Rattle.mqtt5_c.specs.Properties.{properties_in, emptied};
 ghost use Rattle.mqtt5_c.specs.Settings.{Sets, with_login, with_will, IsWill, LoginSet, WillSet};
@@ -10,6 +10,7 @@ ghost use Rattle.mqtt5_c.specs.Settings.{Sets, with_login, with_will, IsWill, Lo
 use crate::handle::{Handle, put, take};
 use crate::number::{BAD_ARGUMENT, NO_CLIENT, OUT_OF_MEMORY};
 use crate::properties::{gather, take_properties};
+use crate::topic::topic_name;
 use bytes::Bytes;
 use mqtt5_base::qos;
 use mqtt5_connect::{LastWill, LastWillProperties};
@@ -65,9 +66,9 @@ fn will_of(
     retain: bool,
 ) -> Result<LastWill, u32>
     ensures ok { IfOk result (IsWill topic.now payload.now quality retain) }
-    ensures err { IfErr result (IsDeclined (IsBad topic.now quality)) }
+    ensures err { IfErr result (IsDeclined (IsBadTopic topic.now quality)) }
 {
-    let Ok(topic) = std::str::from_utf8(topic) else {
+    let Some(topic) = topic_name(topic) else {
         return Err(BAD_ARGUMENT);
     };
     let Some(qos) = qos(quality) else {
@@ -124,7 +125,7 @@ pub extern "C" fn mqtt5_client_set_will(
 ) -> u32
     requires { IsKept h.old }
     ensures kept { IsKept h.new }
-    ensures answer { WillSet (IsBad topic.now qos
+    ensures answer { WillSet (IsBadTopic topic.now qos
         ⊎ CantHave will_table (properties_in h.old.client_ptr.value))
         (IsWill topic.now payload.now qos retain) (properties_in h.old.client_ptr.value)
         (emptied h.old.client_ptr.value) result h.new.client_ptr.value }

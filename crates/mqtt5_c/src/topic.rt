@@ -1,8 +1,8 @@
 //! Calls that judge topics and topic filters. They need no client.
 
-ghost use Rattle.std.specs.Prelude.{◌≡◌, true, false};
+ghost use Rattle.std.specs.Prelude.{◌≡◌, true, false, IfSome, IsNone};
 ghost use Rattle.mqtt5_base.specs.Grammar.{is_among};
-ghost use Rattle.mqtt5_c.specs.Topics.{IsText, IsTopic, IsTopicFilter, Matches};
+ghost use Rattle.mqtt5_c.specs.Topics.{IsTopicName, IsTopic, IsTopicFilter, Matches};
 
 use mqtt5_base::{matches, valid_filter, valid_topic};
 
@@ -13,6 +13,36 @@ fn has_nul(text: &str) -> bool
     text.contains('\0')
 }
 
+/// A topic without wildcards.
+pub(crate) fn topic_name(bytes: &[u8]) -> Option<&str>
+    ensures some { IfSome result (λ t. (t.now ≡ bytes.now) × IsTopicName bytes.now) }
+    ensures none { IsNone result → ¬ (IsTopicName bytes.now) }
+{
+    let Ok(text) = std::str::from_utf8(bytes) else {
+        return None;
+    };
+    if !has_nul(text) && valid_topic(text) {
+        Some(text)
+    } else {
+        None
+    }
+}
+
+/// A topic filter.
+pub(crate) fn topic_filter(bytes: &[u8]) -> Option<&str>
+    ensures some { IfSome result (λ t. (t.now ≡ bytes.now) × IsTopicFilter bytes.now) }
+    ensures none { IsNone result → ¬ (IsTopicFilter bytes.now) }
+{
+    let Ok(text) = std::str::from_utf8(bytes) else {
+        return None;
+    };
+    if !has_nul(text) && valid_filter(text) {
+        Some(text)
+    } else {
+        None
+    }
+}
+
 /// Whether bytes can be the topic of a publish (MQTT 5.0 section 4.7): they are UTF-8, not empty, and have neither U+0000 nor
 /// a wildcard.
 #[unsafe(no_mangle)]
@@ -20,10 +50,10 @@ pub extern "C" fn mqtt5_valid_topic(topic: &[u8]) -> bool
     ensures yes { result ≡ true → IsTopic topic.now }
     ensures no { result ≡ false → ¬ (IsTopic topic.now) }
 {
-    let Ok(topic) = std::str::from_utf8(topic) else {
-        return false;
-    };
-    !topic.is_empty() && !has_nul(topic) && valid_topic(topic)
+    match topic_name(topic) {
+        Some(topic) => !topic.is_empty(),
+        None => false,
+    }
 }
 
 /// Whether bytes can be a topic filter (MQTT 5.0 section 4.7): they are UTF-8, not empty, have no U+0000, each wildcard is all
@@ -33,10 +63,10 @@ pub extern "C" fn mqtt5_valid_filter(filter: &[u8]) -> bool
     ensures yes { result ≡ true → IsTopicFilter filter.now }
     ensures no { result ≡ false → ¬ (IsTopicFilter filter.now) }
 {
-    let Ok(filter) = std::str::from_utf8(filter) else {
-        return false;
-    };
-    !has_nul(filter) && valid_filter(filter)
+    match topic_filter(filter) {
+        Some(_filter) => true,
+        None => false,
+    }
 }
 
 /// Whether a topic matches a topic filter (MQTT 5.0 section 4.7); false where one isn't UTF-8. A topic that starts with `$`

@@ -8,9 +8,9 @@ to_one filter = record { pkid = 0; filters = filter ∷ []; properties = None }
 
 pub returns-clause-ok : goal.returns-clause-ok
 returns-clause-ok c = (
-  c.in-Some.quality,
-  c.in-Ok-new.filter.path,
-  c.in-Some.ensures.number,
-  c.in-Ok-new.ensures.ok.0 ∙ c.in-Ok.ensures.cases.0,
-  c.in-Ok-new-2.ensures.ok ∙ ap to_one c.in-Ok-new.ensures.ok.1,
+  c.in-Some-qos.quality,
+  c.in-Ok.filter.path,
+  c.in-Some-qos.ensures.number,
+  c.in-Ok.ensures.ok.0 ∙ c.in-Some.ensures.some.0,
+  c.in-Ok-new.ensures.ok ∙ ap to_one c.in-Ok.ensures.ok.1,
 )
