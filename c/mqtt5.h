@@ -38,7 +38,8 @@ enum {
     MQTT5_OUT_OF_MEMORY = 12,
     /* The handle has no client. */
     MQTT5_NO_CLIENT = 200,
-    /* A text isn't UTF-8, or a number is out of range. The handle is as before. */
+    /* A text isn't UTF-8, a topic or a topic filter isn't one, a number is out of range, or a packet can't have a
+       property of the list. The handle is as before, but that the lists that the call takes are empty. */
     MQTT5_BAD_ARGUMENT = 201,
     /* mqtt5_client_new of a handle that has a client, which stays. */
     MQTT5_HAS_CLIENT = 202,
@@ -195,8 +196,9 @@ uint32_t mqtt5_client_connect(mqtt5_client *h, const uint8_t *client_id, size_t 
                               bool clean_start, uint32_t session_expiry);
 
 /* The next packet that the program makes takes a list of properties, and empties it, also where it is refused: the next
-   connect, publish, subscribe, unsubscribe, or will. These add to its end; of a property that may stand once the last one counts. A
-   number, a text or binary data, or a user property. A packet that can't have one of them is refused with 201. */
+   connect, publish, subscribe, subscribe_all or unsubscribe, or the will of set_will. These add to its end: a number, a
+   text or binary data, or a user property. Of a property that may stand once the last one counts. A packet that can't
+   have one of them is refused with 201. */
 uint32_t mqtt5_client_add_number(mqtt5_client *h, uint32_t property, uint32_t number);
 uint32_t mqtt5_client_add_bytes(mqtt5_client *h, uint32_t property, const uint8_t *bytes, size_t len);
 uint32_t mqtt5_client_add_pair(mqtt5_client *h, const uint8_t *name, size_t name_len, const uint8_t *value,
@@ -208,6 +210,9 @@ uint32_t mqtt5_client_set_login(mqtt5_client *h, const uint8_t *user_name, size_
                                 const uint8_t *password, size_t password_len);
 uint32_t mqtt5_client_set_will(mqtt5_client *h, const uint8_t *topic, size_t topic_len, const uint8_t *payload,
                                size_t payload_len, uint8_t qos, bool retain);
+
+/* Forgets the login and the will, and empties the lists of properties and of filters. */
+uint32_t mqtt5_client_forget(mqtt5_client *h);
 
 /* Takes a piece of the bytes that came in, cut anywhere. After a refusal the connection must be closed. */
 uint32_t mqtt5_client_receive(mqtt5_client *h, const uint8_t *bytes, size_t len, uint64_t at);

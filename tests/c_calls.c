@@ -160,6 +160,7 @@ static void expect_no_client(mqtt5_client *h, int line) {
         mqtt5_client_add_bytes(h, MQTT5_REASON_STRING, BYTES("a")),
         mqtt5_client_add_pair(h, BYTES("a"), BYTES("b")),
         mqtt5_client_set_login(h, BYTES("a"), BYTES("b")),
+        mqtt5_client_forget(h),
         mqtt5_client_set_will(h, BYTES("a"), BYTES("b"), 1, false),
         mqtt5_client_add_filter(h, BYTES("a"), 1, false, false, 0),
         mqtt5_client_subscribe_all(h, 0),
@@ -367,6 +368,11 @@ static void properties_to_send(void) {
     EXPECT(mqtt5_client_add_pair(&h, BYTES("k"), BYTES("\xff")), MQTT5_BAD_ARGUMENT);
     EXPECT(mqtt5_client_set_login(&h, BYTES("u"), BYTES("\xff")), MQTT5_BAD_ARGUMENT);
     EXPECT(mqtt5_client_set_will(&h, BYTES("w"), BYTES("y"), 3, true), MQTT5_BAD_ARGUMENT);
+
+    EXPECT(mqtt5_client_add_number(&h, MQTT5_RECEIVE_MAXIMUM, 10), MQTT5_DONE);
+    EXPECT(mqtt5_client_forget(&h), MQTT5_DONE);
+    EXPECT(mqtt5_client_connect(&h, BYTES("c"), 60, true, 3600), MQTT5_DONE);
+    OUTPUT(&h, CONNECT);
     EXPECT(mqtt5_client_free(&h), MQTT5_DONE);
     EXPECT(blocks, 0);
 }
@@ -571,6 +577,7 @@ static bool all_calls(mqtt5_client *h, uint32_t *code) {
         && !(*code = mqtt5_client_resume(h, 1))
         && !(*code = mqtt5_client_take_up(h, true, 1, &count))
         && !(*code = mqtt5_client_disconnect(h, 1))
+        && !(*code = mqtt5_client_forget(h))
         && !(*code = mqtt5_client_output(h, buffer, sizeof buffer, &count))
         && !(*code = mqtt5_client_sent(h, count));
     if (!whole) return false;

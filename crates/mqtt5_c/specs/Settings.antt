@@ -1,5 +1,5 @@
 -- What each later Connect says: a login and a will (MQTT 5.0 section 3.1.3).
-use Rattle.std.specs.Prelude.{◌≡◌, ◌⊎◌, ℕ, Bool, List, Option, Some, None}
+use Rattle.std.specs.Prelude.{◌≡◌, ◌⊎◌, ℕ, Bool, List, [], Option, Some, None, IsSome, IfSome}
 use Rattle.std.specs.Str.{IsUtf8}
 use Rattle.mqtt5_base.specs.Views.{qos_number}
 use Rattle.mqtt5_base.specs.declared.quality.QoS.{QoS}
@@ -8,7 +8,8 @@ use Rattle.mqtt5_connect.specs.declared.will.LastWill.{LastWill}
 use Rattle.mqtt5_connect.specs.declared.will.LastWillProperties.{LastWillProperties}
 use Rattle.mqtt5_connect.specs.Connects.{login_of, will_found}
 use Rattle.mqtt5_connect.specs.Rows.{will_table}
-use Rattle.mqtt5_options.specs.Options.{Settings}
+use Rattle.mqtt5_base.specs.Texts.{text_of}
+use Rattle.mqtt5_options.specs.Options.{Settings, defaults}
 use Rattle.mqtt5_holder.specs.declared.holder.Holder.{Holder}
 use Rattle.mqtt5_properties.specs.Gathering.{IsSet}
 use Rattle.mqtt5_c.specs.Asked.{IsDeclined}
@@ -44,3 +45,13 @@ pub data WillSet (Bad : Type 0) (Is : LastWill → Type 0) (properties : List Pr
   Declined : IsDeclined Bad code → after ≡ before → WillSet Bad Is properties before code after
   Put : (will : LastWill) → (set : Option LastWillProperties) → Is will → IsSet will_found will_table properties set
       → Sets (with_will (record will { properties = set })) before code after → WillSet Bad Is properties before code after
+
+-- login, will and both lists are those of a new client; or memory is refused, and all is as before
+abbrev pub Forgot : Holder → ℕ → Holder → Type 0
+Forgot old code new =
+    ((code ≡ 0) × (new ≡ record old { settings = defaults (text_of []) (text_of []) 0; properties = []; filters = [] })) ⊎ ((code ≡ out_of_memory) × (new ≡ old))
+
+-- the same of a handle, which is answered by 200 without a client
+abbrev pub Forgets : Option Holder → ℕ → Option Holder → Type 0
+Forgets None code after = (code ≡ no_client) × (after ≡ None)
+Forgets (Some old) code after = IsSome after × IfSome after (λ new. Forgot old code new)

@@ -1,19 +1,21 @@
-//! Calls that set what each later Connect says: a login and a will.
+//! Calls that set what each later Connect says, a login and a will, and that forget it.
 
 ghost use Rattle.std.specs.Prelude.{◌≡◌, ◌⊎◌, IfOk, IfErr};
 ghost use Rattle.mqtt5_connect.specs.Rows.{will_table};
 ghost use Rattle.mqtt5_c.specs.Asked.{CantHave, IsBadTopic, IsDeclined};
 ghost use Rattle.mqtt5_c.specs.Handles.{IsKept};
 ghost use Rattle.mqtt5_c.specs.Properties.{properties_in, emptied};
-ghost use Rattle.mqtt5_c.specs.Settings.{Sets, with_login, with_will, IsWill, LoginSet, WillSet};
+ghost use Rattle.mqtt5_c.specs.Settings.{Sets, with_login, with_will, IsWill, LoginSet, WillSet, Forgot, Forgets};
 
 use crate::handle::{Handle, put, take};
 use crate::number::{BAD_ARGUMENT, NO_CLIENT, OUT_OF_MEMORY};
 use crate::properties::{gather, take_properties};
 use crate::topic::topic_name;
 use bytes::Bytes;
-use mqtt5_base::qos;
+use mqtt5_base::{Sequence, qos};
 use mqtt5_connect::{LastWill, LastWillProperties};
+use mqtt5_holder::Holder;
+use mqtt5_options::MqttOptions;
 use std::alloc::Global;
 
 /// Sets a login.
@@ -139,4 +141,33 @@ pub extern "C" fn mqtt5_client_set_will(
         Ok(will) => keep_will(alloc, h, will_with(will, set)),
         Err(code) => code,
     }
+}
+
+/// Sets all back to what a new client has.
+fn forget_in(alloc: Global, holder: &mut Holder) -> u32
+    ensures forgot { Forgot holder.old result holder.new }
+    ensures client { holder.new.client ≡ holder.old.client }
+{
+    let Ok(settings) = MqttOptions::new(alloc, "", "", 0) else {
+        return OUT_OF_MEMORY;
+    };
+    holder.settings = settings;
+    holder.properties = Sequence::new(alloc);
+    holder.filters = Sequence::new(alloc);
+    0
+}
+
+/// Forgets the login and the will, and empties the lists of properties and of filters. 0; 12: all is then as before.
+#[unsafe(no_mangle)]
+pub extern "C" fn mqtt5_client_forget(alloc: Global, h: &mut Handle) -> u32
+    requires { IsKept h.old }
+    ensures kept { IsKept h.new }
+    ensures answer { Forgets h.old.client_ptr.value result h.new.client_ptr.value }
+{
+    let Some(mut holder) = take(alloc, h) else {
+        return NO_CLIENT;
+    };
+    let code = forget_in(alloc, &mut holder);
+    put(h, holder);
+    code
 }
