@@ -40,6 +40,7 @@ MOMENT = [c.c_uint64]
 CALLS = {
     "new": [c.c_uint16, c.c_bool],
     "free": [],
+    "forget": [],
     "add_number": [c.c_uint32, c.c_uint32],
     "add_bytes": [c.c_uint32] + BYTES,
     "add_pair": BYTES + BYTES,

@@ -60,6 +60,7 @@ class Session:
 
     def connect(self, settings: Settings):
         """The output becomes the Connect of these settings."""
+        self._done("forget")
         self._done("set_login", *_bytes(settings.username), *_bytes(settings.password))
         will = settings.will
         if will:

@@ -28,6 +28,7 @@ pub(crate) struct EventInfo {
 extern "C" {
     pub(crate) fn mqtt5_client_new(h: *mut Handle, limit: u16, manual_acks: bool) -> u32;
     pub(crate) fn mqtt5_client_free(h: *mut Handle) -> u32;
+    pub(crate) fn mqtt5_client_forget(h: *mut Handle) -> u32;
     pub(crate) fn mqtt5_client_add_number(h: *mut Handle, property: u32, number: u32) -> u32;
     pub(crate) fn mqtt5_client_add_bytes(h: *mut Handle, property: u32, bytes: *const u8, len: usize) -> u32;
     pub(crate) fn mqtt5_client_add_pair(

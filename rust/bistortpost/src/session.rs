@@ -55,6 +55,7 @@ impl Session {
     pub fn connect(&mut self, options: &MqttOptions, clean_start: bool) -> Result<(), Fault> {
         let (username, password) = options.credentials.clone().unwrap_or_default();
         let h = &mut *self.handle;
+        done(unsafe { mqtt5_client_forget(h) })?;
         done(unsafe {
             mqtt5_client_set_login(h, username.as_ptr(), username.len(), password.as_ptr(), password.len())
         })?;
