@@ -446,6 +446,60 @@ static void topics(void) {
     EXPECT(mqtt5_topic_matches(BYTES("\xff"), BYTES("#")), false);
 }
 
+/* The header's names are numbers that the crates know: each property has its kind of value, and each reason code is read in a
+   ConnAck or in a Disconnect (MQTT 5.0 sections 3.2.2.2 and 3.14.2.1). */
+static void names_of_the_header(void) {
+    static const uint32_t numbers[] = {
+        MQTT5_PAYLOAD_FORMAT_INDICATOR, MQTT5_MESSAGE_EXPIRY_INTERVAL, MQTT5_SUBSCRIPTION_IDENTIFIER,
+        MQTT5_SESSION_EXPIRY_INTERVAL, MQTT5_SERVER_KEEP_ALIVE, MQTT5_REQUEST_PROBLEM_INFORMATION,
+        MQTT5_WILL_DELAY_INTERVAL, MQTT5_REQUEST_RESPONSE_INFORMATION, MQTT5_RECEIVE_MAXIMUM,
+        MQTT5_TOPIC_ALIAS_MAXIMUM, MQTT5_TOPIC_ALIAS, MQTT5_MAXIMUM_QOS, MQTT5_RETAIN_AVAILABLE,
+        MQTT5_MAXIMUM_PACKET_SIZE, MQTT5_WILDCARD_SUBSCRIPTION_AVAILABLE,
+        MQTT5_SUBSCRIPTION_IDENTIFIER_AVAILABLE, MQTT5_SHARED_SUBSCRIPTION_AVAILABLE,
+    };
+    static const uint32_t bytes[] = {
+        MQTT5_CONTENT_TYPE, MQTT5_RESPONSE_TOPIC, MQTT5_CORRELATION_DATA, MQTT5_ASSIGNED_CLIENT_IDENTIFIER,
+        MQTT5_AUTHENTICATION_METHOD, MQTT5_AUTHENTICATION_DATA, MQTT5_RESPONSE_INFORMATION,
+        MQTT5_SERVER_REFERENCE, MQTT5_REASON_STRING,
+    };
+    static const uint8_t refusals[] = {
+        MQTT5_REASON_UNSUPPORTED_PROTOCOL_VERSION, MQTT5_REASON_CLIENT_IDENTIFIER_NOT_VALID,
+        MQTT5_REASON_BAD_USER_NAME_OR_PASSWORD, MQTT5_REASON_SERVER_UNAVAILABLE, MQTT5_REASON_BANNED,
+        MQTT5_REASON_BAD_AUTHENTICATION_METHOD,
+    };
+    static const uint8_t ends[] = {
+        MQTT5_REASON_UNSPECIFIED_ERROR, MQTT5_REASON_MALFORMED_PACKET, MQTT5_REASON_PROTOCOL_ERROR,
+        MQTT5_REASON_IMPLEMENTATION_SPECIFIC_ERROR, MQTT5_REASON_NOT_AUTHORIZED, MQTT5_REASON_SERVER_BUSY,
+        MQTT5_REASON_SERVER_SHUTTING_DOWN, MQTT5_REASON_KEEP_ALIVE_TIMEOUT, MQTT5_REASON_SESSION_TAKEN_OVER,
+        MQTT5_REASON_TOPIC_FILTER_INVALID, MQTT5_REASON_TOPIC_NAME_INVALID,
+        MQTT5_REASON_RECEIVE_MAXIMUM_EXCEEDED, MQTT5_REASON_TOPIC_ALIAS_INVALID, MQTT5_REASON_PACKET_TOO_LARGE,
+        MQTT5_REASON_MESSAGE_RATE_TOO_HIGH, MQTT5_REASON_QUOTA_EXCEEDED, MQTT5_REASON_ADMINISTRATIVE_ACTION,
+        MQTT5_REASON_PAYLOAD_FORMAT_INVALID, MQTT5_REASON_RETAIN_NOT_SUPPORTED,
+        MQTT5_REASON_QOS_NOT_SUPPORTED, MQTT5_REASON_USE_ANOTHER_SERVER, MQTT5_REASON_SERVER_MOVED,
+        MQTT5_REASON_SHARED_SUBSCRIPTIONS_NOT_SUPPORTED, MQTT5_REASON_CONNECTION_RATE_EXCEEDED,
+        MQTT5_REASON_MAXIMUM_CONNECT_TIME, MQTT5_REASON_SUBSCRIPTION_IDENTIFIERS_NOT_SUPPORTED,
+        MQTT5_REASON_WILDCARD_SUBSCRIPTIONS_NOT_SUPPORTED,
+    };
+    mqtt5_client h = {0};
+    EXPECT(mqtt5_client_new(&h, 10, false), MQTT5_DONE);
+    for (size_t i = 0; i < sizeof numbers / sizeof *numbers; i++)
+        EXPECT(mqtt5_client_add_number(&h, numbers[i], 1), MQTT5_DONE);
+    for (size_t i = 0; i < sizeof bytes / sizeof *bytes; i++)
+        EXPECT(mqtt5_client_add_bytes(&h, bytes[i], BYTES("a")), MQTT5_DONE);
+    for (size_t i = 0; i < sizeof refusals; i++) {
+        uint8_t connack[] = {0x20, 3, 0, refusals[i], 0};
+        EXPECT(mqtt5_client_receive(&h, connack, sizeof connack, 1), MQTT5_CONNECTION_REFUSED);
+        EXPECT(EVENT(&h, MQTT5_CAME, MQTT5_CONNACK, 0).code, refusals[i]);
+    }
+    for (size_t i = 0; i < sizeof ends; i++) {
+        uint8_t disconnect[] = {0xe0, 2, ends[i], 0};
+        EXPECT(mqtt5_client_receive(&h, disconnect, sizeof disconnect, 1), MQTT5_SERVER_DISCONNECT);
+        EXPECT(EVENT(&h, MQTT5_CAME, MQTT5_DISCONNECT, 0).code, ends[i]);
+    }
+    EXPECT(mqtt5_client_free(&h), MQTT5_DONE);
+    EXPECT(blocks, 0);
+}
+
 static void acks_by_hand(void) {
     mqtt5_client h = {0};
     EXPECT(mqtt5_client_new(&h, 10, true), MQTT5_DONE);
@@ -613,6 +667,7 @@ int main(void) {
     properties_that_came();
     properties_to_send();
     several_filters();
+    names_of_the_header();
     next_ids();
     topics();
     acks_by_hand();
