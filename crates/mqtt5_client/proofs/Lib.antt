@@ -1,4 +1,5 @@
 pub mod Behind
 pub mod Joined
+pub mod Taken
 pub mod Requested
 pub mod TakingUp

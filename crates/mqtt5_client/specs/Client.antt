@@ -20,6 +20,12 @@ use Rattle.mqtt5_client.specs.declared.client.Client.{Client}
 abbrev pub IsReady : Client → Type 0
 IsReady c = NeedsMore (front c.codec.max_incoming_size c.input.items)
 
+-- these bytes came in, and stand at the end of the input of a client that was ready before
+pub record Fed (before : Client) (came : List ℕ) (fed : Client) : Type 0 where
+  pub ready : IsReady before
+  pub grown : fed.input.items ≡ before.input.items ++ came
+  pub same : fed ≡ record before { input = fed.input }
+
 -- a step that is a request
 abbrev pub asking : ℕ → Request → Step
 asking at request = record { at = at; input = inputs.Request request }

@@ -1,7 +1,7 @@
 //! What a request is sent as. It is written before the session takes the request, so what can't be written changes
 //! nothing.
 
-ghost use Rattle.std.specs.Prelude.{◌≡◌, min, Some};
+ghost use Rattle.std.specs.Prelude.{◌≡◌, Some};
 ghost use Rattle.mqtt5_base.specs.Puts.{Writes};
 ghost use Rattle.mqtt5_codec.specs.Packets.{writing_under};
 ghost use Rattle.mqtt5_session.specs.Replies.{made_of};
@@ -14,7 +14,8 @@ use bytes::BytesMut;
 use mqtt5_base::{Error, QoS};
 use mqtt5_codec::{Codec, Packet};
 use mqtt5_control::DisconnectReasonCode;
-use mqtt5_publish::{PingReq, PubAck, PubRec, Publish};
+use mqtt5_drive::{put_puback, put_publish, put_pubrec, put_subscribe, put_unsubscribe};
+use mqtt5_publish::{PingReq, Publish};
 use mqtt5_session::{MqttState, Reply, Request, StateError};
 use mqtt5_subscribe::{Subscribe, Unsubscribe};
 
@@ -43,98 +44,6 @@ fn id_asked(state: &MqttState, qos: QoS, id: u16) -> u16
         QoS::AtMostOnce => id,
         QoS::AtLeastOnce | QoS::ExactlyOnce => id_for(state, id),
     }
-}
-
-/// The refusal of a packet over the outgoing limit.
-#[inline(never)]
-fn over_limit(size: usize, max: u32) -> Error
-    ensures { result ≡ Error.OutgoingPacketTooLarge (min size 4294967295) max }
-{
-    Error::OutgoingPacketTooLarge {
-        pkt_size: u32::try_from(size).unwrap_or(u32::MAX),
-        max,
-    }
-}
-
-pub(crate) fn put_publish(
-    codec: &Codec,
-    output: &mut BytesMut,
-    publish: &Publish,
-) -> Result<(), Error>
-    ensures { Writes (λ _. tt)
-        (writing_under codec.now.max_outgoing_size (Packet.Publish publish.now)) result
-        output.old.items output.new.items }
-{
-    if let Some(max) = codec.max_outgoing_size {
-        let size = publish.size();
-        if size > max as usize {
-            return Err(over_limit(size, max));
-        }
-    }
-    publish.write(output)?;
-    Ok(())
-}
-
-fn put_subscribe(codec: &Codec, output: &mut BytesMut, subscribe: &Subscribe) -> Result<(), Error>
-    ensures { Writes (λ _. tt)
-        (writing_under codec.now.max_outgoing_size (Packet.Subscribe subscribe.now)) result
-        output.old.items output.new.items }
-{
-    if let Some(max) = codec.max_outgoing_size {
-        let size = subscribe.size();
-        if size > max as usize {
-            return Err(over_limit(size, max));
-        }
-    }
-    subscribe.write(output)?;
-    Ok(())
-}
-
-fn put_unsubscribe(
-    codec: &Codec,
-    output: &mut BytesMut,
-    unsubscribe: &Unsubscribe,
-) -> Result<(), Error>
-    ensures { Writes (λ _. tt)
-        (writing_under codec.now.max_outgoing_size (Packet.Unsubscribe unsubscribe.now)) result
-        output.old.items output.new.items }
-{
-    if let Some(max) = codec.max_outgoing_size {
-        let size = unsubscribe.size();
-        if size > max as usize {
-            return Err(over_limit(size, max));
-        }
-    }
-    unsubscribe.write(output)?;
-    Ok(())
-}
-
-fn put_puback(codec: &Codec, output: &mut BytesMut, ack: &PubAck) -> Result<(), Error>
-    ensures { Writes (λ _. tt) (writing_under codec.now.max_outgoing_size (Packet.PubAck ack.now))
-        result output.old.items output.new.items }
-{
-    if let Some(max) = codec.max_outgoing_size {
-        let size = ack.size();
-        if size > max as usize {
-            return Err(over_limit(size, max));
-        }
-    }
-    ack.write(output)?;
-    Ok(())
-}
-
-fn put_pubrec(codec: &Codec, output: &mut BytesMut, ack: &PubRec) -> Result<(), Error>
-    ensures { Writes (λ _. tt) (writing_under codec.now.max_outgoing_size (Packet.PubRec ack.now))
-        result output.old.items output.new.items }
-{
-    if let Some(max) = codec.max_outgoing_size {
-        let size = ack.size();
-        if size > max as usize {
-            return Err(over_limit(size, max));
-        }
-    }
-    ack.write(output)?;
-    Ok(())
 }
 
 /// Writes a release, or a Disconnect.

@@ -1,5 +1,6 @@
 //! A client between the bytes that come in and those that go out.
 
+ghost use Rattle.std.specs.Bool.{Decides};
 ghost use Rattle.std.specs.Prelude.{◌≡◌, ◌≢◌, ◌<◌, ◌⊎◌, ℕ, List, [], ◌∷◌, ◌++◌, length, take, drop, slice_get, Some, Ok, IsOk, IfOk, IfErr, OnOk, OnErr};
 ghost use Rattle.mqtt5_base.specs.declared.error.Error.{Error};
 ghost use Rattle.mqtt5_codec.specs.Packets.{packet_writing};
@@ -10,7 +11,7 @@ ghost use Rattle.mqtt5_session.specs.Session.{fresh};
 ghost use Rattle.mqtt5_drive.specs.declared.run.Step.{Step};
 ghost use Rattle.mqtt5_drive.specs.Run.{piece};
 ghost use Rattle.mqtt5_client.specs.declared.client.Client.{Client};
-ghost use Rattle.mqtt5_client.specs.Client.{IsReady, asking, Runs, Fails, no_limits, given_back};
+ghost use Rattle.mqtt5_client.specs.Client.{IsReady, asking, Fed, Runs, Fails, no_limits, given_back};
 ghost use Rattle.mqtt5_client.specs.Asked.{bytes_asked, Declines};
 ghost use Rattle.mqtt5_drive.specs.Limit.{allowed};
 ghost use Rattle.mqtt5_client.specs.Connecting.{connect_packet, opened, IsRefused};
@@ -19,9 +20,9 @@ ghost use Rattle.mqtt5_client.specs.Again.{SendsAgain, Refuses};
 use crate::again::{frames, given_back};
 use crate::asking::send_request;
 use crate::connecting::{connect_frame, incoming_limit};
-use bytes::{Bytes, BytesMut};
+use bytes::BytesMut;
 use mqtt5_codec::Codec;
-use mqtt5_drive::{Input, Step, drive, empty_needs_more, take_limit};
+use mqtt5_drive::{empty_needs_more, take_input, take_limit, take_piece};
 use mqtt5_options::MqttOptions;
 use mqtt5_session::{Event, MqttState, Request, StateError};
 use std::alloc::Global;
@@ -108,8 +109,58 @@ impl Client {
     {
         let told = self.state.events().len();
         let ended = self.receive_bytes(bytes, at);
-        self.set_broker_limits(told);
+        self.take_limit(told);
         ended
+    }
+
+    /// The same for bytes that came in and that the caller put at the end of the input, as `read_from` of the input does:
+    /// they are taken, and copied no more. It takes no limit from a ConnAck, which `take_limit` does. After a fault the
+    /// input is empty.
+    pub fn take_input(&mut self, at: u64) -> Result<(), StateError>
+        // All is the run's over the client before the bytes came.
+        ensures ok { OnOk result ((before : Client) (came : List ℕ) → Fed before came self.old
+            → Runs before (piece at came ∷ []) [] self.new) }
+        ensures err { IfErr result (λ e. (before : Client) (came : List ℕ)
+            → Fed before came self.old
+            → Fails e before (piece at came ∷ []) [] self.new) }
+        ensures codec { self.new.codec ≡ self.old.codec }
+        ensures lost { OnErr result (self.new.input.items ≡ []) }
+        // So another call may follow.
+        ensures ready { IsReady self.new }
+    {
+        let alloc = *self.input.allocator();
+        match take_input(
+            alloc,
+            &mut self.state,
+            &self.codec,
+            &mut self.input,
+            &mut self.output,
+            at,
+        ) {
+            Ok(()) => Ok(()),
+            Err(fault) => {
+                self.input.clear();
+                empty_needs_more();
+                Err(fault)
+            }
+        }
+    }
+
+    /// Takes the limit on what is sent that the ConnAcks of success say among the events from this place on, as
+    /// `receive` does with the events of its call. Takes no memory.
+    pub fn take_limit(&mut self, from: usize)
+        ensures { self.new
+            ≡ record self.old { codec = allowed (drop from self.old.state.events) self.old.codec } }
+    {
+        take_limit(&mut self.codec, self.state.events(), from);
+    }
+
+    /// Whether bytes and requests may be given to it: its input needs more bytes, as an empty one does. It may be false
+    /// only after a caller changed the input or its limit. Takes no memory.
+    pub fn needs_more(&self) -> bool
+        ensures { Decides result (IsReady self.now) }
+    {
+        self.codec.needs_more(&self.input)
     }
 
     /// Takes a request at a moment: what is to be sent goes to the end of the output. S7 where its packet can't be
@@ -242,29 +293,15 @@ impl Client {
         ensures codec { self.new.codec ≡ self.old.codec }
     {
         let alloc = *self.input.allocator();
-        let Ok(piece) = Bytes::copy_from_slice(alloc, bytes) else {
-            return Err(StateError::OutOfMemory);
-        };
-        let steps = [Step {
-            at,
-            input: Input::Bytes(piece),
-        }];
-        drive(
+        take_piece(
             alloc,
             &mut self.state,
-            &mut self.codec,
+            &self.codec,
             &mut self.input,
             &mut self.output,
-            &steps,
+            bytes,
+            at,
         )
-    }
-
-    /// Keeps the limit of the ConnAcks among the events from this place on.
-    fn set_broker_limits(&mut self, from: usize)
-        ensures { self.new
-            ≡ record self.old { codec = allowed (drop from self.old.state.events) self.old.codec } }
-    {
-        take_limit(&mut self.codec, self.state.events(), from);
     }
 }
 

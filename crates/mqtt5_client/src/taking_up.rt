@@ -15,12 +15,12 @@ ghost use Rattle.mqtt5_client.specs.TakingUp.{is_writable, fitting, unfitting, u
 ghost use Rattle.mqtt5_client.specs.Resending.{all_fitting, Answered, SendsOne, allowed_by};
 
 use crate::again::{frames, given_back};
-use crate::asking::put_publish;
 use crate::client::{Client, renewed};
 use bytes::BytesMut;
 use mqtt5_base::Error;
 use mqtt5_codec::{Codec, Packet};
 use mqtt5_control::{ConnAck, ConnAckProperties, ConnectReturnCode};
+use mqtt5_drive::put_publish;
 use mqtt5_publish::{PubRel, Publish};
 use mqtt5_session::{MqttState, Request, StateError};
 use std::alloc::Global;

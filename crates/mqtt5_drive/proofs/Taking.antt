@@ -69,11 +69,10 @@ pub extends : (codec : Codec) (at : ℕ) (rest : List Turn) (s : Session) (held 
     → run codec (bytes_of at bytes ++ rest) s held ≡ run codec (bytes_of at stream ++ rest) s []
 extends codec at rest s held bytes stream more is = rw is (regroup codec at rest s bytes held more.0 more.1)
 
--- a piece after which the stream still wants more is held
-pub holds : (codec : Codec) (at : ℕ) (rest : List Turn) (s : Session) (o held bytes stream : List ℕ) → NeedsMore (front codec.max_incoming_size held) → stream ≡ held ++ bytes
-    → NeedsMore (front codec.max_incoming_size stream) → LeadsTo s o (run codec (bytes_of at bytes ++ rest) s held) s o (run codec rest s stream)
-holds codec at rest s o held bytes stream more is still =
-    leads_same s o _ _ (extends codec at rest s held bytes stream more is ∙ from_start codec at rest s stream (More still.0) still.1)
+-- a stream that still wants more is held
+pub holds : (codec : Codec) (at : ℕ) (rest : List Turn) (s : Session) (o stream : List ℕ) → NeedsMore (front codec.max_incoming_size stream)
+    → LeadsTo s o (run codec (bytes_of at stream ++ rest) s []) s o (run codec rest s stream)
+holds codec at rest s o stream still = leads_same s o _ _ (from_start codec at rest s stream (More still.0) still.1)
 
 -- a request is one step of the session
 pub asks : (codec : Codec) (at : ℕ) (rest : List Turn) (s : Session) (held : List ℕ) (request : Request)
@@ -95,3 +94,13 @@ pub asked_err : (r : Result Unit StateError) (codec : Codec) (at : ℕ) (s : Ses
     → IfErr r (λ e. (rest : List Turn) → Stops e s o (run codec (Ask at request ∷ rest) s held) t u)
 asked_err (Ok x) codec at s o held request t u goes = tt
 asked_err (Err e) codec at s o held request t u goes = λ rest. stops_on e (leads_same s o _ _ (asks codec at rest s held request)) (goes (λ v. run codec rest v held))
+
+-- bytes that came stand behind those that were held: what is taken is the run over them
+module _ (codec : Codec) (at : ℕ) (s : Session) (o stream : List ℕ) (t : Session) (u left held came : List ℕ) (is : stream ≡ held ++ came) (more : NeedsMore (front codec.max_incoming_size held)) where
+  pub came_ok : ((rest : List Turn) → LeadsTo s o (run codec (bytes_of at stream ++ rest) s []) t u (run codec rest t left))
+      → finish s o (run codec (bytes_of at came ++ []) s held) ≡ record { session = t; output = u; ending = Holds left }
+  came_ok leads = ended codec s o _ t u left (leads_on (leads_same s o _ _ (extends codec at [] s held came stream more is)) (leads []))
+
+  pub came_stops : (e : StateError) → ((rest : List Turn) → Stops e s o (run codec (bytes_of at stream ++ rest) s []) t u)
+      → Stops e s o (run codec (bytes_of at came ++ []) s held) t u
+  came_stops e stops = stops_on e (leads_same s o _ _ (extends codec at [] s held came stream more is)) (stops [])

@@ -1,6 +1,6 @@
 -- The run of a client over pieces of bytes and requests, a byte at a time: what comes in is an ordered stream of bytes
 -- (MQTT 5.0 section 4.2).
-use Rattle.std.specs.Prelude.{◌≡◌, ℕ, List, [], ◌∷◌, ◌++◌, Option, Some, None, Result, Ok, Err}
+use Rattle.std.specs.Prelude.{ℕ, List, [], ◌∷◌, ◌++◌, Option, Some, None, Result, Ok, Err}
 use Rattle.mqtt5_base.specs.declared.error.Error.{Error}
 use Rattle.mqtt5_base.specs.Front.{Front, Bad, More, Whole}
 use Rattle.mqtt5_base.specs.FrontAt.{front}

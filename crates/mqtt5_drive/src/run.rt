@@ -1,13 +1,11 @@
 //! The loop: bytes in pieces and requests go in, frames and events come out.
 
-ghost use Rattle.std.specs.Prelude.{◌≡◌, ◌≢◌, ◌+◌, ℕ, min, Some, List, [], ◌++◌, map, Option, IfErr, OnOk, IsOk};
+ghost use Rattle.std.specs.Prelude.{◌≡◌, ◌≢◌, ◌+◌, ℕ, Some, List, [], ◌∷◌, ◌++◌, map, Option, IfErr, OnOk, IsOk};
 ghost use Rattle.std.specs.List.{concat};
 ghost use Rattle.mqtt5_base.specs.Front.{NeedsMore};
 ghost use Rattle.mqtt5_base.specs.FrontAt.{front};
 ghost use Rattle.mqtt5_base.specs.declared.quality.QoS.TheVariants.{AtMostOnce};
-ghost use Rattle.mqtt5_base.specs.Puts.{Writes};
 ghost use Rattle.mqtt5_codec.specs.declared.codec.Codec.{Codec};
-ghost use Rattle.mqtt5_codec.specs.Packets.{writing_under};
 ghost use Rattle.mqtt5_session.specs.Session.{Session};
 ghost use Rattle.mqtt5_session.specs.Requests.{on_request};
 ghost use Rattle.mqtt5_session.specs.Packets.{on_packet};
@@ -19,8 +17,9 @@ ghost use Rattle.mqtt5_drive.specs.Trace.{Holds, finish, Stops};
 ghost use Rattle.mqtt5_drive.specs.Calls.{calls_of};
 ghost use Rattle.mqtt5_drive.specs.Run.{Turn, bytes_of, of_input, turns, reply_bytes, run, piece};
 
+use crate::put::{put_puback, put_publish};
 use bytes::{Bytes, BytesMut};
-use mqtt5_base::{Error, QoS, copied};
+use mqtt5_base::{QoS, copied};
 use mqtt5_codec::{Codec, Packet};
 use mqtt5_publish::{PubAck, Publish};
 use mqtt5_session::{MqttState, Reply, Request, StateError};
@@ -54,32 +53,6 @@ fn encode(codec: &Codec, output: &mut BytesMut, packet: &Packet) -> Result<(), S
     }
 }
 
-/// The refusal of a packet over the outgoing limit.
-#[inline(never)]
-fn over_limit(size: usize, max: u32) -> Error
-    ensures { result ≡ Error.OutgoingPacketTooLarge (min size 4294967295) max }
-{
-    Error::OutgoingPacketTooLarge {
-        pkt_size: u32::try_from(size).unwrap_or(u32::MAX),
-        max,
-    }
-}
-
-fn put_publish(codec: &Codec, output: &mut BytesMut, publish: &Publish) -> Result<(), Error>
-    ensures { Writes (λ _. tt)
-        (writing_under codec.now.max_outgoing_size (Packet.Publish publish.now)) result
-        output.old.items output.new.items }
-{
-    if let Some(max) = codec.max_outgoing_size {
-        let size = publish.size();
-        if size > max as usize {
-            return Err(over_limit(size, max));
-        }
-    }
-    publish.write(output)?;
-    Ok(())
-}
-
 /// Writes a publish where it stands.
 fn write_publish(codec: &Codec, output: &mut BytesMut, publish: &Publish) -> Result<(), StateError>
     ensures { Replies result (reply_bytes codec.now (Some (Packet.Publish publish.now)))
@@ -89,20 +62,6 @@ fn write_publish(codec: &Codec, output: &mut BytesMut, publish: &Publish) -> Res
         Ok(()) => Ok(()),
         Err(refused) => Err(StateError::from(refused)),
     }
-}
-
-fn put_puback(codec: &Codec, output: &mut BytesMut, ack: &PubAck) -> Result<(), Error>
-    ensures { Writes (λ _. tt) (writing_under codec.now.max_outgoing_size (Packet.PubAck ack.now))
-        result output.old.items output.new.items }
-{
-    if let Some(max) = codec.max_outgoing_size {
-        let size = ack.size();
-        if size > max as usize {
-            return Err(over_limit(size, max));
-        }
-    }
-    ack.write(output)?;
-    Ok(())
 }
 
 /// Writes a PubAck where it stands.
@@ -275,6 +234,32 @@ fn take_frames(
     Ok(())
 }
 
+/// Takes what stands in the input.
+fn take_held(
+    alloc: Global,
+    state: &mut MqttState,
+    codec: &Codec,
+    input: &mut BytesMut,
+    output: &mut BytesMut,
+    at: u64,
+) -> Result<(), StateError>
+    ensures more { OnOk result (NeedsMore (front codec.now.max_incoming_size input.new.items)) }
+    ensures ok { OnOk result ((rest : List Turn)
+        → LeadsTo state.old output.old.items
+        (run codec.now (bytes_of at input.old.items ++ rest) state.old []) state.new
+        output.new.items (run codec.now rest state.new input.new.items)) }
+    ensures err { IfErr result (λ e. (rest : List Turn)
+        → Stops e state.old output.old.items
+        (run codec.now (bytes_of at input.old.items ++ rest) state.old []) state.new
+        output.new.items) }
+{
+    // (most small pieces end no frame, and this makes no room for a packet)
+    if codec.needs_more(input) {
+        return Ok(());
+    }
+    take_frames(alloc, state, codec, input, output, at)
+}
+
 /// One step.
 fn take_step(
     alloc: Global,
@@ -300,11 +285,7 @@ fn take_step(
             let Ok(()) = input.extend_from_slice(piece.as_slice()) else {
                 return Err(StateError::OutOfMemory);
             };
-            // (most small pieces end no frame, and this makes no room for a packet)
-            if codec.needs_more(input) {
-                return Ok(());
-            }
-            take_frames(alloc, state, codec, input, output, step.at)
+            take_held(alloc, state, codec, input, output, step.at)
         }
         Input::Request(request) => send_request(state, codec, output, request, step.at),
     }
@@ -345,6 +326,69 @@ pub fn drive(
         take_step(alloc, state, codec, input, output, step)?;
     }
     Ok(())
+}
+
+/// Takes bytes that came in and were put at the end of the input: goes on as `drive` does on them as one piece, of
+/// which the input has what was held before. With the same faults.
+pub fn take_input(
+    alloc: Global,
+    state: &mut MqttState,
+    codec: &Codec,
+    input: &mut BytesMut,
+    output: &mut BytesMut,
+    at: u64,
+) -> Result<(), StateError>
+    // All is the run's, whichever bytes were held, as long as they needed more, and whichever came.
+    ensures ok { OnOk result ((held came : List ℕ) → input.old.items ≡ held ++ came
+        → NeedsMore (front codec.now.max_incoming_size held)
+        → finish state.old output.old.items
+        (run codec.now (turns (piece at came ∷ [])) state.old held)
+        ≡ record {
+          session = state.new;
+          output = output.new.items;
+          ending = Holds input.new.items;
+        }) }
+    // The fault is the run's, with its session and output, or memory ran out on the way.
+    ensures err { IfErr result (λ e. (held came : List ℕ) → input.old.items ≡ held ++ came
+        → NeedsMore (front codec.now.max_incoming_size held)
+        → Stops e state.old output.old.items
+        (run codec.now (turns (piece at came ∷ [])) state.old held) state.new output.new.items) }
+    // So another call may follow.
+    ensures more { OnOk result (NeedsMore (front codec.now.max_incoming_size input.new.items)) }
+{
+    take_held(alloc, state, codec, input, output, at)
+}
+
+/// Takes one piece of the bytes that came in, which it copies once: as `drive` does on that alone, with the same faults.
+pub fn take_piece(
+    alloc: Global,
+    state: &mut MqttState,
+    codec: &Codec,
+    input: &mut BytesMut,
+    output: &mut BytesMut,
+    bytes: &[u8],
+    at: u64,
+) -> Result<(), StateError>
+    requires { NeedsMore (front codec.now.max_incoming_size input.old.items) }
+    // All is the run's: session, output and the bytes held.
+    ensures ok { OnOk result (finish state.old output.old.items
+        (run codec.now (turns (piece at bytes.now ∷ [])) state.old input.old.items)
+        ≡ record {
+          session = state.new;
+          output = output.new.items;
+          ending = Holds input.new.items;
+        }) }
+    // The fault is the run's, with its session and output, or memory ran out on the way.
+    ensures err { IfErr result (λ e. Stops e state.old output.old.items
+        (run codec.now (turns (piece at bytes.now ∷ [])) state.old input.old.items) state.new
+        output.new.items) }
+    // So another call may follow.
+    ensures more { OnOk result (NeedsMore (front codec.now.max_incoming_size input.new.items)) }
+{
+    let Ok(()) = input.extend_from_slice(bytes) else {
+        return Err(StateError::OutOfMemory);
+    };
+    take_input(alloc, state, codec, input, output, at)
 }
 
 /// `drive` may start on an empty input.
