@@ -6,12 +6,13 @@ use Rattle.std.proofs.KnownBytes.{Appends-trans}
 use Rattle.std.specs.declared.io.Error.{Error}
 use Rattle.mqtt5_inflight.specs.declared.error.StateError.{StateError}
 use Rattle.mqtt5_drive.specs.declared.run.Step.{Step}
-use Rattle.mqtt5_pipe.specs.declared.pipe.Pipe.{Pipe}
-use Rattle.mqtt5_pipe.specs.Pipe.{Runs, Fails, Leaves}
+use Rattle.mqtt5_client.specs.declared.client.Client.{Client}
+use Rattle.mqtt5_client.specs.Client.{Runs, Fails}
+use Rattle.mqtt5_pipe.specs.Pipe.{Leaves}
 use Rattle.mqtt5_pipe.specs.Ends.{ends}
 
 -- what is written goes from the output to sent
-module _ (old mid new : Pipe) (steps : List Step) (sent : List ℕ) (state : new.state ≡ mid.state) (codec : new.codec ≡ mid.codec) (input : new.input ≡ mid.input) (output : mid.output.items ≡ sent ++ new.output.items) where
+module _ (old mid new : Client) (steps : List Step) (sent : List ℕ) (state : new.state ≡ mid.state) (codec : new.codec ≡ mid.codec) (input : new.input ≡ mid.input) (output : mid.output.items ≡ sent ++ new.output.items) where
   wrote_runs : Runs old steps [] mid → Runs old steps sent new
   wrote_runs h = record {
     all = rw (state, input, ← output) h.all;

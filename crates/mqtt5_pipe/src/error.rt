@@ -9,10 +9,10 @@ use std::io;
 /// Why a call of a pipe stops.
 #[derive(Debug, Drop, thiserror::Error)]
 pub enum PipeError {
-    /// The reader failed. Nothing is lost, so another call may follow.
+    /// The reader failed, or there is no memory for what it gives. Nothing is lost.
     #[error("the reader failed: {0}")]
     Read(io::Error),
-    /// The writer failed. What it didn't take stays in the output, so another call may follow.
+    /// The writer failed. What it didn't take stays in the output.
     #[error("the writer failed: {0}")]
     Write(io::Error),
     /// The session, or its codec, stopped; what it had answered is written.

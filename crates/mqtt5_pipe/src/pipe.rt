@@ -1,204 +1,203 @@
-//! A session between a reader and a writer.
+//! A client between a reader and a writer.
 
-ghost use Rattle.std.specs.Prelude.{◌≡◌, ◌≢◌, ◌<◌, ℕ, List, [], ◌∷◌, ◌++◌, length, take, Ok, Err, IfOk, IfErr, OnOk, OnErr};
-ghost use Rattle.std.specs.Bool.{Decides};
+ghost use Rattle.std.specs.Prelude.{◌≡◌, ◌≢◌, ◌<◌, ℕ, List, [], ◌∷◌, ◌++◌, length, drop, IfOk, IfErr, OnOk, OnErr};
 ghost use Rattle.std.specs.IoError.{error_kind};
-ghost use Rattle.std.specs.Io.{ReadsAtMost};
 ghost use Rattle.std.specs.Io.KnownBytes.{Appends, Consumes, IsAtEnd, Keeps};
 ghost use Rattle.std.specs.declared.io.Error.{Error as IoError};
-ghost use Rattle.mqtt5_drive.specs.declared.run.Step.{Step};
 ghost use Rattle.mqtt5_drive.specs.Run.{piece};
-ghost use Rattle.mqtt5_pipe.specs.declared.error.PipeError.{PipeError};
+ghost use Rattle.mqtt5_drive.specs.Limit.{allowed};
+ghost use Rattle.mqtt5_client.specs.Client.{IsReady};
 ghost use Rattle.mqtt5_pipe.specs.declared.error.PipeError.TheVariants as faults;
-ghost use Rattle.mqtt5_pipe.specs.declared.pipe.Pipe.{Pipe};
-ghost use Rattle.mqtt5_pipe.specs.Pipe.{IsReady, Runs, Fails, StopsBy, Leaves, IsRetried};
+ghost use Rattle.mqtt5_pipe.specs.Pipe.{Leaves, IsRetried};
 ghost use Rattle.mqtt5_pipe.specs.Ends.{ends};
 
 use crate::error::PipeError;
-use bytes::{Bytes, BytesMut};
-use mqtt5_base::{Error, check};
-use mqtt5_codec::Codec;
-use mqtt5_drive::{Input, Step, drive, empty_needs_more};
-use mqtt5_session::{MqttState, StateError};
-use std::alloc::Global;
+use bytes::BytesMut;
+use mqtt5_client::{Client, StateError};
+use std::alloc::AllocError;
 use std::io;
 use std::io::{ErrorKind, Read, Write};
 
-/// How many bytes a turn reads at most.
-const PIECE: usize = 8192;
+/// For how many bytes a turn makes room, where there is little.
+const ROOM: usize = 8192;
 
-/// A session, its codec, and the bytes between it and a reader and a writer.
-#[derive(Debug, Drop)]
-pub struct Pipe {
-    /// The session: its events are taken here.
-    pub state: MqttState,
-    /// The limits on packets, which may be set between calls. A pipe stays ready under a greater incoming
-    /// limit, and under any outgoing one; else `is_ready` tells.
-    pub codec: Codec,
-    /// The bytes of a frame that isn't whole yet.
-    pub input: BytesMut,
-    /// What isn't written yet: nothing after Ok, and after a failed write what the writer didn't take.
-    pub output: BytesMut,
-}
+/// With how much room a turn reads at least.
+const LEAST: usize = 1024;
 
-impl Pipe {
-    /// A pipe that has read and written nothing. Takes no memory.
-    pub fn new(alloc: Global, state: MqttState, codec: Codec) -> Pipe
-        ensures state { result.state ≡ state }
-        ensures codec { result.codec ≡ codec }
-        ensures empty { (result.input.items ≡ []) × (result.output.items ≡ []) }
-        ensures ready { IsReady result }
-    {
-        empty_needs_more();
-        Pipe {
-            state,
-            codec,
-            input: BytesMut::new(alloc),
-            output: BytesMut::new(alloc),
-        }
-    }
-
-    /// Whether a call may follow: the input needs more bytes, as an empty one does. Takes no memory.
-    pub fn needs_more(&self) -> bool
-        ensures { Decides result (IsReady self.now) }
-    {
-        match check(self.input.as_slice(), self.codec.max_incoming_size) {
-            Err(Error::InsufficientBytes(_)) => true,
-            _other => false,
-        }
-    }
-
-    /// Runs the steps, and writes the output whole and flushes the writer. A call without steps writes what an
-    /// earlier one left. A writer is called again after a short write and after an interruption; `Write` is its
-    /// failure, also where it takes nothing (`WriteZero`). `Session` is the fault that ends the run, as `drive`
-    /// has it, once all that was answered before is written, and `Unanswered` both.
-    pub fn take_steps<W: Write>(&mut self, steps: &[Step], writer: &mut W) -> Result<(), PipeError>
-        requires ready { IsReady self.old }
-        // What was written is the run's output.
-        ensures carried { (sent : List ℕ) × Appends (W.contents writer.old)
-            (W.contents writer.new) sent
-            × Leaves result self.old steps.now sent self.new }
-        // So another call may follow.
-        ensures ready { OnOk result (IsReady self.new) }
-        ensures codec { self.new.codec ≡ self.old.codec }
-        ensures retried { IfErr result IsRetried }
-        ensures unread { (error : IoError) → result ≢ Err (faults.Read error) }
-    {
-        let taken = self.run(steps);
-        let written = write_out(&mut self.output, writer);
-        join_faults(taken, written)
-    }
-
-    /// Reads what is there, at most 8192 bytes, and goes on as `take_steps` does on this piece; answers how many
-    /// bytes were read, 0 at the end of the stream. A reader is called again after an interruption; `Read` is its
-    /// failure, before which nothing was read.
-    pub fn turn<R: Read, W: Write>(
-        &mut self,
-        at: u64,
-        reader: &mut R,
-        writer: &mut W,
-    ) -> Result<usize, PipeError>
-        requires ready { IsReady self.old }
-        // What was written is the run's output over what was read.
-        ensures carried { (came sent : List ℕ)
-            × Consumes (R.remaining reader.old) (R.remaining reader.new) came
-            × Appends (W.contents writer.old) (W.contents writer.new) sent
-            × Leaves result self.old (piece at came ∷ []) sent self.new
-            × IfOk result (λ count. count ≡ length came) }
-        ensures end { IfOk result (λ count. count ≡ 0 → IsAtEnd (R.remaining reader.new)) }
-        // So another call may follow.
-        ensures ready { OnOk result (IsReady self.new) }
-        ensures codec { self.new.codec ≡ self.old.codec }
-        ensures retried { IfErr result IsRetried }
-    {
-        let mut buffer = [0u8; PIECE];
-        let count = match read_once(reader, &mut buffer) {
-            Ok(count) => count,
-            Err(error) => return Err(PipeError::Read(error)),
-        };
-        let taken = self.receive_bytes(at, &buffer[..count]);
-        let written = write_out(&mut self.output, writer);
-        join_faults(taken, written)?;
-        Ok(count)
-    }
-
-    /// Takes turns, all at one moment, to the end of the stream. The first fault of a turn ends it; `Read` also
-    /// (`TimedOut`) after 2^64 - 1 turns.
-    pub fn run_to_end<R: Read, W: Write>(
-        &mut self,
-        at: u64,
-        reader: &mut R,
-        writer: &mut W,
-    ) -> Result<(), PipeError>
-        requires ready { IsReady self.old }
-        // All that was written is the run's output over all that was read, as if that were one piece.
-        ensures carried { (came sent : List ℕ)
-            × Consumes (R.remaining reader.old) (R.remaining reader.new) came
-            × Appends (W.contents writer.old) (W.contents writer.new) sent
-            × Leaves result self.old (piece at came ∷ []) sent self.new }
-        ensures end { OnOk result (IsAtEnd (R.remaining reader.new)) }
-        // So another call may follow.
-        ensures ready { OnOk result (IsReady self.new) }
-        ensures codec { self.new.codec ≡ self.old.codec }
-        ensures retried { IfErr result IsRetried }
-    {
-        for _ in 0..u64::MAX {
-            if self.turn(at, reader, writer)? == 0 {
-                return Ok(());
-            }
-        }
-        Err(PipeError::Read(ErrorKind::TimedOut.into()))
-    }
-
-    /// Runs the steps, and writes nothing.
-    fn run(&mut self, steps: &[Step]) -> Result<(), StateError>
-        requires { IsReady self.old }
-        ensures ok { OnOk result (Runs self.old steps.now [] self.new) }
-        ensures err { IfErr result (λ e. Fails e self.old steps.now [] self.new) }
-        ensures codec { self.new.codec ≡ self.old.codec }
-    {
-        let alloc = *self.input.allocator();
-        drive(
-            alloc,
-            &mut self.state,
-            &mut self.codec,
-            &mut self.input,
-            &mut self.output,
-            steps,
-        )
-    }
-
-    /// Runs one piece.
-    fn receive_bytes(&mut self, at: u64, bytes: &[u8]) -> Result<(), StateError>
-        requires { IsReady self.old }
-        ensures ok { OnOk result (Runs self.old (piece at bytes.now ∷ []) [] self.new) }
-        ensures err { IfErr result (λ e. Fails e self.old (piece at bytes.now ∷ []) [] self.new) }
-        ensures codec { self.new.codec ≡ self.old.codec }
-    {
-        let alloc = *self.input.allocator();
-        let Ok(piece) = Bytes::copy_from_slice(alloc, bytes) else {
-            return Err(StateError::OutOfMemory);
-        };
-        let steps = [Step {
-            at,
-            input: Input::Bytes(piece),
-        }];
-        self.run(&steps)
+/// Writes the client's output whole, and flushes the writer: what a request or an earlier failure left there. The writer
+/// is called again after a short write and after an interruption; `Write` is its failure, also where it takes nothing
+/// (`WriteZero`).
+pub fn write_output<W: Write>(client: &mut Client, writer: &mut W) -> Result<(), PipeError>
+    // What was written is gone from the front of the output, and nothing else is changed.
+    ensures written { (sent : List ℕ) × Appends (W.contents writer.old) (W.contents writer.new) sent
+        × (client.old.output.items ≡ sent ++ client.new.output.items) }
+    ensures kept { client.new ≡ record client.old { output = client.new.output } }
+    ensures whole { OnOk result (client.new.output.items ≡ []) }
+    // So another call may follow.
+    ensures ready { IsReady client.old → IsReady client.new }
+    ensures fault { IfErr result (λ fault. (error : IoError) × (fault ≡ faults.Write error)) }
+    ensures retried { IfErr result IsRetried }
+{
+    match write_out(&mut client.output, writer) {
+        Ok(()) => Ok(()),
+        Err(error) => Err(PipeError::Write(error)),
     }
 }
 
-/// Reads once, and again after an interruption.
-fn read_once<R: Read>(reader: &mut R, buffer: &mut [u8]) -> io::Result<usize>
-    ensures bound { ReadsAtMost result buffer.new }
-    ensures bytes { IfOk result (λ n. Consumes (R.remaining reader.old) (R.remaining reader.new)
-        (take n buffer.new)) }
-    ensures end { IfOk result (λ n. n ≡ 0 → 0 < length buffer.old
+/// Takes a turn at a moment: reads what is there into the client's input, as much as that has room for, has it taken,
+/// and writes the output as `write_output` does. Answers how many bytes were read, 0 at the end of the stream. A
+/// ConnAck of success says how long a packet may be that is sent from the next call on. The reader is called again
+/// after an interruption. `Read` is its failure, or want of memory for the room (`OutOfMemory`), before which nothing
+/// was read. `Session` is a fault as of `drive`, once all that was answered before is written, `Write` as of
+/// `write_output`, and `Unanswered` both.
+pub fn turn<R: Read, W: Write>(
+    client: &mut Client,
+    at: u64,
+    reader: &mut R,
+    writer: &mut W,
+) -> Result<usize, PipeError>
+    requires ready { IsReady client.old }
+    // What was written is the run's output over what was read.
+    ensures carried { (came sent : List ℕ)
+        × Consumes (R.remaining reader.old) (R.remaining reader.new) came
+        × Appends (W.contents writer.old) (W.contents writer.new) sent
+        × Leaves result client.old (piece at came ∷ []) sent client.new
+        × IfOk result (λ count. count ≡ length came) }
+    ensures end { IfOk result (λ count. count ≡ 0 → IsAtEnd (R.remaining reader.new)) }
+    // The limit is that of the ConnAcks among the events of this call.
+    ensures codec { client.new.codec
+        ≡ allowed (drop (length client.old.state.events) client.new.state.events) client.old.codec }
+    // So another call may follow; after a fault of the session no input is left.
+    ensures ready { IsReady client.new }
+    ensures retried { IfErr result IsRetried }
+{
+    let told = client.state.events().len();
+    let turned = turn_once(client, at, reader, writer);
+    client.take_limit(told);
+    turned
+}
+
+/// Takes turns, all at one moment, to the end of the stream. The first fault of a turn ends it; `Read` also
+/// (`TimedOut`) after 2^64 - 1 turns. The limit of a ConnAck holds from the next call on.
+pub fn run_to_end<R: Read, W: Write>(
+    client: &mut Client,
+    at: u64,
+    reader: &mut R,
+    writer: &mut W,
+) -> Result<(), PipeError>
+    requires ready { IsReady client.old }
+    // All that was written is the run's output over all that was read, as if that were one piece.
+    ensures carried { (came sent : List ℕ)
+        × Consumes (R.remaining reader.old) (R.remaining reader.new) came
+        × Appends (W.contents writer.old) (W.contents writer.new) sent
+        × Leaves result client.old (piece at came ∷ []) sent client.new }
+    ensures end { OnOk result (IsAtEnd (R.remaining reader.new)) }
+    // The limit is that of the ConnAcks among the events of this call.
+    ensures codec { client.new.codec
+        ≡ allowed (drop (length client.old.state.events) client.new.state.events) client.old.codec }
+    // So another call may follow; after a fault of the session no input is left.
+    ensures ready { IsReady client.new }
+    ensures retried { IfErr result IsRetried }
+{
+    let told = client.state.events().len();
+    let ended = turns_to_end(client, at, reader, writer);
+    client.take_limit(told);
+    ended
+}
+
+/// Takes turns to the end of the stream, and no limit.
+fn turns_to_end<R: Read, W: Write>(
+    client: &mut Client,
+    at: u64,
+    reader: &mut R,
+    writer: &mut W,
+) -> Result<(), PipeError>
+    requires ready { IsReady client.old }
+    ensures carried { (came sent : List ℕ)
+        × Consumes (R.remaining reader.old) (R.remaining reader.new) came
+        × Appends (W.contents writer.old) (W.contents writer.new) sent
+        × Leaves result client.old (piece at came ∷ []) sent client.new }
+    ensures end { OnOk result (IsAtEnd (R.remaining reader.new)) }
+    ensures codec { client.new.codec ≡ client.old.codec }
+    ensures ready { IsReady client.new }
+    ensures retried { IfErr result IsRetried }
+{
+    for _ in 0..u64::MAX {
+        if turn_once(client, at, reader, writer)? == 0 {
+            return Ok(());
+        }
+    }
+    Err(PipeError::Read(ErrorKind::TimedOut.into()))
+}
+
+/// Takes a turn, and no limit.
+fn turn_once<R: Read, W: Write>(
+    client: &mut Client,
+    at: u64,
+    reader: &mut R,
+    writer: &mut W,
+) -> Result<usize, PipeError>
+    requires ready { IsReady client.old }
+    ensures carried { (came sent : List ℕ)
+        × Consumes (R.remaining reader.old) (R.remaining reader.new) came
+        × Appends (W.contents writer.old) (W.contents writer.new) sent
+        × Leaves result client.old (piece at came ∷ []) sent client.new
+        × IfOk result (λ count. count ≡ length came) }
+    ensures end { IfOk result (λ count. count ≡ 0 → IsAtEnd (R.remaining reader.new)) }
+    ensures codec { client.new.codec ≡ client.old.codec }
+    ensures ready { IsReady client.new }
+    ensures retried { IfErr result IsRetried }
+{
+    let count = match read_input(&mut client.input, reader) {
+        Ok(count) => count,
+        Err(error) => return Err(PipeError::Read(error)),
+    };
+    let taken = client.take_input(at);
+    let written = write_out(&mut client.output, writer);
+    join_faults(taken, written)?;
+    Ok(count)
+}
+
+/// Reads into the input, once there is room.
+fn read_input<R: Read>(input: &mut BytesMut, reader: &mut R) -> io::Result<usize>
+    ensures bytes { IfOk result (λ n. (came : List ℕ)
+        × Consumes (R.remaining reader.old) (R.remaining reader.new) came
+        × (input.new.items ≡ input.old.items ++ came)
+        × (n ≡ length came)) }
+    ensures end { IfOk result (λ n. n ≡ 0 → IsAtEnd (R.remaining reader.new)) }
+    ensures err { OnErr result (Keeps (R.remaining reader.old) (R.remaining reader.new)) }
+    ensures kept { OnErr result (input.new.items ≡ input.old.items) }
+    ensures retried { IfErr result (λ e. error_kind e ≢ ErrorKind.Interrupted) }
+{
+    make_room(input)?;
+    read_once(input, reader)
+}
+
+fn make_room(input: &mut BytesMut) -> Result<(), AllocError>
+    ensures items { input.new.items ≡ input.old.items }
+    ensures room { OnOk result (0 < input.new.spare) }
+{
+    if input.capacity() - input.len() >= LEAST {
+        return Ok(());
+    }
+    input.reserve(ROOM)?;
+    Ok(())
+}
+
+/// Reads once into the room of the input, and again after an interruption.
+fn read_once<R: Read>(input: &mut BytesMut, reader: &mut R) -> io::Result<usize>
+    ensures bytes { IfOk result (λ n. (came : List ℕ)
+        × Consumes (R.remaining reader.old) (R.remaining reader.new) came
+        × (input.new.items ≡ input.old.items ++ came)
+        × (n ≡ length came)) }
+    ensures end { IfOk result (λ n. 0 < input.old.spare → n ≡ 0
         → IsAtEnd (R.remaining reader.new)) }
     ensures err { OnErr result (Keeps (R.remaining reader.old) (R.remaining reader.new)) }
+    ensures kept { OnErr result (input.new.items ≡ input.old.items) }
     ensures retried { IfErr result (λ e. error_kind e ≢ ErrorKind.Interrupted) }
 {
     for _ in 0..u64::MAX {
-        match reader.read(buffer) {
+        match input.read_from(reader) {
             Ok(count) => return Ok(count),
             Err(error) if error.kind() == ErrorKind::Interrupted => {}
             Err(error) => return Err(error),
@@ -253,17 +252,3 @@ fn join_faults(taken: Result<(), StateError>, written: io::Result<()>) -> Result
         (Err(fault), Err(error)) => Err(PipeError::Unanswered(fault, error)),
     }
 }
-
-/// A law, which does nothing when it is called: two calls of a pipe, one after the other, of which the first
-/// left a run, are one call over the steps of both. Its premises are what the calls ensure.
-pub fn one_call()
-    // Where the second leaves a run, so do both.
-    ensures runs { (p q r : Pipe) (first second : List Step) (sent more : List ℕ)
-        → Runs p first sent q → q.codec ≡ p.codec → Runs q second more r
-        → Runs p (first ++ second) (sent ++ more) r }
-    // Where the second stops by a fault, so do both.
-    ensures stops { (p q r : Pipe) (first second : List Step) (sent more : List ℕ)
-        (fault : PipeError)
-        → Runs p first sent q → q.codec ≡ p.codec → StopsBy fault q second more r
-        → StopsBy fault p (first ++ second) (sent ++ more) r }
-{}

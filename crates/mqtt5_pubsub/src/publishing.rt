@@ -1,16 +1,18 @@
 //! A client that publishes: what it does with the words after `pub`, its input and its output.
 
 ghost use Rattle.std.specs.Prelude.{◌<◌, OnOk};
-ghost use Rattle.mqtt5_pipe.specs.Pipe.{IsReady};
+ghost use Rattle.mqtt5_client.specs.Client.{IsReady};
 
 use crate::words::parse_pub;
 use bytes::Bytes;
 use clap::ArgMatches;
 use mqtt5_base::{QoS, valid_topic};
+use mqtt5_client::Client;
 use mqtt5_codec::Packet;
-use mqtt5_pipe::Pipe;
 use mqtt5_publish::Publish;
-use mqtt5_talk::{TalkError, close, connect_of, new_pipe, open, publish, quality_of, refuse, tell};
+use mqtt5_talk::{
+    TalkError, close, connect_of, new_client, open, publish, quality_of, refuse, tell,
+};
 use std::alloc::Global;
 use std::io::{Read, Write};
 use std::rt::Files;
@@ -92,55 +94,55 @@ fn talk<R: Read, W: Write>(
     writer: &mut W,
 ) -> Result<(), TalkError> {
     let connect = connect_of(task.alloc, matches)?;
-    let mut pipe = new_pipe(task.alloc, false);
-    let ended = talk_over(&mut pipe, &connect, task, content, reader, writer);
-    drop(pipe);
+    let mut client = new_client(task.alloc, false);
+    let ended = talk_over(&mut client, &connect, task, content, reader, writer);
+    drop(client);
     drop(connect);
     ended
 }
 
 fn talk_over<R: Read, W: Write>(
-    pipe: &mut Pipe,
+    client: &mut Client,
     connect: &Packet,
     task: Task<'_>,
     content: &[u8],
     reader: &mut R,
     writer: &mut W,
 ) -> Result<(), TalkError>
-    requires { IsReady pipe.old }
+    requires { IsReady client.old }
 {
-    open(pipe, connect, reader, writer)?;
-    publish_all(pipe, task, content, reader, writer)?;
-    close(pipe, writer)
+    open(client, connect, reader, writer)?;
+    publish_all(client, task, content, reader, writer)?;
+    close(client, writer)
 }
 
 fn publish_all<R: Read, W: Write>(
-    pipe: &mut Pipe,
+    client: &mut Client,
     task: Task<'_>,
     content: &[u8],
     reader: &mut R,
     writer: &mut W,
 ) -> Result<(), TalkError>
-    requires { IsReady pipe.old }
-    ensures { OnOk result (IsReady pipe.new) }
+    requires { IsReady client.old }
+    ensures { OnOk result (IsReady client.new) }
 {
     if task.by_lines {
-        publish_lines(pipe, task, content, reader, writer)
+        publish_lines(client, task, content, reader, writer)
     } else {
-        publish_one(pipe, task, content, reader, writer)
+        publish_one(client, task, content, reader, writer)
     }
 }
 
 /// Publishes each line, without its newline; behind the last newline stands no line.
 fn publish_lines<R: Read, W: Write>(
-    pipe: &mut Pipe,
+    client: &mut Client,
     task: Task<'_>,
     content: &[u8],
     reader: &mut R,
     writer: &mut W,
 ) -> Result<(), TalkError>
-    requires { IsReady pipe.old }
-    ensures { OnOk result (IsReady pipe.new) }
+    requires { IsReady client.old }
+    ensures { OnOk result (IsReady client.new) }
 {
     let mut rest = content;
     for _ in 0..content.len() {
@@ -148,7 +150,7 @@ fn publish_lines<R: Read, W: Write>(
             break;
         }
         let (line, others) = first_line(rest);
-        publish_one(pipe, task, line, reader, writer)?;
+        publish_one(client, task, line, reader, writer)?;
         rest = others;
     }
     Ok(())
@@ -163,17 +165,17 @@ fn first_line(content: &[u8]) -> (&[u8], &[u8]) {
 }
 
 fn publish_one<R: Read, W: Write>(
-    pipe: &mut Pipe,
+    client: &mut Client,
     task: Task<'_>,
     payload: &[u8],
     reader: &mut R,
     writer: &mut W,
 ) -> Result<(), TalkError>
-    requires { IsReady pipe.old }
-    ensures { OnOk result (IsReady pipe.new) }
+    requires { IsReady client.old }
+    ensures { OnOk result (IsReady client.new) }
 {
     let message = message_of(task, payload)?;
-    publish(pipe, message, reader, writer)
+    publish(client, message, reader, writer)
 }
 
 fn message_of(task: Task<'_>, payload: &[u8]) -> Result<Publish, mqtt5_base::Error> {

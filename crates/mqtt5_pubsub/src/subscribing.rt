@@ -1,17 +1,17 @@
 //! A client that subscribes: what it does with the words after `sub`, its input and its output.
 
 ghost use Rattle.std.specs.Prelude.{◌<◌};
-ghost use Rattle.mqtt5_pipe.specs.Pipe.{IsReady};
+ghost use Rattle.mqtt5_client.specs.Client.{IsReady};
 
 use crate::words::parse_sub;
 use clap::ArgMatches;
 use mqtt5_base::{Error, Sequence, valid_filter};
+use mqtt5_client::Client;
 use mqtt5_codec::Packet;
-use mqtt5_pipe::Pipe;
 use mqtt5_subscribe::{Filter, Subscribe};
 use mqtt5_talk::{
-    Lines, Raw, Screen, TalkError, close, connect_of, new_pipe, open, quality_of, receive, refuse,
-    subscribe, tell,
+    Lines, Raw, Screen, TalkError, close, connect_of, new_client, open, quality_of, receive,
+    refuse, subscribe, tell,
 };
 use std::alloc::Global;
 use std::io::{Read, Write};
@@ -121,16 +121,16 @@ fn talk<R: Read, W: Write, S: Screen>(
     let wanted = subscribe_of(alloc, matches)?;
     let count = matches.get_one::<u64>("count").unwrap_or(u64::MAX);
     let connect = connect_of(alloc, matches)?;
-    let mut pipe = new_pipe(alloc, true);
-    let ended = talk_over(&mut pipe, &connect, wanted, count, screen, reader, writer);
-    drop(pipe);
+    let mut client = new_client(alloc, true);
+    let ended = talk_over(&mut client, &connect, wanted, count, screen, reader, writer);
+    drop(client);
     drop(connect);
     ended
 }
 
 /// Shows so many messages.
 fn talk_over<R: Read, W: Write, S: Screen>(
-    pipe: &mut Pipe,
+    client: &mut Client,
     connect: &Packet,
     wanted: Subscribe,
     count: u64,
@@ -138,12 +138,12 @@ fn talk_over<R: Read, W: Write, S: Screen>(
     reader: &mut R,
     writer: &mut W,
 ) -> Result<(), TalkError>
-    requires { IsReady pipe.old }
+    requires { IsReady client.old }
 {
-    open(pipe, connect, reader, writer)?;
-    subscribe(pipe, wanted, writer)?;
-    receive(pipe, screen, count, reader, writer)?;
-    close(pipe, writer)
+    open(client, connect, reader, writer)?;
+    subscribe(client, wanted, writer)?;
+    receive(client, screen, count, reader, writer)?;
+    close(client, writer)
 }
 
 /// The Subscribe that the words ask for.

@@ -39,56 +39,79 @@ fn pub_command<'a>(alloc: Global) -> Result<Command<'a>, AllocError> {
 }
 
 fn message_options<'a>(alloc: Global, command: Command<'a>) -> Result<Command<'a>, AllocError> {
-    let topic = Arg::new(alloc, "topic")
+    let command = command.arg(topic_of_message(alloc))?;
+    let command = command.arg(quality_option(alloc, "Quality of service, else 0"))?;
+    command.arg(retain_option(alloc))
+}
+
+fn topic_of_message<'a>(alloc: Global) -> Arg<'a> {
+    Arg::new(alloc, "topic")
         .short('t')
         .long("topic")
         .value_name("TOPIC")
         .help("Topic of the message")
-        .required(true);
-    let quality = quality_option(alloc, "Quality of service, else 0");
-    let retain = Arg::new(alloc, "retain")
+        .required(true)
+}
+
+fn retain_option<'a>(alloc: Global) -> Arg<'a> {
+    Arg::new(alloc, "retain")
         .short('r')
         .long("retain")
         .help("The broker retains the message")
-        .action(ArgAction::SetTrue);
-    command.arg(topic)?.arg(quality)?.arg(retain)
+        .action(ArgAction::SetTrue)
 }
 
+// An option is made where it is added, so that no way out has several to let go.
 fn content_options<'a>(alloc: Global, command: Command<'a>) -> Result<Command<'a>, AllocError> {
-    let message = Arg::new(alloc, "message")
+    let command = command.arg(message_option(alloc))?;
+    let command = command.arg(file_option(alloc))?;
+    let command = command.arg(lines_option(alloc)?)?;
+    let command = command.arg(empty_option(alloc))?;
+    command.group(content_group(alloc)?)
+}
+
+fn message_option<'a>(alloc: Global) -> Arg<'a> {
+    Arg::new(alloc, "message")
         .short('m')
         .long("message")
         .value_name("MESSAGE")
         .help("The message")
-        .allow_hyphen_values(true);
-    let file = Arg::new(alloc, "file")
+        .allow_hyphen_values(true)
+}
+
+fn file_option<'a>(alloc: Global) -> Arg<'a> {
+    Arg::new(alloc, "file")
         .short('f')
         .long("file")
         .value_name("FILE")
-        .help("A file that is the message");
-    let lines = Arg::new(alloc, "lines")
+        .help("A file that is the message")
+}
+
+fn lines_option<'a>(alloc: Global) -> Result<Arg<'a>, AllocError> {
+    Arg::new(alloc, "lines")
         .short('l')
         .long("lines")
         .help("Each line of the file is a message")
         .action(ArgAction::SetTrue)
         .conflicts_with("message")?
-        .conflicts_with("empty")?;
-    let empty = Arg::new(alloc, "empty")
+        .conflicts_with("empty")
+}
+
+fn empty_option<'a>(alloc: Global) -> Arg<'a> {
+    Arg::new(alloc, "empty")
         .short('n')
         .long("null-message")
         .help("An empty message")
-        .action(ArgAction::SetTrue);
-    let content = ArgGroup::new(alloc, "content")
+        .action(ArgAction::SetTrue)
+}
+
+/// One of the message, the file and the empty message.
+fn content_group<'a>(alloc: Global) -> Result<ArgGroup<'a>, AllocError> {
+    let group = ArgGroup::new(alloc, "content")
         .arg("message")?
         .arg("file")?
-        .arg("empty")?
-        .required(true);
-    command
-        .arg(message)?
-        .arg(file)?
-        .arg(lines)?
-        .arg(empty)?
-        .group(content)
+        .arg("empty")?;
+    Ok(group.required(true))
 }
 
 fn sub_command<'a>(alloc: Global) -> Result<Command<'a>, AllocError> {
@@ -101,45 +124,65 @@ fn sub_command<'a>(alloc: Global) -> Result<Command<'a>, AllocError> {
 }
 
 fn filter_options<'a>(alloc: Global, command: Command<'a>) -> Result<Command<'a>, AllocError> {
-    let filters = Arg::new(alloc, "filters")
+    let command = command.arg(filters_argument(alloc)?)?;
+    let command = command.arg(filter_option(alloc))?;
+    let help = "The greatest quality of service of what comes, else 0";
+    let command = command.arg(quality_option(alloc, help))?;
+    command.arg(count_option(alloc))
+}
+
+fn filters_argument<'a>(alloc: Global) -> Result<Arg<'a>, AllocError> {
+    Arg::new(alloc, "filters")
         .value_name("FILTER")
         .help("Topic filters")
         .num_args(1..)
-        .required_unless_present("topic")?;
-    let topic = Arg::new(alloc, "topic")
+        .required_unless_present("topic")
+}
+
+fn filter_option<'a>(alloc: Global) -> Arg<'a> {
+    Arg::new(alloc, "topic")
         .short('t')
         .long("topic")
         .value_name("FILTER")
         .help("A topic filter; may be given often")
-        .action(ArgAction::Append);
-    let quality = quality_option(
-        alloc,
-        "The greatest quality of service of what comes, else 0",
-    );
-    let count = Arg::new(alloc, "count")
+        .action(ArgAction::Append)
+}
+
+fn count_option<'a>(alloc: Global) -> Arg<'a> {
+    Arg::new(alloc, "count")
         .short('C')
         .value_name("COUNT")
         .help("Ends after so many messages")
-        .value_parser(value_parser!(u64).range(1..));
-    command.arg(filters)?.arg(topic)?.arg(quality)?.arg(count)
+        .value_parser(value_parser!(u64).range(1..))
 }
 
 fn show_options<'a>(alloc: Global, command: Command<'a>) -> Result<Command<'a>, AllocError> {
-    let verbose = Arg::new(alloc, "verbose")
+    let command = command.arg(verbose_option(alloc))?;
+    let command = command.arg(output_option(alloc))?;
+    command.arg(joined_option(alloc)?)
+}
+
+fn verbose_option<'a>(alloc: Global) -> Arg<'a> {
+    Arg::new(alloc, "verbose")
         .short('v')
         .long("verbose")
         .help("Shows the topic and a space before the message")
-        .action(ArgAction::SetTrue);
-    let output = Arg::new(alloc, "output")
+        .action(ArgAction::SetTrue)
+}
+
+fn output_option<'a>(alloc: Global) -> Arg<'a> {
+    Arg::new(alloc, "output")
         .short('o')
         .long("output")
         .value_name("FILE")
-        .help("Writes messages to this file, as they are");
-    let joined = Arg::new(alloc, "joined")
+        .help("Writes messages to this file, as they are")
+}
+
+fn joined_option<'a>(alloc: Global) -> Result<Arg<'a>, AllocError> {
+    Arg::new(alloc, "joined")
         .short('N')
         .long("no-newline")
         .help("Writes no newline behind a message to the file")
         .action(ArgAction::SetTrue)
-        .requires_arg("output")?;
-    command.arg(verbose)?.arg(output)?.arg(joined)
+        .requires_arg("output")
 }

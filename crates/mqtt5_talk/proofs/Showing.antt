@@ -3,7 +3,7 @@ use Rattle.std.proofs.Common.{◌≡◌, ℕ, ◌+◌, Bool, List, [], ◌∷◌
 use Rattle.std.specs.Prelude.{Option}
 use Rattle.std.proofs.Math.Seq.{take-suc}
 use Rattle.mqtt5_publish.specs.declared.publish.Publish.{Publish}
-use Rattle.mqtt5_pipe.specs.declared.pipe.Pipe.{Pipe}
+use Rattle.mqtt5_client.specs.declared.client.Client.{Client}
 use Rattle.mqtt5_talk.specs.declared.error.TalkError.{TalkError}
 use Rattle.mqtt5_talk.specs.Conversation.{Saying, SendsOnly, Talked}
 use Rattle.mqtt5_talk.proofs.Talking.{then_told, then_talked, as_talked}
@@ -37,19 +37,19 @@ escaped_more is_text old line new bytes i below so_far grown =
     grown ∙ ap (λ (l : List ℕ). l ++ last) so_far ∙ append_assoc old (escaped is_text (take i bytes)) last ∙ ap (λ (l : List ℕ). old ++ l) (sym step)
 
 -- one message, or none, and its ack
-module _ (x y : Option (List ℕ)) (p q : Pipe) where
+module _ (x y : Option (List ℕ)) (p q : Client) where
   pub one_acked : (m : Publish) → SendsOnly x y p (ack_of m) q → SendsOnly x y p (acks_of (m ∷ [])) q
   one_acked m t = subst (λ (said : List Saying). SendsOnly x y p said q) (sym (append-nil (ack_of m))) t
 
-module _ (x y z : Option (List ℕ)) (p q r : Pipe) (ps qs : List Publish) where
+module _ (x y z : Option (List ℕ)) (p q r : Client) (ps qs : List Publish) where
   pub more_told : SendsOnly x y p (acks_of ps) q → SendsOnly y z q (acks_of qs) r → SendsOnly x z p (acks_of (ps ++ qs)) r
   more_told t u = subst (λ (said : List Saying). SendsOnly x z p said r) (sym (acks_append ps qs)) (then_told x y z p q r (acks_of ps) (acks_of qs) t u)
 
-module _ (a b : Option (List ℕ)) (x y z : Option (List ℕ)) (p q r : Pipe) (ps qs : List Publish) where
+module _ (a b : Option (List ℕ)) (x y z : Option (List ℕ)) (p q r : Client) (ps qs : List Publish) where
   pub more_talked : Talked a b x y p (acks_of ps) q → SendsOnly y z q (acks_of qs) r → Talked a b x z p (acks_of (ps ++ qs)) r
   more_talked t u = subst (λ (said : List Saying). Talked a b x z p said r) (sym (acks_append ps qs)) (then_talked a b b x y z p q r (acks_of ps) (acks_of qs) t (as_talked b y z q r (acks_of qs) u))
 
-module _ (a b c : Option (List ℕ)) (x y z : Option (List ℕ)) (p q r : Pipe) (ps : List Publish) where
+module _ (a b c : Option (List ℕ)) (x y z : Option (List ℕ)) (p q r : Client) (ps : List Publish) where
   pub silence_talked : Talked a b x y p (acks_of ps) q → Talked b c y z q [] r → Talked a c x z p (acks_of ps) r
   silence_talked t u = subst (λ (said : List Saying). Talked a c x z p said r) (append-nil (acks_of ps)) (then_talked a b c x y z p q r (acks_of ps) [] t u)
 

@@ -1,69 +1,63 @@
--- A talk with a broker: calls of a pipe, one after another, between which the user takes events out (MQTT 5.0 section 4.2).
-use Rattle.std.specs.Prelude.{◌≡◌, ℕ, ◌⊎◌, List, [], ◌∷◌, ◌++◌, drop, Option, Ok}
+-- A talk with a broker: turns and requests of a client, one after another, between which the user takes events out (MQTT 5.0
+-- section 4.2).
+use Rattle.std.specs.Prelude.{◌≡◌, ◌⊎◌, ℕ, List, [], ◌∷◌, ◌++◌, length, drop, Option, Ok}
 use Rattle.std.specs.Io.KnownBytes.{Appends, Consumes}
 use Rattle.mqtt5_codec.specs.declared.packet.Packet.{Packet}
 use Rattle.mqtt5_codec.specs.Packets.{writing_under}
 use Rattle.mqtt5_inflight.specs.declared.event.Request.{Request}
-use Rattle.mqtt5_drive.specs.declared.run.Step.{Step}
-use Rattle.mqtt5_drive.specs.declared.run.Input.{Input}
-use Rattle.mqtt5_drive.specs.declared.run.Input.TheVariants as inputs
+use Rattle.mqtt5_inflight.specs.declared.error.StateError.{StateError}
+use Rattle.mqtt5_drive.specs.Run.{piece}
 use Rattle.mqtt5_drive.specs.Limit.{allowed}
+use Rattle.mqtt5_client.specs.declared.client.Client.{Client}
+use Rattle.mqtt5_client.specs.Client.{asking, Runs}
+use Rattle.mqtt5_client.specs.Asked.{Declines}
 use Rattle.mqtt5_pipe.specs.declared.error.PipeError.{PipeError}
-use Rattle.mqtt5_pipe.specs.declared.pipe.Pipe.{Pipe}
-use Rattle.mqtt5_pipe.specs.Pipe.{Runs, StopsBy}
+use Rattle.mqtt5_pipe.specs.Pipe.{StopsBy}
 
 -- what the user says: a Connect (3.1), or a request of the session
 pub data Saying : Type 0 where
   Opens : (connect : Packet) → Saying
   Asks : (request : Request) → Saying
 
--- the requests among steps
-abbrev pub sayings_of_input : Input → List Saying
-sayings_of_input (inputs.Bytes piece) = []
-sayings_of_input (inputs.Request request) = Asks request ∷ []
+-- what a turn leaves over these bytes of the broker: a run of the client, or a fault of one; the limit on packets is that of
+-- the ConnAcks that came (3.2.2.3.6)
+abbrev pub Heard : Client → ℕ → List ℕ → List ℕ → Client → Type 0
+Heard p at bytes sent q =
+    (Runs p (piece at bytes ∷ []) sent q ⊎ ((fault : PipeError) × StopsBy fault p (piece at bytes ∷ []) sent q))
+    × (q.codec ≡ allowed (drop (length p.state.events) q.state.events) p.codec)
 
-abbrev pub sayings_in : List Step → List Saying
-sayings_in [] = []
-sayings_in (step ∷ steps) = sayings_of_input step.input ++ sayings_in steps
+-- what a request leaves: a run of the client, or it is declined, and nothing is to be sent for it
+abbrev pub Requested : Client → ℕ → Request → Client → Type 0
+Requested p at request q =
+    (Runs p (asking at request ∷ []) [] q ⊎ ((e : StateError) × Declines e p.codec request at p.state q.state × (q.output.items ≡ p.output.items)))
+    × (q.input.items ≡ p.input.items) × (q.codec ≡ p.codec)
 
--- the bytes of the broker among steps
-abbrev pub bytes_of_input : Input → List ℕ
-bytes_of_input (inputs.Bytes piece) = piece
-bytes_of_input (inputs.Request request) = []
-
-abbrev pub bytes_in : List Step → List ℕ
-bytes_in [] = []
-bytes_in (step ∷ steps) = bytes_of_input step.input ++ bytes_in steps
-
--- what a call of a pipe leaves: a run of its session over these steps, or a fault of one, and the limits on packets
-abbrev pub Left : Pipe → List Step → List ℕ → Pipe → Type 0
-Left p steps sent q = (Runs p steps sent q ⊎ ((fault : PipeError) × StopsBy fault p steps sent q)) × (q.codec ≡ p.codec)
-
--- From the pipe p: this was said, these bytes came and these were sent, and a pipe is left. All that is sent is what the
+-- From the client p: this was said, these bytes came and these were sent, and a client is left. All that is sent is what the
 -- session answers to what was said and to what came, and the Connect.
-pub data Conversation (p : Pipe) : List Saying → List ℕ → List ℕ → Pipe → Type 0 where
+pub data Conversation (p : Client) : List Saying → List ℕ → List ℕ → Client → Type 0 where
   -- nothing yet
   Begins : Conversation p [] [] [] p
-  -- a call of the pipe
-  Calls : (said : List Saying) (came sent more : List ℕ) (q r : Pipe) (steps : List Step)
-      → Conversation p said came sent q → Left q steps more r → Conversation p (said ++ sayings_in steps) (came ++ bytes_in steps) (sent ++ more) r
+  -- a turn
+  Hears : (said : List Saying) (came sent bytes more : List ℕ) (q r : Client) (at : ℕ)
+      → Conversation p said came sent q → Heard q at bytes more r → Conversation p said (came ++ bytes) (sent ++ more) r
+  -- a request
+  Requests : (said : List Saying) (came sent : List ℕ) (q r : Client) (at : ℕ) (request : Request)
+      → Conversation p said came sent q → Requested q at request r → Conversation p (said ++ Asks request ∷ []) came sent r
+  -- the front of the output is written
+  Writes : (said : List Saying) (came sent more : List ℕ) (q r : Client)
+      → Conversation p said came sent q → q.output.items ≡ more ++ r.output.items → r ≡ record q { output = r.output }
+      → Conversation p said came (sent ++ more) r
   -- the Connect's bytes are put at the end of the output
-  Puts : (said : List Saying) (came sent bytes : List ℕ) (q r : Pipe) (connect : Packet)
+  Puts : (said : List Saying) (came sent bytes : List ℕ) (q r : Client) (connect : Packet)
       → Conversation p said came sent q → writing_under q.codec.max_outgoing_size connect ≡ Ok bytes
       → r.output.items ≡ q.output.items ++ bytes → r ≡ record q { output = r.output }
       → Conversation p (said ++ Opens connect ∷ []) came sent r
-  -- room is made in the output
-  Makes : (said : List Saying) (came sent : List ℕ) (q r : Pipe)
-      → Conversation p said came sent q → r.output.items ≡ q.output.items → r ≡ record q { output = r.output } → Conversation p said came sent r
   -- the oldest event is taken out
-  Takes : (said : List Saying) (came sent : List ℕ) (q : Pipe)
+  Takes : (said : List Saying) (came sent : List ℕ) (q : Client)
       → Conversation p said came sent q → Conversation p said came sent (record q { state = record q.state { events = drop 1 q.state.events } })
-  -- the broker's limit on packets is taken, as the ConnAcks among the events say (3.2.2.3.6)
-  Limits : (said : List Saying) (came sent : List ℕ) (q : Pipe) (from : ℕ)
-      → Conversation p said came sent q → Conversation p said came sent (record q { codec = allowed (drop from q.state.events) q.codec })
 
 -- a talk over a reader, of which is known what was left before and after, and a writer, of which is known what it held
-pub record Talked (unread left held written : Option (List ℕ)) (p : Pipe) (said : List Saying) (q : Pipe) : Type 0 where
+pub record Talked (unread left held written : Option (List ℕ)) (p : Client) (said : List Saying) (q : Client) : Type 0 where
   pub came : List ℕ
   pub sent : List ℕ
   pub consumed : Consumes unread left came
@@ -71,7 +65,7 @@ pub record Talked (unread left held written : Option (List ℕ)) (p : Pipe) (sai
   pub talks : Conversation p said came sent q
 
 -- a talk in which nothing was read
-pub record SendsOnly (held written : Option (List ℕ)) (p : Pipe) (said : List Saying) (q : Pipe) : Type 0 where
+pub record SendsOnly (held written : Option (List ℕ)) (p : Client) (said : List Saying) (q : Client) : Type 0 where
   pub sent : List ℕ
   pub appended : Appends held written sent
   pub talks : Conversation p said [] sent q

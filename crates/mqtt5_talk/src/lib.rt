@@ -12,7 +12,7 @@ mod words;
 
 pub use error::TalkError;
 pub use opening::{close, open};
-pub use program::{new_pipe, refuse, refuse_words, tell};
+pub use program::{new_client, refuse, refuse_words, tell};
 pub use publishing::publish;
 pub use show::{Lines, Raw, Screen};
 pub use subscribing::{receive, subscribe};

@@ -1,85 +1,83 @@
 //! How a connection is opened and ended.
 
-ghost use Rattle.std.specs.Prelude.{◌≡◌, ◌⊎◌, List, [], ◌∷◌, OnOk, Ok, true};
+ghost use Rattle.std.specs.Prelude.{◌≡◌, ◌⊎◌, List, [], ◌∷◌, length, drop, OnOk, Ok, true, false};
 ghost use Rattle.mqtt5_inflight.specs.declared.event.Request.TheVariants.{Disconnect};
 ghost use Rattle.mqtt5_drive.specs.Limit.{allowed};
-ghost use Rattle.mqtt5_pipe.specs.Pipe.{IsReady};
+ghost use Rattle.mqtt5_client.specs.Client.{IsReady};
 ghost use Rattle.mqtt5_talk.specs.Answers.{IsAnswered};
-ghost use Rattle.mqtt5_talk.specs.Conversation.{Saying, Opens, Asks, sayings_in, bytes_in, Talked, SendsOnly};
+ghost use Rattle.mqtt5_talk.specs.Conversation.{Saying, Opens, Asks, Conversation, Talked, SendsOnly};
 
 use crate::error::TalkError;
+use mqtt5_client::{Client, Event, MqttState, Request};
 use mqtt5_codec::Packet;
-use mqtt5_drive::{Input, Step, take_limit};
-use mqtt5_pipe::{Pipe, PipeError};
-use mqtt5_session::{Event, MqttState, Request};
+use mqtt5_pipe::{PipeError, turn, write_output};
 use std::io::{ErrorKind, Read, Write};
 
-/// Writes the Connect and takes turns until the ConnAck, whose limit on packets holds from then on. The pipe's
-/// session must be new. `Refused` where the ConnAck is a refusal, `OutOfTurn` where another packet comes first,
-/// `Ended`, `Closed`; `Failed` of a Connect that can't be written, and as of a turn.
+/// Writes the Connect and takes turns until the ConnAck, whose limit on packets holds from then on. The client's
+/// session must be new. `Refused` where the ConnAck is a refusal, `OutOfTurn` where another packet comes first or an
+/// event waits before the call, `Ended`, `Closed`; `Failed` of a Connect that can't be written, and as of a turn.
 pub fn open<R: Read, W: Write>(
-    pipe: &mut Pipe,
+    client: &mut Client,
     connect: &Packet,
     reader: &mut R,
     writer: &mut W,
 ) -> Result<(), TalkError>
-    requires ready { IsReady pipe.old }
+    requires ready { IsReady client.old }
     // Nothing is said but the Connect.
     ensures talked { (said : List Saying) × Talked (R.remaining reader.old) (R.remaining reader.new)
-        (W.contents writer.old) (W.contents writer.new) pipe.old said pipe.new
+        (W.contents writer.old) (W.contents writer.new) client.old said client.new
         × ((said ≡ []) ⊎ (said ≡ Opens connect.now ∷ []))
         × OnOk result (said ≡ Opens connect.now ∷ []) }
-    ensures answered { OnOk result (IsAnswered pipe.new.state.events) }
-    ensures limit { OnOk result (pipe.new.codec ≡ allowed pipe.new.state.events pipe.old.codec) }
+    ensures answered { OnOk result (IsAnswered client.new.state.events) }
+    ensures limit { OnOk result
+        (client.new.codec ≡ allowed client.new.state.events client.old.codec) }
     // So another call may follow.
-    ensures ready { OnOk result (IsReady pipe.new) }
+    ensures ready { OnOk result (IsReady client.new) }
 {
-    pipe.codec.write(connect, &mut pipe.output)?;
-    start(pipe, reader, writer)?;
-    limit_output(pipe);
-    Ok(())
-}
-
-/// Takes the limit of the ConnAck.
-fn limit_output(pipe: &mut Pipe)
-    ensures { pipe.new ≡ record pipe.old { codec = allowed pipe.old.state.events pipe.old.codec } }
-{
-    take_limit(&mut pipe.codec, pipe.state.events(), 0);
+    if !client.state.events().is_empty() {
+        return Err(TalkError::OutOfTurn);
+    }
+    client.codec.write(connect, &mut client.output)?;
+    start(client, reader, writer)
 }
 
 /// Writes what is in the output, and takes turns until the ConnAck.
 fn start<R: Read, W: Write>(
-    pipe: &mut Pipe,
+    client: &mut Client,
     reader: &mut R,
     writer: &mut W,
 ) -> Result<(), TalkError>
-    requires ready { IsReady pipe.old }
+    requires ready { IsReady client.old }
+    requires none { client.old.state.events ≡ [] }
     ensures talked { Talked (R.remaining reader.old) (R.remaining reader.new)
-        (W.contents writer.old) (W.contents writer.new) pipe.old [] pipe.new }
-    ensures answered { OnOk result (IsAnswered pipe.new.state.events) }
-    ensures codec { pipe.new.codec ≡ pipe.old.codec }
-    ensures ready { OnOk result (IsReady pipe.new) }
+        (W.contents writer.old) (W.contents writer.new) client.old [] client.new }
+    ensures answered { OnOk result (IsAnswered client.new.state.events) }
+    ensures limit { OnOk result
+        (client.new.codec ≡ allowed client.new.state.events client.old.codec) }
+    ensures ready { OnOk result (IsReady client.new) }
 {
-    say(pipe, &[], writer)?;
-    await_answer(pipe, reader, writer)
+    send(client, writer)?;
+    await_answer(client, reader, writer)
 }
 
 /// Takes turns until the ConnAck.
 fn await_answer<R: Read, W: Write>(
-    pipe: &mut Pipe,
+    client: &mut Client,
     reader: &mut R,
     writer: &mut W,
 ) -> Result<(), TalkError>
-    requires ready { IsReady pipe.old }
+    requires ready { IsReady client.old }
+    requires none { client.old.state.events ≡ [] }
     ensures talked { Talked (R.remaining reader.old) (R.remaining reader.new)
-        (W.contents writer.old) (W.contents writer.new) pipe.old [] pipe.new }
-    ensures answered { OnOk result (IsAnswered pipe.new.state.events) }
-    ensures codec { pipe.new.codec ≡ pipe.old.codec }
-    ensures ready { OnOk result (IsReady pipe.new) }
+        (W.contents writer.old) (W.contents writer.new) client.old [] client.new }
+    ensures answered { OnOk result (IsAnswered client.new.state.events) }
+    ensures limit { OnOk result
+        (client.new.codec ≡ allowed client.new.state.events client.old.codec) }
+    ensures ready { OnOk result (IsReady client.new) }
 {
     for _ in 0..u64::MAX {
-        hear(pipe, reader, writer)?;
-        if is_answered(&pipe.state)? {
+        hear(client, reader, writer)?;
+        if is_answered(&client.state)? {
             return Ok(());
         }
     }
@@ -88,7 +86,8 @@ fn await_answer<R: Read, W: Write>(
 
 /// Whether the ConnAck came.
 fn is_answered(state: &MqttState) -> Result<bool, TalkError>
-    ensures { result ≡ Ok true → IsAnswered state.now.events }
+    ensures answered { result ≡ Ok true → IsAnswered state.now.events }
+    ensures none { result ≡ Ok false → state.now.events ≡ [] }
 {
     match state.events().front() {
         None => Ok(false),
@@ -104,68 +103,72 @@ pub(crate) fn endless() -> TalkError {
 
 /// Takes a turn; `Closed` at the end of the stream.
 pub(crate) fn hear<R: Read, W: Write>(
-    pipe: &mut Pipe,
+    client: &mut Client,
     reader: &mut R,
     writer: &mut W,
 ) -> Result<(), TalkError>
-    requires ready { IsReady pipe.old }
+    requires ready { IsReady client.old }
     ensures talked { Talked (R.remaining reader.old) (R.remaining reader.new)
-        (W.contents writer.old) (W.contents writer.new) pipe.old [] pipe.new }
-    ensures codec { pipe.new.codec ≡ pipe.old.codec }
-    ensures ready { OnOk result (IsReady pipe.new) }
+        (W.contents writer.old) (W.contents writer.new) client.old [] client.new }
+    ensures codec { client.new.codec
+        ≡ allowed (drop (length client.old.state.events) client.new.state.events) client.old.codec }
+    ensures ready { OnOk result (IsReady client.new) }
 {
-    match pipe.turn(0, reader, writer) {
+    match turn(client, 0, reader, writer) {
         Ok(0) => Err(TalkError::Closed),
         Ok(_count) => Ok(()),
         Err(fault) => Err(TalkError::from(fault)),
     }
 }
 
-/// Takes steps.
-pub(crate) fn say<W: Write>(
-    pipe: &mut Pipe,
-    steps: &[Step],
-    writer: &mut W,
-) -> Result<(), TalkError>
-    requires ready { IsReady pipe.old }
-    ensures told { bytes_in steps.now ≡ []
-        → SendsOnly (W.contents writer.old) (W.contents writer.new) pipe.old
-        (sayings_in steps.now) pipe.new }
-    ensures codec { pipe.new.codec ≡ pipe.old.codec }
-    ensures ready { OnOk result (IsReady pipe.new) }
+/// Writes the output.
+fn send<W: Write>(client: &mut Client, writer: &mut W) -> Result<(), TalkError>
+    ensures told { SendsOnly (W.contents writer.old) (W.contents writer.new) client.old []
+        client.new }
+    ensures kept { client.new ≡ record client.old { output = client.new.output } }
+    ensures ready { IsReady client.old → IsReady client.new }
 {
-    match pipe.take_steps(steps, writer) {
+    match write_output(client, writer) {
         Ok(()) => Ok(()),
         Err(fault) => Err(TalkError::from(fault)),
     }
 }
 
-/// Asks the session for one thing.
-pub(crate) fn ask<W: Write>(
-    pipe: &mut Pipe,
-    request: Request,
-    writer: &mut W,
-) -> Result<(), TalkError>
-    requires ready { IsReady pipe.old }
-    ensures told { SendsOnly (W.contents writer.old) (W.contents writer.new) pipe.old
-        (Asks request ∷ []) pipe.new }
-    ensures ready { OnOk result (IsReady pipe.new) }
+/// Hands a request in.
+fn hand_in(client: &mut Client, request: Request) -> Result<(), TalkError>
+    requires { IsReady client.old }
+    ensures said { Conversation client.old (Asks request ∷ []) [] [] client.new }
+    ensures ready { IsReady client.new }
 {
-    let steps = [Step {
-        at: 0,
-        input: Input::Request(request),
-    }];
-    say(pipe, &steps, writer)
+    match client.request(request, 0) {
+        Ok(()) => Ok(()),
+        Err(fault) => Err(TalkError::from(PipeError::from(fault))),
+    }
 }
 
-/// Ends the connection by a Disconnect: the broker then forgets the will. `Failed`, as of a call of the pipe.
-pub fn close<W: Write>(pipe: &mut Pipe, writer: &mut W) -> Result<(), TalkError>
-    requires ready { IsReady pipe.old }
-    // Nothing is said but the Disconnect.
-    ensures told { SendsOnly (W.contents writer.old) (W.contents writer.new) pipe.old
-        (Asks Disconnect ∷ []) pipe.new }
-    // So another call may follow.
-    ensures ready { OnOk result (IsReady pipe.new) }
+/// Asks the session for one thing.
+pub(crate) fn ask<W: Write>(
+    client: &mut Client,
+    wanted: Request,
+    writer: &mut W,
+) -> Result<(), TalkError>
+    requires ready { IsReady client.old }
+    ensures told { SendsOnly (W.contents writer.old) (W.contents writer.new) client.old
+        (Asks wanted ∷ []) client.new }
+    ensures ready { OnOk result (IsReady client.new) }
 {
-    ask(pipe, Request::Disconnect, writer)
+    hand_in(client, wanted)?;
+    send(client, writer)
+}
+
+/// Ends the connection by a Disconnect: the broker then forgets the will. `Failed`, as of a request and of a write.
+pub fn close<W: Write>(client: &mut Client, writer: &mut W) -> Result<(), TalkError>
+    requires ready { IsReady client.old }
+    // Nothing is said but the Disconnect.
+    ensures told { SendsOnly (W.contents writer.old) (W.contents writer.new) client.old
+        (Asks Disconnect ∷ []) client.new }
+    // So another call may follow.
+    ensures ready { OnOk result (IsReady client.new) }
+{
+    ask(client, Request::Disconnect, writer)
 }

@@ -1,32 +1,25 @@
 //! What both programs do alike.
 
 ghost use Rattle.std.specs.Prelude.{◌≡◌, ◌⊎◌, [], cond, is_ok};
-ghost use Rattle.mqtt5_pipe.specs.Pipe.{IsReady};
+ghost use Rattle.mqtt5_client.specs.Client.{IsReady};
 ghost use Rattle.mqtt5_session.specs.Session.{fresh};
 
 use crate::error::TalkError;
-use mqtt5_codec::Codec;
-use mqtt5_pipe::Pipe;
-use mqtt5_session::MqttState;
+use mqtt5_client::Client;
 use std::alloc::Global;
 use std::io;
 use std::io::Write;
 
-/// A pipe of a new session of one id, without limits on packets. Takes no memory.
-pub fn new_pipe(alloc: Global, manual_acks: bool) -> Pipe
+/// A client of a new session of one id, without limits on packets. Takes no memory.
+pub fn new_client(alloc: Global, manual_acks: bool) -> Client
     ensures state { result.state ≡ fresh 1 manual_acks }
     ensures empty { (result.input.items ≡ []) × (result.output.items ≡ []) }
     ensures ready { IsReady result }
 {
-    let state = match MqttState::new(alloc, 1, manual_acks) {
-        Ok(state) => state,
+    match Client::new(alloc, 1, manual_acks) {
+        Ok(client) => client,
         Err(_) => unreachable!(),
-    };
-    let codec = Codec {
-        max_incoming_size: None,
-        max_outgoing_size: None,
-    };
-    Pipe::new(alloc, state, codec)
+    }
 }
 
 /// Tells the log what the parser says of the words, and answers the program's exit status: 0 where help was asked for, 2

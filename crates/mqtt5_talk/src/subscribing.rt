@@ -4,7 +4,7 @@ ghost use Rattle.std.specs.Prelude.{◌≡◌, ◌+◌, ◌≤◌, List, [], ◌
 ghost use Rattle.std.specs.Bool.{Decides};
 ghost use Rattle.mqtt5_publish.specs.declared.publish.Publish.{Publish as Message};
 ghost use Rattle.mqtt5_inflight.specs.declared.event.Request.TheVariants.{Subscribe as OfSubscribe};
-ghost use Rattle.mqtt5_pipe.specs.Pipe.{IsReady};
+ghost use Rattle.mqtt5_client.specs.Client.{IsReady};
 ghost use Rattle.mqtt5_talk.specs.Conversation.{Asks, Talked, SendsOnly};
 ghost use Rattle.mqtt5_talk.specs.Answers.{ack_of, acks_of, asked_by, ShowsAll, Showed, IsSuccess};
 
@@ -12,86 +12,85 @@ use crate::error::TalkError;
 use crate::opening::{ask, endless, hear};
 use crate::show::Screen;
 use mqtt5_base::QoS;
+use mqtt5_client::{Client, Event, Request};
 use mqtt5_codec::Packet;
-use mqtt5_pipe::Pipe;
 use mqtt5_publish::{PubAck, PubRec, Publish};
-use mqtt5_session::{Event, Request};
 use mqtt5_subscribe::{SubAck, Subscribe, SubscribeReasonCode};
 use std::io::{Read, Write};
 
-/// Sends a Subscribe. Its SubAck is judged by `receive`. `Failed`, as of a call of the pipe.
+/// Sends a Subscribe. Its SubAck is judged by `receive`. `Failed`, as of a request and of a write.
 pub fn subscribe<W: Write>(
-    pipe: &mut Pipe,
+    client: &mut Client,
     subscribe: Subscribe,
     writer: &mut W,
 ) -> Result<(), TalkError>
-    requires ready { IsReady pipe.old }
+    requires ready { IsReady client.old }
     // Nothing is said but the Subscribe.
-    ensures told { SendsOnly (W.contents writer.old) (W.contents writer.new) pipe.old
-        (Asks (OfSubscribe subscribe) ∷ []) pipe.new }
+    ensures told { SendsOnly (W.contents writer.old) (W.contents writer.new) client.old
+        (Asks (OfSubscribe subscribe) ∷ []) client.new }
     // So another call may follow.
-    ensures ready { OnOk result (IsReady pipe.new) }
+    ensures ready { OnOk result (IsReady client.new) }
 {
-    ask(pipe, Request::Subscribe(subscribe), writer)
+    ask(client, Request::Subscribe(subscribe), writer)
 }
 
-/// Shows each message that came and comes, and then acknowledges it, until so many were shown. The pipe's session must
+/// Shows each message that came and comes, and then acknowledges it, until so many were shown. The client's session must
 /// leave the acks to the user. `NotSubscribed` where a SubAck refuses a filter, `Unshown`, `Ended`, `Closed`; `Failed`,
 /// as of a turn. What came with a fault is shown and not acknowledged.
 pub fn receive<R: Read, W: Write, S: Screen>(
-    pipe: &mut Pipe,
+    client: &mut Client,
     screen: &mut S,
     count: u64,
     reader: &mut R,
     writer: &mut W,
 ) -> Result<(), TalkError>
-    requires ready { IsReady pipe.old }
+    requires ready { IsReady client.old }
     // Nothing is said but the acks of messages that were shown; in the end those are all that were, and so many.
     ensures talked { (ps : List Message) × Talked (R.remaining reader.old) (R.remaining reader.new)
-        (W.contents writer.old) (W.contents writer.new) pipe.old (acks_of ps) pipe.new
+        (W.contents writer.old) (W.contents writer.new) client.old (acks_of ps) client.new
         × Showed S.shows screen.old ps
         × OnOk result (ShowsAll S.shows screen.old ps screen.new × (length ps ≡ count)) }
     // So another call may follow.
-    ensures ready { OnOk result (IsReady pipe.new) }
+    ensures ready { OnOk result (IsReady client.new) }
 {
     let mut left = count;
     for _ in 0..u64::MAX {
-        left = show_events(pipe, screen, left, writer)?;
+        left = show_events(client, screen, left, writer)?;
         if left == 0 {
             return Ok(());
         }
-        hear_messages(pipe, screen, left, reader, writer)?;
+        hear_messages(client, screen, left, reader, writer)?;
     }
     Err(endless())
 }
 
 /// Takes a turn. After a fault it shows what came before that.
 fn hear_messages<R: Read, W: Write, S: Screen>(
-    pipe: &mut Pipe,
+    client: &mut Client,
     screen: &mut S,
     count: u64,
     reader: &mut R,
     writer: &mut W,
 ) -> Result<(), TalkError>
-    requires ready { IsReady pipe.old }
+    requires ready { IsReady client.old }
     ensures talked { Talked (R.remaining reader.old) (R.remaining reader.new)
-        (W.contents writer.old) (W.contents writer.new) pipe.old [] pipe.new }
+        (W.contents writer.old) (W.contents writer.new) client.old [] client.new }
     ensures screen { OnOk result (screen.new ≡ screen.old) }
-    ensures ready { OnOk result (IsReady pipe.new) }
+    ensures ready { OnOk result (IsReady client.new) }
 {
-    match hear(pipe, reader, writer) {
+    match hear(client, reader, writer) {
         Ok(()) => Ok(()),
         Err(trouble) => {
-            show_rest(pipe, screen, count);
+            show_rest(client, screen, count);
             Err(trouble)
         }
     }
 }
 
 /// Shows the messages among the events, and acknowledges none.
-fn show_rest<S: Screen>(pipe: &Pipe, screen: &mut S, count: u64) {
+fn show_rest<S: Screen>(client: &Client, screen: &mut S, count: u64) {
     let mut left = count;
-    for event in pipe.state.events() {
+    for event in client.state.events() {
         if left > 0 && is_shown(event, screen) {
             left -= 1;
         }
@@ -108,46 +107,46 @@ fn is_shown<S: Screen>(event: &Event, screen: &mut S) -> bool {
 
 /// Takes events out until none is left or so many messages were shown, and answers how many are still to come.
 fn show_events<W: Write, S: Screen>(
-    pipe: &mut Pipe,
+    client: &mut Client,
     screen: &mut S,
     count: u64,
     writer: &mut W,
 ) -> Result<u64, TalkError>
-    requires ready { IsReady pipe.old }
+    requires ready { IsReady client.old }
     ensures told { (ps : List Message) × SendsOnly (W.contents writer.old)
-        (W.contents writer.new) pipe.old (acks_of ps) pipe.new
+        (W.contents writer.new) client.old (acks_of ps) client.new
         × Showed S.shows screen.old ps
         × IfOk result (λ left. ShowsAll S.shows screen.old ps screen.new
         × (length ps + left ≡ count)) }
-    ensures ready { OnOk result (IsReady pipe.new) }
+    ensures ready { OnOk result (IsReady client.new) }
 {
     let mut left = count;
     for _ in 0..u64::MAX {
-        if left == 0 || pipe.state.events().is_empty() {
+        if left == 0 || client.state.events().is_empty() {
             break;
         }
-        left -= take_first(pipe, screen, writer)?;
+        left -= take_first(client, screen, writer)?;
     }
     Ok(left)
 }
 
 /// Takes the oldest event out; answers 1 where it is a message, which was shown, else 0.
 fn take_first<W: Write, S: Screen>(
-    pipe: &mut Pipe,
+    client: &mut Client,
     screen: &mut S,
     writer: &mut W,
 ) -> Result<u64, TalkError>
-    requires ready { IsReady pipe.old }
+    requires ready { IsReady client.old }
     ensures told { (ps : List Message) × SendsOnly (W.contents writer.old)
-        (W.contents writer.new) pipe.old (acks_of ps) pipe.new
+        (W.contents writer.new) client.old (acks_of ps) client.new
         × Showed S.shows screen.old ps
         × IfOk result (λ shown. ShowsAll S.shows screen.old ps screen.new × (length ps ≡ shown)) }
     ensures most { IfOk result (λ shown. shown ≤ 1) }
-    ensures ready { OnOk result (IsReady pipe.new) }
+    ensures ready { OnOk result (IsReady client.new) }
 {
-    match pipe.state.pop_event() {
+    match client.state.pop_event() {
         Some(event) => {
-            let taken = take_event(pipe, &event, screen, writer);
+            let taken = take_event(client, &event, screen, writer);
             drop(event);
             taken
         }
@@ -156,21 +155,21 @@ fn take_first<W: Write, S: Screen>(
 }
 
 fn take_event<W: Write, S: Screen>(
-    pipe: &mut Pipe,
+    client: &mut Client,
     event: &Event,
     screen: &mut S,
     writer: &mut W,
 ) -> Result<u64, TalkError>
-    requires ready { IsReady pipe.old }
+    requires ready { IsReady client.old }
     ensures told { (ps : List Message) × SendsOnly (W.contents writer.old)
-        (W.contents writer.new) pipe.old (acks_of ps) pipe.new
+        (W.contents writer.new) client.old (acks_of ps) client.new
         × Showed S.shows screen.old ps
         × IfOk result (λ shown. ShowsAll S.shows screen.old ps screen.new × (length ps ≡ shown)) }
     ensures most { IfOk result (λ shown. shown ≤ 1) }
-    ensures ready { OnOk result (IsReady pipe.new) }
+    ensures ready { OnOk result (IsReady client.new) }
 {
     match event {
-        Event::Incoming(Packet::Publish(publish)) => show(pipe, publish, screen, writer),
+        Event::Incoming(Packet::Publish(publish)) => show(client, publish, screen, writer),
         Event::Incoming(Packet::SubAck(ack)) => judge(ack),
         _other => Ok(0),
     }
@@ -196,36 +195,36 @@ fn is_success(code: SubscribeReasonCode) -> bool
 
 /// Shows a message, and acknowledges it; answers 1.
 fn show<W: Write, S: Screen>(
-    pipe: &mut Pipe,
+    client: &mut Client,
     publish: &Publish,
     screen: &mut S,
     writer: &mut W,
 ) -> Result<u64, TalkError>
-    requires ready { IsReady pipe.old }
+    requires ready { IsReady client.old }
     ensures told { (ps : List Message) × SendsOnly (W.contents writer.old)
-        (W.contents writer.new) pipe.old (acks_of ps) pipe.new
+        (W.contents writer.new) client.old (acks_of ps) client.new
         × Showed S.shows screen.old ps
         × IfOk result (λ shown. ShowsAll S.shows screen.old ps screen.new × (length ps ≡ shown)) }
     ensures most { IfOk result (λ shown. shown ≤ 1) }
-    ensures ready { OnOk result (IsReady pipe.new) }
+    ensures ready { OnOk result (IsReady client.new) }
 {
     screen.show(publish)?;
-    acknowledge(pipe, publish, writer)?;
+    acknowledge(client, publish, writer)?;
     Ok(1)
 }
 
 fn acknowledge<W: Write>(
-    pipe: &mut Pipe,
+    client: &mut Client,
     publish: &Publish,
     writer: &mut W,
 ) -> Result<(), TalkError>
-    requires ready { IsReady pipe.old }
-    ensures told { SendsOnly (W.contents writer.old) (W.contents writer.new) pipe.old
-        (ack_of publish.now) pipe.new }
-    ensures ready { OnOk result (IsReady pipe.new) }
+    requires ready { IsReady client.old }
+    ensures told { SendsOnly (W.contents writer.old) (W.contents writer.new) client.old
+        (ack_of publish.now) client.new }
+    ensures ready { OnOk result (IsReady client.new) }
 {
     match ack_for(publish) {
-        Some(request) => ask(pipe, request, writer),
+        Some(request) => ask(client, request, writer),
         None => Ok(()),
     }
 }

@@ -1,14 +1,13 @@
 //! A client, call by call.
 
 ghost use Rattle.std.specs.Prelude.{OnOk};
-ghost use Rattle.std.specs.Bool.{Decides};
 ghost use Rattle.mqtt5_client.specs.Client.{IsReady};
 
-use super::drive::{drives, takes_limit};
+use super::drive::drives;
 use super::first::{hear, publish_first};
 use super::{add_bytes, bytes_of, cut, number_of, publish_hi, quality_of};
 use bytes::Bytes;
-use mqtt5_base::{Error, QoS, check};
+use mqtt5_base::{Error, QoS};
 use mqtt5_client::{Client, Event, Request, StateError, error_number, state_error_number};
 use mqtt5_connect::LastWill;
 use mqtt5_options::MqttOptions;
@@ -20,7 +19,8 @@ use std::time::Duration;
 /// A client of ten ids. `connect` is of client "c" with keep alive 60 and clean start (3.1); `parts` adds a will of "m" to
 /// "w", QoS 1, retain, and the login "u", "p"; `again` has no clean start, a keep alive of 70,000 seconds and a maximum
 /// packet size of 100 (3.1.2.11.4). `ask` is a publish of "hi" to "a/b" at a quality of service (3.3), `hear` a piece that
-/// comes in, and `clean` asks again for what is given back last. `limits` are those of what comes in and what is sent,
+/// comes in, `fill` one that is put at the end of the input, and `limit` takes the limit of the ConnAcks that were told;
+/// `clean` asks again for what is given back last. `limits` are those of what comes in and what is sent,
 /// `maxima` those of publishes in flight and of topic aliases.
 const CALLS: &str = "connect; output=100E00044D5154540502003C00000163; limits=None/None
 connect:parts; output=101B00044D51545405EE003C000001630000017700016D000175000170; limits=None/None
@@ -32,6 +32,10 @@ ask:2; hear:50020001; hear:70020001; output=340A0003612F62000100686962020001; id
 hear:3005000161; hear:0078; output=-; ids=0
 hear:3207000161; hear:00070078; output=40020007; ids=0
 hear:340700016100070078; hear:62020007; output=5002000770020007; ids=0
+hear:3207; fill:00016100070078; held=-; output=40020007; ids=0
+fill:3207000161; held=3207000161; output=-; fill:00070078; held=-; output=40020007; ids=0
+fill:200E00000B210002270000000B220003; maxima=2/3; limits=None/None; limit; limits=None/Some(11)
+fill:40020005=S2(5); held=-
 ask:1; sent:0; output=320A0003612F620001006869
 ask:1; sent:5; output=2F620001006869
 ask:1; sent:12; output=-
@@ -129,6 +133,13 @@ fn hears(alloc: Global, client: &mut Client, digits: &str) -> Result<(), StateEr
     client.receive(piece.as_slice(), 5)
 }
 
+/// Puts bytes at the end of the input, and has them taken.
+fn fills(alloc: Global, client: &mut Client, digits: &str) -> Result<(), StateError> {
+    let piece = bytes_of(alloc, digits)?;
+    client.input.extend_from_slice(piece.as_slice())?;
+    client.take_input(5)
+}
+
 /// What a clean gives back last.
 fn given_back(client: &mut Client) -> Result<Option<Request>, StateError>
     ensures { OnOk result (IsReady client.new) }
@@ -147,16 +158,6 @@ fn cleans(client: &mut Client) -> Result<(), StateError> {
     }
 }
 
-/// Whether the input needs more bytes, as an empty one does.
-fn is_ready(client: &Client) -> bool
-    ensures { Decides result (IsReady client.now) }
-{
-    match check(client.input.as_slice(), client.codec.max_incoming_size) {
-        Err(Error::InsufficientBytes(_)) => true,
-        _other => false,
-    }
-}
-
 /// Makes a call.
 fn calls(alloc: Global, client: &mut Client, name: &str, argument: &str) -> Result<(), StateError>
     requires { IsReady client.old }
@@ -166,6 +167,7 @@ fn calls(alloc: Global, client: &mut Client, name: &str, argument: &str) -> Resu
         "ask" => asks(alloc, client, argument),
         "big" | "long" => asks_large(alloc, client, name, argument),
         "hear" => hears(alloc, client, argument),
+        "fill" => fills(alloc, client, argument),
         "resume" => client.resume(4),
         "clean" => cleans(client),
         _drive => drives(alloc, client, argument),
@@ -268,11 +270,11 @@ fn takes(alloc: Global, client: &mut Client, call: &str, text: &mut String) -> R
     let (name, argument) = cut(call, ':');
     match name {
         "in" | "out" | "sent" => sets(client, name, number_of(argument)?),
-        "limit" => takes_limit(client),
+        "limit" => client.take_limit(0),
         "event" => add_event(client, text)?,
         "take" => add_taken(client, argument, text)?,
         "output" | "held" | "ids" | "maxima" | "limits" => looks(alloc, client, name, text)?,
-        _call if is_ready(client) => makes(alloc, client, name, argument, text)?,
+        _call if client.needs_more() => makes(alloc, client, name, argument, text)?,
         _call => text.push('!')?,
     }
     Ok(())

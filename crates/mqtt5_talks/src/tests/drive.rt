@@ -7,7 +7,7 @@ use super::{bytes_of, publish_hi, quality_of};
 use bytes::Bytes;
 use mqtt5_base::Error;
 use mqtt5_client::{Client, Request, StateError};
-use mqtt5_drive::{Input, Step, drive, take_limit};
+use mqtt5_drive::{Input, Step, drive};
 use std::alloc::Global;
 use std::test::Fail;
 
@@ -78,10 +78,6 @@ pub(super) fn drives(alloc: Global, client: &mut Client, words: &str) -> Result<
     };
     drop(steps);
     ended
-}
-
-pub(super) fn takes_limit(client: &mut Client) {
-    take_limit(&mut client.codec, client.state.events(), 0);
 }
 
 #[test]

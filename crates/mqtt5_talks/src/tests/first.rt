@@ -3,9 +3,7 @@
 ghost use Rattle.mqtt5_client.specs.Client.{IsReady};
 
 use bytes::Bytes;
-use mqtt5_base::QoS;
-use mqtt5_client::{Client, Request, StateError};
-use mqtt5_publish::Publish;
+use mqtt5_client::{Client, Publish, QoS, Request, StateError};
 use std::alloc::Global;
 
 /// Publishes "hi" to "a/b" at QoS 1; `client.output()` is then what to send.

@@ -3,7 +3,6 @@
 use mqtt5_base::front_laws;
 use mqtt5_client::one_run;
 use mqtt5_drive::{cutting, empty_needs_more, twice};
-use mqtt5_pipe::one_call;
 use std::test::Fail;
 
 #[test]
@@ -12,7 +11,6 @@ fn laws(_rt: HostRuntime) -> Result<(), Fail> {
     cutting();
     empty_needs_more();
     twice();
-    one_call();
     one_run();
     Ok(())
 }

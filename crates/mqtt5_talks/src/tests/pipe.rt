@@ -1,16 +1,14 @@
-//! A pipe between a reader and a writer that give and take little, are interrupted, and fail.
+//! A client between a reader and a writer that give and take little, are interrupted, and fail.
 
 ghost use Rattle.std.specs.Io.{ReadsAtMost};
-ghost use Rattle.mqtt5_pipe.specs.Pipe.{IsReady};
+ghost use Rattle.mqtt5_client.specs.Client.{IsReady};
 
 use super::talk::talks;
 use super::{add_bytes, cut, number_of, publish_hi, quality_of};
 use mqtt5_base::Error;
-use mqtt5_codec::Codec;
-use mqtt5_drive::{Input, Step};
-use mqtt5_pipe::{Pipe, PipeError};
-use mqtt5_session::{MqttState, Request};
-use mqtt5_talk::{Lines, TalkError, new_pipe};
+use mqtt5_client::{Client, Request};
+use mqtt5_pipe::{PipeError, run_to_end, turn, write_output};
+use mqtt5_talk::{Lines, TalkError, new_client};
 use std::alloc::{AllocError, Global};
 use std::io;
 use std::io::{ErrorKind, Read, Write};
@@ -18,23 +16,25 @@ use std::test::Fail;
 
 /// `from` has what each read gives between `/`: a piece, `!` for an interruption, `x` for a failure. `room` is a new writer
 /// that takes one byte at a time, is interrupted before each write and each flush, and fails once it has so many; `idle`
-/// one that takes nothing. `steps` is one call with a publish of "hi" to "a/b" (3.3), or without steps; `turn` and `end`
+/// one that takes nothing. `write` asks for a publish of "hi" to "a/b" at a quality of service (3.3), or for nothing, and writes; `turn` and `end`
 /// are calls that read. `written` is what the writer has, `left` what isn't written. The rows have a publish and its ack
 /// (3.4) in pieces; three turns; a publish of QoS 1 under id 7 and the ack of id 5, which awaits none; that publish alone
-/// with writers and readers that fail; and limits that are set later.
+/// with writers and readers that fail; limits that are set later, and one of a ConnAck (3.2.2.3.6).
 const CALLS: &str =
-    "pipe; steps:1; from:!/40/!/02/!/00/!/01/!; end; written=320A0003612F620001006869; ids=0; events=2
-pipe; steps:1; from:!/400200/!/01/!; end; written=320A0003612F620001006869; ids=0; events=2
-pipe; steps:1; from:!/40020001/!; end; written=320A0003612F620001006869; ids=0; events=2
+    "pipe; write:1; from:!/40/!/02/!/00/!/01/!; end; written=320A0003612F620001006869; ids=0; events=2
+pipe; write:1; from:!/400200/!/01/!; end; written=320A0003612F620001006869; ids=0; events=2
+pipe; write:1; from:!/40020001/!; end; written=320A0003612F620001006869; ids=0; events=2
 pipe; from:!/320700016100/!/070078/!; turn=6; turn=3; turn=0
 pipe; from:!/32/!/07/!/00/!/01/!/61/!/00/!/07/!/00/!/78/!/40/!/02/!/00/!/05/!; end=Received unsolicited ack pkid: 5; written=40020007; left=-
 pipe; from:!/32070001610007007840020005/!; end=Received unsolicited ack pkid: 5; written=40020007; left=-
 pipe; room:2; from:!/32070001610007007840020005/!; end=Received unsolicited ack pkid: 5, BrokenPipe; written=4002; left=0007
 pipe; idle; from:!/320700016100070078/!; end=writes: WriteZero; written=-; left=40020007
-pipe; room:2; from:!/320700016100070078/!; turn=writes: BrokenPipe; written=4002; room:100; steps; written=0007
+pipe; room:2; from:!/320700016100070078/!; turn=writes: BrokenPipe; written=4002; room:100; write; written=0007
 pipe; from:!/3207/!/0001/!/61/!/x; end=reads: ConnectionReset; from:!/0007/!/0078/!; end; written=40020007
-pipe; out:11; steps:1=Cannot send packet of size '12'. It's greater than the broker's maximum packet size of: '11'; written=-
-pipe; out:12; steps:1; written=320A0003612F620001006869
+pipe; out:11; write:1=Cannot send packet of size '12'. It's greater than the broker's maximum packet size of: '11'; written=-
+pipe; out:12; write:1; written=320A0003612F620001006869
+pipe; from:2008000005270000000A; turn=10; write:1=Cannot send packet of size '12'. It's greater than the broker's maximum packet size of: '10'; written=-
+pipe; from:2008000005270000000A; end; write:1=Cannot send packet of size '12'. It's greater than the broker's maximum packet size of: '10'; written=-
 pipe; from:!/320A000361/!; end; ready=true; in:3; ready=false
 ";
 
@@ -110,7 +110,7 @@ impl Write for Sink {
     }
 }
 
-/// What stands round a pipe.
+/// What stands round a client.
 #[derive(Drop)]
 pub(super) struct Ends {
     pub source: Source,
@@ -130,79 +130,78 @@ fn new_ends(alloc: Global) -> Ends {
     }
 }
 
-fn publish_step(alloc: Global, quality: &str) -> Result<Step, Error> {
-    let publish = publish_hi(alloc, quality_of(quality))?;
-    Ok(Step {
-        at: 0,
-        input: Input::Request(Request::Publish(publish)),
-    })
-}
-
-fn asks(alloc: Global, pipe: &mut Pipe, sink: &mut Sink, quality: &str) -> Result<(), TalkError>
-    requires { IsReady pipe.old }
+fn asks(alloc: Global, client: &mut Client, quality: &str) -> Result<(), TalkError>
+    requires { IsReady client.old }
+    ensures { IsReady client.new }
 {
-    let steps = [publish_step(alloc, quality)?];
-    let taken = pipe.take_steps(&steps, sink);
-    drop(steps);
-    Ok(taken?)
+    let publish = publish_hi(alloc, quality_of(quality))?;
+    match client.request(Request::Publish(publish), 0) {
+        Ok(()) => Ok(()),
+        Err(fault) => Err(TalkError::from(PipeError::from(fault))),
+    }
 }
 
-/// Takes no step, or a publish.
-fn takes_steps(
+/// Asks for a publish, where there is a quality of service, and writes.
+fn writes(
     alloc: Global,
-    pipe: &mut Pipe,
+    client: &mut Client,
     sink: &mut Sink,
     quality: &str,
 ) -> Result<(), TalkError>
-    requires { IsReady pipe.old }
+    requires { IsReady client.old }
 {
-    if quality.is_empty() {
-        return Ok(pipe.take_steps(&[], sink)?);
+    if !quality.is_empty() {
+        asks(alloc, client, quality)?;
     }
-    asks(alloc, pipe, sink, quality)
+    Ok(write_output(client, sink)?)
 }
 
-fn turns(pipe: &mut Pipe, ends: &mut Ends, text: &mut String) -> Result<(), TalkError>
-    requires { IsReady pipe.old }
+fn turns(client: &mut Client, ends: &mut Ends, text: &mut String) -> Result<(), TalkError>
+    requires { IsReady client.old }
 {
-    let count = pipe.turn(1, &mut ends.source, &mut ends.sink)?;
+    let count = turn(client, 1, &mut ends.source, &mut ends.sink)?;
     Ok(write!(text, "={count}")?)
 }
 
-fn runs_to_end(pipe: &mut Pipe, ends: &mut Ends) -> Result<(), TalkError>
-    requires { IsReady pipe.old }
+fn runs_to_end(client: &mut Client, ends: &mut Ends) -> Result<(), TalkError>
+    requires { IsReady client.old }
 {
-    Ok(pipe.run_to_end(1, &mut ends.source, &mut ends.sink)?)
+    Ok(run_to_end(client, 1, &mut ends.source, &mut ends.sink)?)
 }
 
 /// Makes a call.
 fn calls(
     alloc: Global,
-    pipe: &mut Pipe,
+    client: &mut Client,
     ends: &mut Ends,
     call: &str,
     text: &mut String,
 ) -> Result<(), TalkError>
-    requires { IsReady pipe.old }
+    requires { IsReady client.old }
 {
     let (name, argument) = cut(call, ':');
     match name {
-        "steps" => takes_steps(alloc, pipe, &mut ends.sink, argument),
-        "turn" => turns(pipe, ends, text),
-        "end" => runs_to_end(pipe, ends),
-        _talk => talks(alloc, pipe, ends, name, argument),
+        "write" => writes(alloc, client, &mut ends.sink, argument),
+        "turn" => turns(client, ends, text),
+        "end" => runs_to_end(client, ends),
+        _talk => talks(alloc, client, ends, name, argument),
     }
 }
 
-/// Sets what stands round a pipe, or a limit of its codec.
-fn sets(alloc: Global, pipe: &mut Pipe, ends: &mut Ends, call: &'static str) -> Result<(), Error> {
+/// Sets what stands round a client, or a limit of its codec.
+fn sets(
+    alloc: Global,
+    client: &mut Client,
+    ends: &mut Ends,
+    call: &'static str,
+) -> Result<(), Error> {
     let (name, argument) = cut(call, ':');
     match name {
         "from" => ends.source.rest = argument,
         "room" => ends.sink = new_sink(alloc, number_of(argument)? as usize),
         "idle" => ends.sink.most = 0,
-        "in" => pipe.codec.max_incoming_size = Some(number_of(argument)?),
-        _out => pipe.codec.max_outgoing_size = Some(number_of(argument)?),
+        "in" => client.codec.max_incoming_size = Some(number_of(argument)?),
+        _out => client.codec.max_outgoing_size = Some(number_of(argument)?),
     }
     Ok(())
 }
@@ -222,14 +221,14 @@ fn add_trouble(trouble: &TalkError, text: &mut String) -> Result<(), AllocError>
 /// Makes a call, and adds why it stopped.
 fn makes(
     alloc: Global,
-    pipe: &mut Pipe,
+    client: &mut Client,
     ends: &mut Ends,
     call: &str,
     text: &mut String,
 ) -> Result<(), AllocError>
-    requires { IsReady pipe.old }
+    requires { IsReady client.old }
 {
-    let ended = calls(alloc, pipe, ends, call, text);
+    let ended = calls(alloc, client, ends, call, text);
     let added = match &ended {
         Ok(()) => Ok(()),
         Err(trouble) => add_trouble(trouble, text),
@@ -238,19 +237,19 @@ fn makes(
     added
 }
 
-/// Adds what is asked for of a pipe and of what stands round it.
+/// Adds what is asked for of a client and of what stands round it.
 fn looks(
     alloc: Global,
-    pipe: &Pipe,
+    client: &Client,
     ends: &Ends,
     name: &str,
     text: &mut String,
 ) -> Result<(), AllocError> {
     match name {
-        "ready" => write!(text, "={}", pipe.needs_more()),
-        "ids" => write!(text, "={}", pipe.state.inflight()),
-        "events" => write!(text, "={}", pipe.state.events().len()),
-        "left" => add_bytes(alloc, pipe.output.as_slice(), text),
+        "ready" => write!(text, "={}", client.needs_more()),
+        "ids" => write!(text, "={}", client.state.inflight()),
+        "events" => write!(text, "={}", client.state.events().len()),
+        "left" => add_bytes(alloc, client.output.as_slice(), text),
         "shown" => add_bytes(alloc, ends.screen.writer.as_slice(), text),
         _written => add_bytes(alloc, ends.sink.bytes.as_slice(), text),
     }
@@ -259,19 +258,19 @@ fn looks(
 /// Makes a call of a row, and adds its answer.
 fn takes(
     alloc: Global,
-    pipe: &mut Pipe,
+    client: &mut Client,
     ends: &mut Ends,
     call: &'static str,
     text: &mut String,
 ) -> Result<(), Error> {
     let (name, _argument) = cut(call, ':');
     match name {
-        "from" | "room" | "idle" | "in" | "out" => sets(alloc, pipe, ends, call)?,
+        "from" | "room" | "idle" | "in" | "out" => sets(alloc, client, ends, call)?,
         "ready" | "ids" | "events" | "left" | "shown" | "written" => {
-            looks(alloc, pipe, ends, name, text)?;
+            looks(alloc, client, ends, name, text)?;
         }
         "pipe" | "publisher" | "subscriber" => (),
-        _call if pipe.needs_more() => makes(alloc, pipe, ends, call, text)?,
+        _call if client.needs_more() => makes(alloc, client, ends, call, text)?,
         _call => text.push('!')?,
     }
     Ok(())
@@ -280,7 +279,7 @@ fn takes(
 /// Makes the calls of a row, and writes it anew.
 fn walks(
     alloc: Global,
-    pipe: &mut Pipe,
+    client: &mut Client,
     ends: &mut Ends,
     row: &'static str,
     text: &mut String,
@@ -291,36 +290,32 @@ fn walks(
         }
         let (call, _answer) = cut(part, '=');
         text.push_str(call)?;
-        takes(alloc, pipe, ends, call, text)?;
+        takes(alloc, client, ends, call, text)?;
     }
     Ok(())
 }
 
-/// The pipe that a row begins with: of ten ids, or that of a talk, without and with acks by the user.
-fn pipe_of(alloc: Global, row: &str) -> Result<Pipe, Error> {
+/// The client that a row begins with: of ten ids, or that of a talk, without and with acks by the user.
+fn client_of(alloc: Global, row: &str) -> Result<Client, Error> {
     if row.starts_with("publisher") {
-        return Ok(new_pipe(alloc, false));
+        return Ok(new_client(alloc, false));
     }
     if row.starts_with("subscriber") {
-        return Ok(new_pipe(alloc, true));
+        return Ok(new_client(alloc, true));
     }
-    let Ok(state) = MqttState::new(alloc, 10, false) else {
-        return Err(Error::OutOfMemory);
-    };
-    let codec = Codec {
-        max_incoming_size: None,
-        max_outgoing_size: None,
-    };
-    Ok(Pipe::new(alloc, state, codec))
+    match Client::new(alloc, 10, false) {
+        Ok(client) => Ok(client),
+        Err(_) => Err(Error::OutOfMemory),
+    }
 }
 
 /// Whether each call of a row has its answer.
 pub(super) fn is_row(alloc: Global, row: &'static str) -> Result<bool, Error> {
-    let mut pipe = pipe_of(alloc, row)?;
+    let mut client = client_of(alloc, row)?;
     let mut ends = new_ends(alloc);
     let mut text = String::new(alloc);
-    let walked = walks(alloc, &mut pipe, &mut ends, row, &mut text);
-    drop(pipe);
+    let walked = walks(alloc, &mut client, &mut ends, row, &mut text);
+    drop(client);
     drop(ends);
     walked?;
     Ok(text.as_str() == row)

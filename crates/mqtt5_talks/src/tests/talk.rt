@@ -1,13 +1,13 @@
-//! Talks with a broker over a pipe.
+//! Talks with a broker.
 
-ghost use Rattle.mqtt5_pipe.specs.Pipe.{IsReady};
+ghost use Rattle.mqtt5_client.specs.Client.{IsReady};
 
 use super::pipe::{Ends, is_row};
 use super::{publish_hi, quality_of};
 use mqtt5_base::{Error, QoS, Text};
+use mqtt5_client::Client;
 use mqtt5_codec::Packet;
 use mqtt5_connect::Connect;
-use mqtt5_pipe::Pipe;
 use mqtt5_subscribe::{Filter, Subscribe};
 use mqtt5_talk::{TalkError, close, open, publish, receive, subscribe};
 use std::alloc::Global;
@@ -46,57 +46,63 @@ fn connect(alloc: Global) -> Result<Packet, Error> {
     Ok(Packet::Connect(connect, None, None))
 }
 
-fn opens(alloc: Global, pipe: &mut Pipe, ends: &mut Ends) -> Result<(), TalkError>
-    requires { IsReady pipe.old }
+fn opens(alloc: Global, client: &mut Client, ends: &mut Ends) -> Result<(), TalkError>
+    requires { IsReady client.old }
 {
     let connect = connect(alloc)?;
-    let opened = open(pipe, &connect, &mut ends.source, &mut ends.sink);
+    let opened = open(client, &connect, &mut ends.source, &mut ends.sink);
     drop(connect);
     opened
 }
 
 fn publishes(
     alloc: Global,
-    pipe: &mut Pipe,
+    client: &mut Client,
     ends: &mut Ends,
     quality: &str,
 ) -> Result<(), TalkError>
-    requires { IsReady pipe.old }
+    requires { IsReady client.old }
 {
     let message = publish_hi(alloc, quality_of(quality))?;
-    publish(pipe, message, &mut ends.source, &mut ends.sink)
+    publish(client, message, &mut ends.source, &mut ends.sink)
 }
 
-fn subscribes(alloc: Global, pipe: &mut Pipe, ends: &mut Ends) -> Result<(), TalkError>
-    requires { IsReady pipe.old }
+fn subscribes(alloc: Global, client: &mut Client, ends: &mut Ends) -> Result<(), TalkError>
+    requires { IsReady client.old }
 {
     let filter = Filter::new(alloc, "a/#", QoS::ExactlyOnce)?;
     let wanted = Subscribe::new(alloc, filter, None)?;
-    subscribe(pipe, wanted, &mut ends.sink)
+    subscribe(client, wanted, &mut ends.sink)
 }
 
-fn receives(pipe: &mut Pipe, ends: &mut Ends) -> Result<(), TalkError>
-    requires { IsReady pipe.old }
+fn receives(client: &mut Client, ends: &mut Ends) -> Result<(), TalkError>
+    requires { IsReady client.old }
 {
-    receive(pipe, &mut ends.screen, 2, &mut ends.source, &mut ends.sink)
+    receive(
+        client,
+        &mut ends.screen,
+        2,
+        &mut ends.source,
+        &mut ends.sink,
+    )
 }
 
 /// Makes a call of a talk.
 pub(super) fn talks(
     alloc: Global,
-    pipe: &mut Pipe,
+    client: &mut Client,
     ends: &mut Ends,
     name: &str,
     argument: &str,
 ) -> Result<(), TalkError>
-    requires { IsReady pipe.old }
+    requires { IsReady client.old }
 {
     match name {
-        "open" => opens(alloc, pipe, ends),
-        "publish" => publishes(alloc, pipe, ends, argument),
-        "subscribe" => subscribes(alloc, pipe, ends),
-        "receive" => receives(pipe, ends),
-        _close => close(pipe, &mut ends.sink),
+        "open" => opens(alloc, client, ends),
+        "publish" => publishes(alloc, client, ends, argument),
+        "subscribe" => subscribes(alloc, client, ends),
+        "receive" => receives(client, ends),
+        _close => close(client, &mut ends.sink),
     }
 }
 

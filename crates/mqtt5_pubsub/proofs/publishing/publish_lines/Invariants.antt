@@ -1,5 +1,5 @@
-use Rattle.mqtt5_pipe.specs.Pipe.{IsReady}
+use Rattle.mqtt5_client.specs.Client.{IsReady}
 use Rattle.mqtt5_pubsub.proofs.publishing.publish_lines.Given as goal
 
 abbrev pub invariant-loop : goal.invariant-loop
-invariant-loop g l = IsReady l.pipe
+invariant-loop g l = IsReady l.client

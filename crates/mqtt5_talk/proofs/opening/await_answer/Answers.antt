@@ -1,9 +1,9 @@
-use Rattle.std.proofs.Common.{[], refl}
+use Rattle.std.proofs.Common.{[], Ok, ap, refl}
 use Rattle.mqtt5_talk.proofs.Talking.{then_talked, no_talk}
 use Rattle.mqtt5_talk.proofs.opening.await_answer.Goals as goal
 
 pub loop-init : goal.loop-init
-loop-init g c = record { ready = c.requires.ready; codec = refl; talked = no_talk _ _ _ }
+loop-init g c = record { ready = c.requires.ready; none = c.requires.none; codec = refl; talked = no_talk _ _ _ }
 
 pub returns-in_err-hear-clause-talked : goal.returns-in_err-hear-clause-talked
 returns-in_err-hear-clause-talked g c = then_talked _ _ _ _ _ _ _ _ _ [] [] c.loop.invariant.talked c.hear.ensures.talked
@@ -14,5 +14,15 @@ returns-in_err-is_answered-clause-talked g c = then_talked _ _ _ _ _ _ _ _ _ [] 
 pub returns-then-branch-clause-talked : goal.returns-then-branch-clause-talked
 returns-then-branch-clause-talked g c = then_talked _ _ _ _ _ _ _ _ _ [] [] c.loop.invariant.talked c.hear.ensures.talked
 
+pub returns-then-branch-clause-limit : goal.returns-then-branch-clause-limit
+returns-then-branch-clause-limit g c = rw (c.loop.invariant.none, c.loop.invariant.codec) at c.hear.ensures.codec
+
 pub loop-preserved : goal.loop-preserved
-loop-preserved g c = record { ready = c.in_ok-hear.ensures.ready; codec = rw c.hear.ensures.codec c.loop.invariant.codec; talked = then_talked _ _ _ _ _ _ _ _ _ [] [] c.loop.invariant.talked c.hear.ensures.talked }
+loop-preserved g c =
+    let none = c.in_ok-is_answered.ensures.none (ap Ok c.if-branch.false) in
+    record {
+      ready = c.in_ok-hear.ensures.ready;
+      none = none;
+      codec = rw (c.loop.invariant.none, none, c.loop.invariant.codec) at c.hear.ensures.codec;
+      talked = then_talked _ _ _ _ _ _ _ _ _ [] [] c.loop.invariant.talked c.hear.ensures.talked;
+    }

@@ -1,11 +1,12 @@
 use Rattle.std.proofs.Common.{◌≡◌, []}
-use Rattle.mqtt5_pipe.specs.Pipe.{IsReady}
+use Rattle.mqtt5_client.specs.Client.{IsReady}
 use Rattle.mqtt5_talk.specs.Conversation.{Talked}
 use Rattle.mqtt5_talk.proofs.opening.await_answer.Given as goal
 
 abbrev pub invariant-loop : goal.invariant-loop
 invariant-loop g l = record {
-  ready : IsReady l.pipe;
-  codec : l.pipe.codec ≡ l.fn.pipe.codec;
-  talked : Talked (g.R.Read.remaining l.fn.reader) (g.R.Read.remaining l.reader) (g.W.Write.contents l.fn.writer) (g.W.Write.contents l.writer) l.fn.pipe [] l.pipe;
+  ready : IsReady l.client;
+  none : l.client.state.events ≡ [];
+  codec : l.client.codec ≡ l.fn.client.codec;
+  talked : Talked (g.R.Read.remaining l.fn.reader) (g.R.Read.remaining l.reader) (g.W.Write.contents l.fn.writer) (g.W.Write.contents l.writer) l.fn.client [] l.client;
 }

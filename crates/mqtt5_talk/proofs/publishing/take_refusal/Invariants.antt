@@ -1,10 +1,10 @@
 use Rattle.std.proofs.Common.{[]}
-use Rattle.mqtt5_pipe.specs.Pipe.{IsReady}
+use Rattle.mqtt5_client.specs.Client.{IsReady}
 use Rattle.mqtt5_talk.specs.Conversation.{Conversation}
 use Rattle.mqtt5_talk.proofs.publishing.take_refusal.Given as goal
 
 abbrev pub invariant-loop : goal.invariant-loop
 invariant-loop l = record {
-  talks : Conversation l.fn.pipe [] [] [] l.pipe;
-  ready : IsReady l.fn.pipe → IsReady l.pipe;
+  talks : Conversation l.fn.client [] [] [] l.client;
+  ready : IsReady l.fn.client → IsReady l.client;
 }

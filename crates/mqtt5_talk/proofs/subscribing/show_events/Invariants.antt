@@ -1,13 +1,13 @@
 use Rattle.std.proofs.Common.{◌≡◌, ◌+◌, List, length}
 use Rattle.mqtt5_publish.specs.declared.publish.Publish.{Publish}
-use Rattle.mqtt5_pipe.specs.Pipe.{IsReady}
+use Rattle.mqtt5_client.specs.Client.{IsReady}
 use Rattle.mqtt5_talk.specs.Answers.{acks_of, ShowsAll}
 use Rattle.mqtt5_talk.specs.Conversation.{SendsOnly}
 use Rattle.mqtt5_talk.proofs.subscribing.show_events.Given as goal
 
 abbrev pub invariant-loop : goal.invariant-loop
 invariant-loop g l = record {
-  ready : IsReady l.pipe;
-  shown : (ps : List Publish) × SendsOnly (g.W.Write.contents l.fn.writer) (g.W.Write.contents l.writer) l.fn.pipe (acks_of ps) l.pipe
+  ready : IsReady l.client;
+  shown : (ps : List Publish) × SendsOnly (g.W.Write.contents l.fn.writer) (g.W.Write.contents l.writer) l.fn.client (acks_of ps) l.client
       × ShowsAll g.S.Screen.shows l.fn.screen ps l.screen × (length ps + l.left ≡ l.count);
 }

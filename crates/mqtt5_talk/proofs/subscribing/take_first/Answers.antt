@@ -7,10 +7,10 @@ pub returns-in-Some-clause-told : goal.returns-in-Some-clause-told
 returns-in-Some-clause-told g c =
     let (ps, told, showed, shown) = c.take_event-taken.ensures.told in (
       ps,
-      then_told _ _ _ _ _ _ [] (acks_of ps) (silent_told _ _ _ (took _ _ c.pop_event.ensures.rest)) told,
+      then_told _ _ _ _ _ _ [] (acks_of ps) (silent_told _ _ _ [] (took _ _ c.pop_event.ensures.rest)) told,
       showed,
       shown,
     )
 
 pub returns-in-None-clause-told : goal.returns-in-None-clause-told
-returns-in-None-clause-told g c = ([], silent_told _ _ _ (took _ _ c.pop_event.ensures.rest), (_, refl), (refl, refl))
+returns-in-None-clause-told g c = ([], silent_told _ _ _ [] (took _ _ c.pop_event.ensures.rest), (_, refl), (refl, refl))
