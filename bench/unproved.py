@@ -25,6 +25,7 @@ fn main(rt: HostRuntime) -> std::process::ExitCode {
     sum = sum.wrapping_add(ours_pings(alloc, 0));
     sum = sum.wrapping_add(ours_fresh(alloc, 1, 0));
     sum = sum.wrapping_add(ours_drive(alloc, &none, 1, 0));
+    sum = sum.wrapping_add(ours_receive(alloc, &none, 1, 0));
     sum = sum.wrapping_add(ours_requests(alloc, &none, 0, 0, &none));
     std::process::ExitCode::from(if sum == 123 { 1 } else { 0 })
 }

@@ -32,6 +32,7 @@ mod ours {
         fn ours_pings(rounds: usize) -> u64;
         fn ours_fresh(limit: u16, rounds: usize) -> u64;
         fn ours_drive(s: *const u8, n: usize, piece: usize, rounds: usize) -> u64;
+        fn ours_receive(s: *const u8, n: usize, piece: usize, rounds: usize) -> u64;
         fn ours_requests(a: *const u8, m: usize, window: usize, rounds: usize, s: *const u8, n: usize) -> u64;
     }
     pub fn decode(s: &[u8], count: usize, rounds: usize) -> u64 {
@@ -57,6 +58,9 @@ mod ours {
     }
     pub fn drive(s: &[u8], piece: usize, rounds: usize) -> u64 {
         unsafe { ours_drive(s.as_ptr(), s.len(), piece, rounds) }
+    }
+    pub fn receive(s: &[u8], piece: usize, rounds: usize) -> u64 {
+        unsafe { ours_receive(s.as_ptr(), s.len(), piece, rounds) }
     }
     pub fn requests(acks: &[u8], window: usize, rounds: usize, payload: &[u8]) -> u64 {
         unsafe { ours_requests(acks.as_ptr(), acks.len(), window, rounds, payload.as_ptr(), payload.len()) }
@@ -299,6 +303,16 @@ fn loops(rows: &mut Vec<Row>) {
     for (piece, cut, rounds) in CUTS {
         let (ours, original) = driven(stream, piece, rounds);
         rows.push(row(format!("drive 1,000 publishes QoS 1, pieces {cut}"), 1000 * rounds, ours, original));
+    }
+    // (beside the loop over the same stream, whose pieces are made before)
+    for (bytes, size) in [(16, "16 bytes"), (16384, "16 KiB")] {
+        let stream = leak(publishes(1000, bytes, false, 1));
+        rows.push(row(
+            format!("receive 1,000 publishes QoS 1 of {size}, read by 1,460"),
+            1000 * 20,
+            Box::new(move |on| ours::receive(stream, 1460, if on { 20 } else { 0 })),
+            Box::new(move |on| original::drive(stream, 1460, if on { 20 } else { 0 })),
+        ));
     }
     let (acks, payload) = (leak(pubacks(100)), leak(vec![b'x'; 16]));
     rows.push(row(
