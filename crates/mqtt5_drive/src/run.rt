@@ -235,6 +235,7 @@ fn take_frames(
 }
 
 /// Takes what stands in the input.
+#[inline(always)]
 fn take_held(
     alloc: Global,
     state: &mut MqttState,
