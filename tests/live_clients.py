@@ -6,6 +6,7 @@ import random
 import sys
 
 from bistortpost import Client, Properties, Subscription, Will, aio
+from relay import Relay
 
 HOST, PORT = sys.argv[1], int(sys.argv[2])
 LOGIN = {"username": sys.argv[3], "password": sys.argv[4]} if len(sys.argv) > 3 else {}
@@ -20,45 +21,6 @@ def client(name, port=PORT, **settings):
 
 async def next_of(client, seconds=20):
     return await client.next_message(seconds)
-
-
-class Relay:
-    """Stands between a client and the broker, and cuts the connection."""
-
-    def __init__(self):
-        self.ways = set()
-        self.cuts = 0
-
-    async def __aenter__(self):
-        self.server = await asyncio.start_server(self.serve, HOST, 0)
-        self.port = self.server.sockets[0].getsockname()[1]
-        return self
-
-    async def __aexit__(self, *_):
-        self.server.close()
-        self.cut()
-
-    async def serve(self, reader, writer):
-        there, back = await asyncio.open_connection(HOST, PORT)
-        self.ways.add(writer)
-        self.ways.add(back)
-        await asyncio.gather(self.carry(reader, back), self.carry(there, writer))
-
-    async def carry(self, reader, writer):
-        try:
-            while data := await reader.read(1000):
-                writer.write(data)
-                await writer.drain()
-        except OSError:
-            pass
-        finally:
-            writer.close()
-
-    def cut(self):
-        self.cuts += bool(self.ways)
-        for way in self.ways:
-            way.transport.abort()
-        self.ways.clear()
 
 
 async def request_and_response():
@@ -100,7 +62,7 @@ async def expiry_of_messages():
 
 async def a_will():
     will = Will("a/will", b"cut off", 1, properties=Properties(content_type="text"))
-    async with client("heir") as heir, Relay() as relay:
+    async with client("heir") as heir, Relay(HOST, PORT) as relay:
         await heir.subscribe("a/will", 1)
         async with client("leaves", relay.port, will=will, reconnect=False):
             relay.cut()
@@ -123,7 +85,7 @@ async def keep_alive_of_the_broker():
 async def ten_cuts():
     """At QoS 2 nothing is lost and nothing comes twice, while both connections are cut."""
     kept = {"clean_start": False, "session_expiry_interval": 100}
-    async with Relay() as up, Relay() as down:
+    async with Relay(HOST, PORT) as up, Relay(HOST, PORT) as down:
         async with client("sends", up.port, **kept) as sends, client("takes", down.port, **kept) as takes:
             await takes.subscribe("a/cuts", 2)
 
