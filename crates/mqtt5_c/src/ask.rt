@@ -133,8 +133,8 @@ fn subscribe_with(
     properties: Sequence<Property>,
 ) -> Result<Request, u32>
     ensures ok { IfOk result (IsSubscribe filter.now quality properties) }
-    ensures err { IfErr result (IsDeclined (IsBadFilter filter.now quality ⊎ CantHave subscribe_table
-        properties)) }
+    ensures err { IfErr result
+        (IsDeclined (IsBadFilter filter.now quality ⊎ CantHave subscribe_table properties)) }
 {
     let set = match gather(alloc, properties) {
         Ok(set) => set,
@@ -176,8 +176,8 @@ fn unsubscribe_with(
     properties: Sequence<Property>,
 ) -> Result<Request, u32>
     ensures ok { IfOk result (IsUnsubscribe filter.now properties) }
-    ensures err { IfErr result (IsDeclined (¬ (IsTopicFilter filter.now) ⊎ CantHave unsubscribe_table
-        properties)) }
+    ensures err { IfErr result
+        (IsDeclined (¬ (IsTopicFilter filter.now) ⊎ CantHave unsubscribe_table properties)) }
 {
     let set = match gather(alloc, properties) {
         Ok(set) => set,

@@ -42,7 +42,8 @@ fn filter_of(
 ) -> Result<Filter, u32>
     ensures ok { IfOk result (IsFilter filter.now quality no_local retain_as_published
         retain_handling) }
-    ensures err { IfErr result (IsDeclined (IsBadFilter filter.now quality ⊎ (2 < retain_handling))) }
+    ensures err { IfErr result
+        (IsDeclined (IsBadFilter filter.now quality ⊎ (2 < retain_handling))) }
 {
     let Some(path) = topic_filter(filter) else {
         return Err(BAD_ARGUMENT);

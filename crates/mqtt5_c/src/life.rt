@@ -144,7 +144,8 @@ pub extern "C" fn mqtt5_client_take_up(
     ensures answer { Called (TakesUp session_present at) h.old.client_ptr.value result
         h.new.client_ptr.value }
     ensures count { result ≡ 0
-        → IfSome h.old.client_ptr.value (λ x. count.new ≡ length (returned session_present x.client)) }
+        → IfSome h.old.client_ptr.value
+        (λ x. count.new ≡ length (returned session_present x.client)) }
 {
     let Some(mut holder) = take(alloc, h) else {
         return NO_CLIENT;

@@ -17,7 +17,7 @@ const VECTORS: &str = "V1 ok\nV2 ok\nV3 ok\nV4 ok\nV5 ok\nV6 ok\nV7 ok\nV8 ok\nV
     V31 ok\nV32 ok\nV33 ok\nV34 ok\nV35 ok\nV36 ok\n";
 
 const USAGE: &str =
-    "usage: mqtt5 drive LIMIT | mqtt5 world LIMIT | mqtt5 bytes LIMIT | mqtt5 network | mqtt5 bench\n";
+    "usage: mqtt5 drive LIMIT | mqtt5 world LIMIT | mqtt5 bytes LIMIT | mqtt5 bench | mqtt5 network\n";
 
 /// A script, what `drive 10` prints of it, and the status.
 const SCRIPTS: &[(&str, &str, u8)] = &[

@@ -69,7 +69,7 @@ pub fn write_usage<W: Write>(output: &mut W) -> io::Result<Status>
     ensures { IfOk result (λ s. s ≡ Refused) }
 {
     output.write_all(
-        b"usage: mqtt5 drive LIMIT | mqtt5 world LIMIT | mqtt5 bytes LIMIT | mqtt5 network | mqtt5 bench\n",
+        b"usage: mqtt5 drive LIMIT | mqtt5 world LIMIT | mqtt5 bytes LIMIT | mqtt5 bench | mqtt5 network\n",
     )?;
     Ok(Status::Refused)
 }
