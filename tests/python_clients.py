@@ -159,6 +159,11 @@ class Clients(unittest.TestCase):
                 Client("127.0.0.1", broker.port, client_id="c").__enter__()
             self.assertEqual(refused.exception.reason, 134)
 
+    def test_other_first_packet(self):
+        with Broker([(GETS, CONNECT), (SAYS, "30 05 0001 61 00 78")]) as broker:
+            with self.assertRaisesRegex(ConnectionLost, "no ConnAck"):
+                Client("127.0.0.1", broker.port, client_id="c").__enter__()
+
     def test_lost_connection(self):
         with Broker([(GETS, CONNECT), (SAYS, CONNACK)]) as broker:
             with Client("127.0.0.1", broker.port, client_id="c", reconnect=False) as client:

@@ -251,6 +251,8 @@ class Client:
                 raise ConnectionLost("the broker closed the connection")
             events = self._take(data)
         connack = events[0]
+        if connack.packet != library.CONNACK:
+            raise ConnectionLost("the broker's first packet is no ConnAck")
         self.connack = connack.properties
         self._pause = FIRST_PAUSE
         self._keep_alive = self._settings.keep_alive
