@@ -11,9 +11,11 @@
 extern "C" {
 #endif
 
+#define MQTT5_VERSION "0.1.0"
+
 /* What every call answers. 1 to 12 are the session's refusals S1 to S12, of which 7 (a frame that can't be read, a
    packet that can't be written) is told as 100 + n of E1 to E21, which says why: docs/PROGRAM.md has
-   both as tables. */
+   both as tables, and mqtt5_names.h their names. */
 enum {
     MQTT5_DONE = 0,
     /* A publish whose identifier is in use while another waits, or a clean while an event isn't taken out. */

@@ -15,7 +15,7 @@ install_library() {
         "$ar" rcsD libmqtt5_c.a ./*.o &&
         "$cc" -shared -o libmqtt5_c.so -Wl,-soname,libmqtt5_c.so -Wl,--whole-archive libmqtt5_c.a -Wl,--no-whole-archive) &&
         mkdir -p "$prefix/include" "$prefix/lib/pkgconfig" &&
-        cp "$top/c/mqtt5.h" "$prefix/include" &&
+        cp "$top/c/mqtt5.h" "$top/c/mqtt5_names.h" "$prefix/include" &&
         cp "$made/libmqtt5_c.a" "$made/libmqtt5_c.so" "$prefix/lib" &&
         print_pkgconfig "$prefix" > "$prefix/lib/pkgconfig/mqtt5_c.pc" || status=$?
     rm -rf "$made"

@@ -1,6 +1,7 @@
 /* Each call of c/mqtt5.h, under the address sanitizer: on its way, misused, and with memory refused from each request on.
    What the library takes must be given back once the client is let go. Prints what it did, or what is wrong. */
 #include "../c/mqtt5.h"
+#include "../c/mqtt5_names.h"
 
 #include <stdio.h>
 #include <stdlib.h>
@@ -662,7 +663,37 @@ static void refused(void) {
     left = -1;
 }
 
+/* By the tables of docs/PROGRAM.md, and of MQTT 5.0 section 2.4. */
+static void numbers_by_name(void) {
+    static const struct {
+        uint32_t code;
+        const char *name;
+    } errors[] = {
+        {MQTT5_DONE, "Done"},
+        {MQTT5_AWAIT_PINGRESP, "AwaitPingResp"},
+        {MQTT5_PACKET_TOO_LARGE, "OutgoingPacketTooLarge"},
+        {MQTT5_OUT_OF_MEMORY, "OutOfMemory"},
+        {101, "InvalidConnectReturnCode"},
+        {116, "MalformedPacket"},
+        {121, "OutOfMemory"},
+        {MQTT5_NO_CLIENT, "NoClient"},
+        {MQTT5_ABSENT, "Absent"},
+        {99, "unknown"},
+    }, reasons[] = {
+        {MQTT5_REASON_SUCCESS, "Success"},
+        {MQTT5_REASON_NOT_AUTHORIZED, "Not authorized"},
+        {MQTT5_REASON_PACKET_IDENTIFIER_NOT_FOUND, "Packet Identifier not found"},
+        {MQTT5_REASON_WILDCARD_SUBSCRIPTIONS_NOT_SUPPORTED, "Wildcard Subscriptions not supported"},
+        {3, "unknown"},
+    };
+    for (size_t i = 0; i < sizeof errors / sizeof *errors; i++)
+        EXPECT(strcmp(mqtt5_error_name(errors[i].code), errors[i].name), 0);
+    for (size_t i = 0; i < sizeof reasons / sizeof *reasons; i++)
+        EXPECT(strcmp(mqtt5_reason_name((uint8_t)reasons[i].code), reasons[i].name), 0);
+}
+
 int main(void) {
+    numbers_by_name();
     each_call();
     properties_that_came();
     properties_to_send();
