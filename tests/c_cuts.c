@@ -1,8 +1,9 @@
-/* A client of the C library at a broker whose limits and whose end get in its way. Usage: c_cuts HOST PORT limit|lost
+/* A client of the C library at a broker whose limits and whose end get in its way. Usage: c_cuts HOST PORT limit|lost|ten
    limit: the broker takes packets of at most 1,000 bytes. A publish of 2,000 is refused and leaves nothing behind; the
    next ones come through, also over a cut.
    lost: once a publish was sent, `cut` is printed and a line awaited, and the broker is to come back meanwhile without
-   its session. The session ends, what awaited its ack is given up, and publishing goes on. */
+   its session. The session ends, what awaited its ack is given up, and publishing goes on.
+   ten: the connection is cut ten times while numbers are published at QoS 2; each comes once. */
 #define _POSIX_C_SOURCE 200809L
 #include "mqtt5.h"
 
@@ -18,6 +19,9 @@ static mqtt5_client client;
 static int acked, s;
 static char last[256]; /* the last message that came */
 static bool connected, session_present;
+/* Whether a cut is no fault, whether there was one, and how often each number came. */
+static bool bears_cuts, is_cut;
+static int came[100000];
 
 static void is(size_t found, size_t wanted, const char *what) {
     if (found != wanted) {
@@ -35,6 +39,8 @@ static void flush_output(void) {
         is(mqtt5_client_output(&client, buffer, sizeof buffer, &count), 0, "output");
         if (count == 0) return;
         ssize_t sent = send(s, buffer, count, MSG_NOSIGNAL);
+        if (sent <= 0 && bears_cuts) is_cut = true;
+        if (is_cut) return;
         is(sent > 0, 1, "send");
         is(mqtt5_client_sent(&client, (size_t)sent), 0, "sent");
     }
@@ -43,6 +49,8 @@ static void flush_output(void) {
 static void take_input(void) {
     uint8_t buffer[4096], topic[256], payload[4096];
     ssize_t count = recv(s, buffer, sizeof buffer, 0);
+    if (count <= 0 && bears_cuts) is_cut = true;
+    if (is_cut) return;
     is(count > 0, 1, "the broker is there");
     is(mqtt5_client_receive(&client, buffer, (size_t)count, 0), 0, "receive");
     for (;;) {
@@ -53,7 +61,8 @@ static void take_input(void) {
         if (e.packet == 2) connected = true, session_present = e.session_present;
         if (e.packet == 3) {
             snprintf(last, sizeof last, "%.*s", (int)e.payload_len, payload);
-            printf("came: %s\n", last);
+            if (bears_cuts) came[atoi(last)]++;
+            else printf("came: %s\n", last);
         }
         if (e.packet == 4 || e.packet == 7) acked++;
     }
@@ -69,7 +78,8 @@ static size_t begin(bool clean_start) {
     connected = false;
     is(mqtt5_client_connect(&client, bytes("cuts"), 4, 60, clean_start, 3600), 0, "connect");
     flush_output();
-    while (!connected) take_input();
+    while (!connected && !is_cut) take_input();
+    if (is_cut) return 0;
     size_t given_up;
     is(mqtt5_client_take_up(&client, session_present, 0, &given_up), 0, "take_up");
     flush_output();
@@ -136,6 +146,46 @@ static void run_lost(void) {
     await_message("three");
 }
 
+/* Sends and takes what there is, over a new connection where the last one was cut; answers how many cuts there were. */
+static int go_on(void) {
+    int cuts = 0;
+    flush_output();
+    if (!is_cut) take_input();
+    while (is_cut) {
+        cuts++;
+        close(s);
+        is_cut = false;
+        is(begin(false), 0, "given up");
+    }
+    return cuts;
+}
+
+static void run_ten(void) {
+    is(mqtt5_client_subscribe(&client, bytes("cuts/#"), 6, 2, 0), 0, "subscribe");
+    flush_output();
+    take_input();
+    bears_cuts = true;
+    int sent = 0, cuts = 0;
+    while (cuts < 10 || acked < sent) {
+        bool may;
+        is(mqtt5_client_may_publish(&client, &may), 0, "may_publish");
+        char number[16];
+        snprintf(number, sizeof number, "%d", sent);
+        if (cuts < 10 && may) {
+            is(publish(number, strlen(number), 2), 0, "publish");
+            is(++sent < 100000, 1, "cuts come in time");
+        }
+        else cuts += go_on();
+    }
+    for (int i = 0; i < sent; i++)
+        while (came[i] == 0) go_on();
+    /* (one that comes twice would come before this) */
+    publish_acked("99999", 2);
+    while (came[99999] == 0) go_on();
+    for (int i = 0; i < sent; i++) is((size_t)came[i], 1, "how often a number came");
+    printf("%d messages over %d cuts\n", sent, cuts);
+}
+
 int main(int argc, char **argv) {
     if (argc != 4) return 2;
     host = argv[1], port = argv[2];
@@ -143,6 +193,7 @@ int main(int argc, char **argv) {
     is(mqtt5_client_new(&client, 2, false), 0, "new");
     begin(true);
     if (strcmp(argv[3], "limit") == 0) run_limit();
+    else if (strcmp(argv[3], "ten") == 0) run_ten();
     else run_lost();
     is(mqtt5_client_disconnect(&client, 0), 0, "disconnect");
     flush_output();
