@@ -6,7 +6,17 @@ import socket
 import threading
 import unittest
 
-from bistortpost import Client, ConnectionLost, Fault, Properties, Refused, Subscription, Will, aio
+from bistortpost import (
+    Client,
+    ConnectionLost,
+    Fault,
+    Properties,
+    Refused,
+    SessionLost,
+    Subscription,
+    Will,
+    aio,
+)
 
 # A Connect (3.1): client id "c", clean start, keep alive 60, session expiry 0. The ConnAck (3.2) of a new session.
 CONNECT = "10 13 0004 4D515454 05 02 003C 05 11 00000000 0001 63"
@@ -151,6 +161,30 @@ class Clients(unittest.TestCase):
         with Broker(*scripts) as broker, Client("127.0.0.1", broker.port, client_id="c") as client:
             client.subscribe("b", 1)
             self.assertEqual(client.publish("a", b"x", 1), 0)
+
+    def test_lost_message(self):
+        # Of a message of QoS 2 nobody knows then whether it arrived.
+        scripts = [
+            [(GETS, CONNECT), (SAYS, CONNACK), (GETS, "34 07 0001 61 0001 00 78")],
+            [(GETS, CONNECT_AGAIN), (SAYS, CONNACK), (GETS, DISCONNECT)],
+        ]
+        with Broker(*scripts) as broker, Client("127.0.0.1", broker.port, client_id="c") as client:
+            with self.assertRaises(SessionLost):
+                client.publish("a", b"x", 2)
+
+    def test_receive_maximum(self):
+        # The broker takes one message at a time (3.2.2.3.3), so the second one goes once the first is acknowledged.
+        script = [
+            (GETS, CONNECT), (SAYS, "20 06 00 00 03 21 0001"), (GETS, "32 07 0001 61 0001 00 78"), (SAYS, "40 02 0001"),
+            (GETS, "32 07 0001 61 0001 00 79"), (SAYS, "40 02 0001"), (GETS, DISCONNECT),
+        ]  # fmt: skip
+
+        async def run(port):
+            async with aio.Client("127.0.0.1", port, client_id="c") as client:
+                await asyncio.gather(client.publish("a", b"x", 1), client.publish("a", b"y", 1))
+
+        with Broker(script) as broker:
+            asyncio.run(run(broker.port))
 
     def test_refused_connection(self):
         # Bad user name or password (3.2.2.2).
