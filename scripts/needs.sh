@@ -7,7 +7,7 @@
 # In kilobytes: the most memory that proving took, with four jobs; what the out/ folders take; and what can't be enough
 # disk, since the four lowest libraries alone take more.
 memory_taken=8700000
-disk_taken=3900000
+disk_taken=4200000
 disk_least=1000000
 
 lacking=0
