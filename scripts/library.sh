@@ -1,4 +1,4 @@
-# The C library as it is installed. ./mqtt5 and tests/c read this file.
+# The C library as it is installed, and what the packages over it need. ./mqtt5 and the tests of these read this file.
 # shellcheck shell=bash
 
 library_version=0.1.0
@@ -32,3 +32,14 @@ Libs: -L\${prefix}/lib -lmqtt5_c
 Cflags: -I\${prefix}/include
 END
 }
+
+# Whether there is a cargo that compiles the Rust package over it, which wants 1.74.
+has_cargo() {
+    local version major minor
+    version=$(cargo --version 2> /dev/null) || return
+    IFS='. ' read -r _ major minor _ <<< "$version"
+    [ "$major" -gt 1 ] || [ "$minor" -ge 74 ]
+}
+
+# Whether there is a Python that runs the Python package.
+has_python() { python3 -c 'import sys, ctypes, ssl; sys.exit(sys.version_info < (3, 11))' > /dev/null 2>&1; }
