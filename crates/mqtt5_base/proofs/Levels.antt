@@ -1,11 +1,11 @@
 -- The levels that are left of a text that is cut at each `/`.
-use Rattle.std.proofs.Common.{◌≡◌, ℕ, Bool, true, false, ◌||◌, ◌&&◌, List, [], ◌∷◌, Some, None, Option, Bor, is_none, is_some, not, bytes_eq, refl, sym, ap, ◌∙◌, arith}
+use Rattle.std.proofs.Common.{◌≡◌, ℕ, Bool, true, false, ◌&&◌, List, [], ◌∷◌, Some, None, Option, Bor, refl, sym, ap, ◌∙◌, arith}
 use Rattle.std.specs.Str.Pattern.{FindsChar}
 use Rattle.std.specs.Str.Iter.{split_steps, split_text, split_has_more, split_pattern}
 use Rattle.std.specs.declared.str.Split.{Split}
 use Rattle.std.proofs.lemmas.Iterator.{YieldsList}
 use Rattle.std.proofs.lemmas.Iterator.Splits.{YieldsList-from_str_split}
-use Rattle.mqtt5_base.specs.Topics.{levels, hash, covers, match_levels, stands_alone, is_inner, are_valid}
+use Rattle.mqtt5_base.specs.Topics.{levels, stands_alone, is_inner, are_valid}
 
 -- a step of the iterator
 abbrev pub Steps : Split ℕ → Option (Bor (List ℕ)) → Split ℕ → Type 0
@@ -27,56 +27,6 @@ first_left s t x (l ∷ ls) h k = let m = h.runs.1 x t k in (ls, (λ i. sym m.0 
 pub none_left : (s t : Split ℕ) (ls : List (List ℕ)) → Left s ls → Steps s None t → ls ≡ []
 none_left s t [] h k = refl
 none_left s t (l ∷ ls) h k = absurd (h.runs.0 t k)
-
--- ---- walking two texts
-
--- the levels that are left decide what the whole does
-abbrev pub Decide : Split ℕ → Split ℕ → Bool → Type 0
-Decide topics filters whole = (ts fs : List (List ℕ)) × Left topics ts × Left filters fs × (match_levels ts fs ≡ whole)
-
--- a filter level `#` matches
-pub by_hash : (topics filters after : Split ℕ) (f : Bor (List ℕ)) (whole : Bool) → Decide topics filters whole → Steps filters (Some f) after → bytes_eq f.now hash ≡ true → true ≡ whole
-by_hash topics filters after f whole d k is =
-    let m = first_left filters after f d.1 d.3 k in decided d.0 f.now m.0 is (ap (match_levels d.0) (sym m.1) ∙ d.4)
-  where
-    decided : (ts : List (List ℕ)) (l : List ℕ) (fs : List (List ℕ)) → bytes_eq l hash ≡ true → match_levels ts (l ∷ fs) ≡ whole → true ≡ whole
-    decided [] l fs is e = sym is ∙ e
-    decided (t ∷ ts) l fs is e = ap (λ b. b || (covers l t && match_levels ts fs)) (sym is) ∙ e
-
--- another one doesn't match nothing
-pub by_none : (topics filters after end : Split ℕ) (f : Bor (List ℕ)) (whole : Bool) → Decide topics filters whole → Steps filters (Some f) after → bytes_eq f.now hash ≡ false → Steps topics None end → false ≡ whole
-by_none topics filters after end f whole d k isnt none =
-    let m = first_left filters after f d.1 d.3 k in
-    sym isnt ∙ (λ i. match_levels (sym (none_left topics end d.0 d.2 none) i) (f.now ∷ m.0)) ∙ ap (match_levels d.0) (sym m.1) ∙ d.4
-
--- both have a level
-pub by_both : (topics topics' filters filters' : Split ℕ) (t f : Bor (List ℕ)) (whole : Bool) → Decide topics filters whole → Steps filters (Some f) filters' → bytes_eq f.now hash ≡ false → Steps topics (Some t) topics'
-    → (ts fs : List (List ℕ)) × Left topics' ts × Left filters' fs × ((covers f.now t.now && match_levels ts fs) ≡ whole)
-by_both topics topics' filters filters' t f whole d k isnt l =
-    let m = first_left filters filters' f d.1 d.3 k in
-    let n = first_left topics topics' t d.0 d.2 l in
-    (n.0, m.0, n.2, m.2, ap (λ b. b || (covers f.now t.now && match_levels n.0 m.0)) (sym isnt) ∙ (λ i. match_levels (sym n.1 i) (sym m.1 i)) ∙ d.4)
-
--- the filter ends
-pub by_end : (topics topics' filters end : Split ℕ) (o : Option (Bor (List ℕ))) (whole : Bool) → Decide topics filters whole → Steps filters None end → Steps topics o topics' → is_none o ≡ whole
-by_end topics topics' filters end None whole d none k = (λ i. match_levels (sym (none_left topics topics' d.0 d.2 k) i) (sym (none_left filters end d.1 d.3 none) i)) ∙ d.4
-by_end topics topics' filters end (Some t) whole d none k =
-    let n = first_left topics topics' t d.0 d.2 k in (λ i. match_levels (sym n.1 i) (sym (none_left filters end d.1 d.3 none) i)) ∙ d.4
-
--- a level that isn't covered decides
-pub not_covered : (a b whole : Bool) → a ≡ false → (a && b) ≡ whole → false ≡ whole
-not_covered a b whole h e = ap (λ x. x && b) (sym h) ∙ e
-
--- where it is covered, the rest decides
-pub goes_on : (a b whole : Bool) → a ≡ true → (a && b) ≡ whole → b ≡ whole
-goes_on a b whole h e = ap (λ x. x && b) (sym h) ∙ e
-
--- what is no item is none
-pub negated : (r : Bool) (o : Option (Bor (List ℕ))) → not r ≡ is_some o → r ≡ is_none o
-negated true None e = refl
-negated true (Some x) e = absurd cc
-negated false None e = absurd cc
-negated false (Some x) e = refl
 
 -- ---- walking a filter
 

@@ -29,6 +29,7 @@ pub mod PartsAgain
 pub mod FramesAgain
 pub mod Wildcards
 pub mod Levels
+pub mod Walk
 pub mod Matching
 pub mod Bits
 pub mod AnswersLemmas

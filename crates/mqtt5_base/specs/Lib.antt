@@ -22,6 +22,7 @@ pub mod Sound
 pub mod Items
 pub mod Tidy
 pub mod Topics
+pub mod Walk
 pub mod Variants
 pub mod ErrorSound
 pub mod Numbers

@@ -1,11 +1,14 @@
 //! Rules that all packets share: the QoS of a number, topic names and topic filters.
 
-ghost use Rattle.std.specs.Prelude.{◌≡◌, ◌<◌, IsSome, IfSome, ◌↔◌};
+ghost use Rattle.std.specs.Prelude.{◌≡◌, ◌≢◌, ◌<◌, ◌≤◌, ◌&&◌, not, ◌==◌, [], ◌∷◌, length, IsSome, IfSome, IfOk, MatchResult, ◌↔◌};
+ghost use Rattle.std.specs.List.{before_first, common_prefix_len, position_or_len};
+ghost use Rattle.std.specs.Str.{bytes_eq};
 ghost use Rattle.mqtt5_base.specs.Grammar.{is_among, is_qos, number};
 ghost use Rattle.mqtt5_base.specs.Answers.{Finds};
 ghost use Rattle.mqtt5_base.specs.Reading.{judged};
-ghost use Rattle.mqtt5_base.specs.Topics.{IsMatching, covers, has_wildcards, is_inner, is_reserved, is_valid_filter, is_valid_topic, levels, match_levels, stands_alone, topic_matches};
+ghost use Rattle.mqtt5_base.specs.Topics.{IsMatching, has_wildcards, is_inner, is_reserved, is_valid_filter, is_valid_topic, levels, match_levels, stands_alone, topic_matches};
 ghost use Rattle.mqtt5_base.specs.Views.{qos_number};
+ghost use Rattle.mqtt5_base.specs.Walk.{match_behind};
 
 use crate::error::Error;
 use crate::quality::QoS;
@@ -99,33 +102,94 @@ fn is_reserved(topic: &str) -> bool
     topic.starts_with('$')
 }
 
-/// Whether a level of a filter, which isn't `#`, covers a level of a topic.
-fn covers(filter: &str, level: &str) -> bool
-    ensures { result ≡ covers filter.now level.now }
+/// Whether the first level of a text is this one byte, which isn't `/`.
+fn begins_with_level(text: &[u8], byte: u8) -> bool
+    requires { byte ≢ 47 }
+    ensures { result ≡ bytes_eq (before_first (λ b. b == 47) text.now) (byte ∷ []) }
 {
-    if filter == "+" {
-        level != "#"
-    } else {
-        filter == level
+    match text {
+        [only] => *only == byte,
+        [first, b'/', ..] => *first == byte,
+        _ => false,
     }
+}
+
+/// How many bytes the first level of a text has.
+fn level_len(text: &[u8]) -> usize
+    ensures value { result ≡ position_or_len (λ b. b == 47) text.now }
+    ensures within { result ≤ length text.now }
+{
+    let mut end = 0;
+    while end < text.len() && text[end] != b'/' {
+        end += 1;
+    }
+    end
+}
+
+/// How many bytes at the start of both texts are equal and in the first level.
+fn common_len(topic: &[u8], filter: &[u8]) -> usize
+    ensures value { result ≡ common_prefix_len (λ t f. t == f && not (t == 47)) topic.now filter.now }
+    ensures in_topic { result ≤ length topic.now }
+    ensures in_filter { result ≤ length filter.now }
+{
+    let mut len = 0;
+    while len < topic.len()
+        && len < filter.len()
+        && topic[len] == filter[len]
+        && topic[len] != b'/'
+    {
+        len += 1;
+    }
+    len
+}
+
+/// What is left behind a level that covers one, or whether it matches.
+#[tactic(auto, using(crate::proofs::Walk::topic_ended))]
+fn left_behind<'a>(topic: &'a [u8], filter: &'a [u8]) -> Result<(&'a [u8], &'a [u8]), bool>
+    ensures value { MatchResult result
+        (λ left. match_levels (levels left.0.now) (levels left.1.now) ≡ match_behind topic.now filter.now)
+        (λ matches. matches ≡ match_behind topic.now filter.now) }
+    ensures shorter { IfOk result (λ left. length left.1.now < length filter.now) }
+{
+    match (topic, filter) {
+        ([], []) => Err(true),
+        ([], [b'/', levels @ ..]) => Err(begins_with_level(levels, b'#')),
+        ([b'/', levels @ ..], [b'/', covering @ ..]) => Ok((levels, covering)),
+        _ => Err(false),
+    }
+}
+
+/// What is left behind the first level of both, or whether they match.
+fn next_levels<'a>(topic: &'a [u8], filter: &'a [u8]) -> Result<(&'a [u8], &'a [u8]), bool>
+    ensures value { MatchResult result
+        (λ left. match_levels (levels left.0.now) (levels left.1.now) ≡ match_levels (levels topic.now) (levels filter.now))
+        (λ matches. matches ≡ match_levels (levels topic.now) (levels filter.now)) }
+    ensures shorter { IfOk result (λ left. length left.1.now < length filter.now) }
+{
+    if begins_with_level(filter, b'#') {
+        return Err(true);
+    }
+    if begins_with_level(filter, b'+') && !begins_with_level(topic, b'#') {
+        return left_behind(&topic[level_len(topic)..], &filter[1..]);
+    }
+    let len = common_len(topic, filter);
+    left_behind(&topic[len..], &filter[len..])
 }
 
 fn levels_match(topic: &str, filter: &str) -> bool
     ensures { result ≡ match_levels (levels topic.now) (levels filter.now) }
 {
-    let mut levels = topic.split('/');
-    for f in filter.split('/') {
-        if f == "#" {
-            return true;
-        }
-        let Some(level) = levels.next() else {
-            return false;
-        };
-        if !covers(f, level) {
-            return false;
+    let mut topic_left = topic.as_bytes();
+    let mut filter_left = filter.as_bytes();
+    loop {
+        match next_levels(topic_left, filter_left) {
+            Ok((levels, covering)) => {
+                topic_left = levels;
+                filter_left = covering;
+            }
+            Err(matches) => return matches,
         }
     }
-    levels.next().is_none()
 }
 
 /// Whether a topic matches a filter (MQTT 5.0 section 4.7): level by level, where a `+` of the filter

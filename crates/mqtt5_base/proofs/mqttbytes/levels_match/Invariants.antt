@@ -1,9 +1,10 @@
+use Rattle.std.proofs.Common.{◌≡◌, length}
 use Rattle.mqtt5_base.specs.Topics.{levels, match_levels}
-use Rattle.mqtt5_base.proofs.Levels.{Decide}
 use Rattle.mqtt5_base.proofs.mqttbytes.levels_match.Given as goal
 
--- the levels that are left decide
-abbrev pub invariant-loop-f : goal.invariant-loop-f
-invariant-loop-f l =
-    (goal.iterator-loop-f).can_next l.f-iterator × (goal.iterator-loop-f).is_finite l.f-iterator
-    × Decide l.levels l.f-iterator (match_levels (levels l.topic) (levels l.filter))
+-- what is left decides
+abbrev pub invariant-loop-levels : goal.invariant-loop-levels
+invariant-loop-levels l = match_levels (levels l.topic_left) (levels l.filter_left) ≡ match_levels (levels l.topic) (levels l.filter)
+
+abbrev pub decreases-loop-levels : goal.decreases-loop-levels
+decreases-loop-levels l = length l.filter_left
