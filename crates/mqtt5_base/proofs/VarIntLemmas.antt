@@ -1,5 +1,5 @@
 -- Variable byte integers: what stands at the front of bytes, and the shortest bytes of a number.
-use Rattle.std.proofs.Common.{◌≡◌, ℕ, zero, suc, ◌+◌, ◌*◌, ◌/◌, ◌%◌, ◌<◌, ◌≤◌, List, [], ◌∷◌, ◌++◌, length, take, ◌⊎◌, inl, inr, refl, sym, ap, ◌∙◌, arith, length-append}
+use Rattle.std.proofs.Common.{◌≡◌, ℕ, zero, suc, ◌+◌, ◌*◌, ◌/◌, ◌%◌, ◌<◌, ◌≤◌, List, [], ◌∷◌, ◌++◌, length, take, slice_index_or, ◌⊎◌, inl, inr, refl, sym, ap, ◌∙◌, arith, length-append}
 use Rattle.std.proofs.lemmas.List.{take_at}
 use Rattle.std.proofs.lemmas.Bool.{cases_lt, lt-ltb, le-ltb}
 use Rattle.mqtt5_base.specs.VarInt.{IsEnded, sevens, VarInt, var_int_in, var_int}
@@ -17,6 +17,15 @@ length_last most b bs lt = rw (lt-ltb b 128 lt) refl
 pub length_more : (most b : ℕ) (bs : List ℕ) → 128 ≤ b → length_at (suc most) (b ∷ bs) ≡ after_byte b (length_at most bs)
 unfolding length_at
 length_more most b bs le = rw (le-ltb b 128 le) refl
+
+-- two bytes, of which the first alone says that another follows
+pub length_two : (most : ℕ) (bs : List ℕ) → 1 < most → 2 ≤ length bs → 128 ≤ slice_index_or bs 0 0 → slice_index_or bs 1 0 < 128
+    → length_at most bs ≡ Finished 2 (slice_index_or bs 0 0 % 128 + 128 * slice_index_or bs 1 0)
+length_two zero bs most two more last = absurd (omega arith)
+length_two (suc zero) bs most two more last = absurd (omega arith)
+length_two (suc (suc n)) [] most two more last = absurd (omega arith)
+length_two (suc (suc n)) (a ∷ []) most two more last = absurd (omega arith)
+length_two (suc (suc n)) (a ∷ b ∷ bs) most two more last = length_more (suc n) a (b ∷ bs) more ∙ ap (after_byte a) (length_last n b bs last)
 
 -- bytes of a number behind such a byte are bytes of a number
 pub ended_more : (b : ℕ) (front : List ℕ) → 128 ≤ b → IsEnded front → IsEnded (b ∷ front)

@@ -104,9 +104,29 @@ pub fn read_text(alloc: Global, stream: &mut Bytes) -> Result<Text, Error>
 }
 
 /// The variable byte integer at the front, in at most so many bytes: the count of its bytes, and its
-/// value. E19 where it isn't finished, E17 where each of so many bytes says that another follows.
+/// value. E19 where it isn't finished, E17 where each of so many bytes says that another follows. Most have one byte or two.
+#[inline(always)]
 #[tactic(auto, using(crate::proofs::Powers::power), unfolding(crate::specs::Lengths::length_at))]
 pub(crate) fn varint_in(bytes: &[u8], most: u8) -> Result<(usize, usize), Error>
+    requires { most ≤ 4 }
+    ensures value { Lengths result (length_at most bytes.now) }
+    ensures count { IfOk result (λ r. r.0 ≤ most) }
+    ensures within { IfOk result (λ r. r.0 ≤ length bytes.now) }
+    ensures bound { IfOk result (λ r. r.1 < 128 ^ most) }
+{
+    match bytes {
+        [a, ..] if most > 0 && *a < 128 => Ok((1, *a as usize)),
+        [a, b, ..] if most > 1 && *a >= 128 && *b < 128 => {
+            Ok((2, (*a % 128) as usize + 128 * *b as usize))
+        }
+        _ => long_varint_in(bytes, most),
+    }
+}
+
+/// The same, a byte after the other.
+#[inline(never)]
+#[tactic(auto, using(crate::proofs::Powers::power), unfolding(crate::specs::Lengths::length_at))]
+fn long_varint_in(bytes: &[u8], most: u8) -> Result<(usize, usize), Error>
     requires { most ≤ 4 }
     ensures value { Lengths result (length_at most bytes.now) }
     ensures count { IfOk result (λ r. r.0 ≤ most) }
@@ -122,7 +142,7 @@ pub(crate) fn varint_in(bytes: &[u8], most: u8) -> Result<(usize, usize), Error>
             if *b < 128 {
                 Ok((1, *b as usize))
             } else {
-                let (count, n) = varint_in(rest, most - 1)?;
+                let (count, n) = long_varint_in(rest, most - 1)?;
                 Ok((count + 1, (*b % 128) as usize + 128 * n))
             }
         }
