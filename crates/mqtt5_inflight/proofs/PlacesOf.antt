@@ -4,6 +4,8 @@ use Rattle.std.proofs.lemmas.Bool.{cases_lt}
 use Rattle.std.specs.FinMap.{get, insert, remove, empty}
 use Rattle.std.specs.Map.{lookup}
 use Rattle.std.specs.Ordering.{nat_cmp}
+use Rattle.std.specs.Prelude.{slice_index_or}
+use Rattle.std.specs.BTreeMap as tree
 use Rattle.std.specs.BTreeMap.{BTreeMap, IsEmpty, is_at}
 use Rattle.mqtt5_inflight.specs.Paged.{Offsets, place_in, place_at, places_of, SetsPlace, SamePlaces}
 use Rattle.mqtt5_inflight.proofs.Below.{get_below, get_past, below_same, below_insert, below_remove, below_empty}
@@ -13,6 +15,13 @@ no_pages m e = below_empty (place_at m) (2 ^ 16) (λ q. ap (λ es. place_in (loo
 
 pub get_place : (m : BTreeMap ℕ Offsets) (id : ℕ) → id < 2 ^ 16 → get (places_of m) id ≡ place_at m id
 get_place m id h = get_below (place_at m) (2 ^ 16) id h
+
+-- the place of an id where its page is there, and where it is not
+pub in_page : (m : BTreeMap ℕ Offsets) (id number : ℕ) (page : Offsets) → id / 64 ≡ number → tree.get nat_cmp m number ≡ Some page → place_at m id ≡ slice_index_or page (id % 64) None
+in_page m id number page e there = ap (λ k. place_in (tree.get nat_cmp m k) (id % 64)) e ∙ ap (λ o. place_in o (id % 64)) there
+
+pub no_page : (m : BTreeMap ℕ Offsets) (id : ℕ) → tree.get nat_cmp m (id / 64) ≡ None → place_at m id ≡ None
+no_page m id absent = ap (λ o. place_in o (id % 64)) absent
 
 -- an id that has no place in the pages has none
 pub free_at : (m : BTreeMap ℕ Offsets) (id : ℕ) → (id < 2 ^ 16 → place_at m id ≡ None) → get (places_of m) id ≡ None

@@ -1,6 +1,6 @@
 //! A page of packet identifiers: where what is known of each of 64 ids in a row stands.
 
-ghost use Rattle.std.specs.Prelude.{◌≡◌, ◌<◌, ℕ, IsTrue, IfOk, None, Some, length, slice_get, slice_index_or, slice_set};
+ghost use Rattle.std.specs.Prelude.{◌≡◌, ◌<◌, ◌≤◌, ℕ, IsTrue, IfOk, IfNone, IfSome, None, Some, length, slice_get, slice_index_or, slice_set};
 ghost use Rattle.mqtt5_inflight.specs.Paged.{IsBlank};
 
 use std::alloc::{AllocError, Global};
@@ -44,6 +44,24 @@ impl Page {
         ensures { result ≡ slice_index_or self.now offset None }
     {
         self.places[offset]
+    }
+
+    /// The first id in use from an offset on, and its place.
+    #[inline]
+    pub fn next_from(&self, offset: usize) -> Option<(usize, usize)>
+        ensures within { IfSome result (λ e. (offset ≤ e.0) × (e.0 < 64)) }
+        ensures found { IfSome result (λ e. slice_index_or self.now e.0 None ≡ Some e.1) }
+        ensures first { IfSome result (λ e.
+            (k : ℕ) → offset ≤ k → k < e.0 → slice_index_or self.now k None ≡ None) }
+        ensures last { IfNone result (
+            (k : ℕ) → offset ≤ k → k < 64 → slice_index_or self.now k None ≡ None) }
+    {
+        for next in offset..IDS as usize {
+            if let Some(place) = self.places[next] {
+                return Some((next, place));
+            }
+        }
+        None
     }
 
     /// Gives an id, which is free, a place.

@@ -1,6 +1,6 @@
 //! Where what is known of each packet identifier in use stands, in an ordered map of pages of ids.
 
-ghost use Rattle.std.specs.Prelude.{◌≡◌, ◌≢◌, ◌<◌, ◌≤◌, ◌/◌, ◌*◌, ◌+◌, ℕ, false, None, Some, IsTrue, IfOk, IfNone, IfSome, OnOk, OnErr, option_map};
+ghost use Rattle.std.specs.Prelude.{◌≡◌, ◌≢◌, ◌<◌, ◌≤◌, ◌/◌, ◌%◌, ℕ, false, None, Some, IsTrue, IfOk, IfNone, IfSome, OnOk, OnErr, option_map, slice_index_or};
 ghost use Rattle.std.specs.Ordering.{nat_cmp};
 ghost use Rattle.std.specs.BTreeMap.{get as page_of};
 ghost use Rattle.std.specs.FinMap as map;
@@ -10,6 +10,9 @@ use crate::page::{IDS, Page};
 use std::alloc::{AllocError, Global};
 use std::collections::BTreeMap;
 use std::marker::Model;
+
+/// How many pages the ids have.
+const PAGES: u16 = 1024;
 
 /// The place of each id in use. An empty page goes, but for the last one that became empty.
 /// Contracts see a map.
@@ -95,10 +98,13 @@ impl Pages {
             (q : ℕ) → after < q → q < e.0 → map.get self.now q ≡ None) }
         ensures last { IfNone result ((q : ℕ) → after < q → map.get self.now q ≡ None) }
     {
-        for number in after / IDS..1024 {
-            if let Some(found) = next_in(&self.pages, number, after) {
+        let mut number = after / IDS;
+        while number < PAGES {
+            let (there, page) = page_from(&self.pages, number)?;
+            if let Some(found) = next_in(page, there, after) {
                 return Some(found);
             }
+            number = there + 1;
         }
         None
     }
@@ -218,24 +224,36 @@ fn let_go(
     Some(number)
 }
 
-/// The first id in use of a page that is above another, and its place.
-fn next_in(pages: &BTreeMap<u16, Page>, number: u16, after: u16) -> Option<(u16, usize)>
+/// The first page that is there from a number on, and its number.
+fn page_from(pages: &BTreeMap<u16, Page>, number: u16) -> Option<(u16, &Page)>
     requires { number < 1024 }
-    ensures found { IfSome result (λ e. (after < e.0) × (place_at pages.now e.0 ≡ Some e.1)) }
-    ensures within { IfSome result (λ e. (64 * number ≤ e.0) × (e.0 < 64 * number + 64)) }
+    ensures within { IfSome result (λ e. (number ≤ e.0) × (e.0 < 1024)) }
+    ensures found { IfSome result (λ e. page_of nat_cmp pages.now e.0 ≡ Some e.1.now) }
     ensures first { IfSome result (λ e.
-        (q : ℕ) → 64 * number ≤ q → after < q → q < e.0 → place_at pages.now q ≡ None) }
+        (k : ℕ) → number ≤ k → k < e.0 → page_of nat_cmp pages.now k ≡ None) }
     ensures last { IfNone result (
-        (q : ℕ) → 64 * number ≤ q → q < 64 * number + 64 → after < q → place_at pages.now q ≡ None) }
+        (k : ℕ) → number ≤ k → k < 1024 → page_of nat_cmp pages.now k ≡ None) }
 {
-    let page = pages.get(&number)?;
-    for offset in after.saturating_sub(IDS * number)..IDS {
-        let id = IDS * number + offset;
-        if id > after
-            && let Some(place) = page.get(offset as usize)
-        {
-            return Some((id, place));
-        }
+    if let Some(page) = pages.get(&number) {
+        return Some((number, page));
     }
-    None
+    let (there, page) = pages.range(number..PAGES).next()?;
+    Some((*there, page))
+}
+
+/// The first id in use of a page that is above another, and its place.
+fn next_in(page: &Page, number: u16, after: u16) -> Option<(u16, usize)>
+    requires { number < 1024 }
+    ensures found { IfSome result (λ e.
+        (after < e.0) × (slice_index_or page.now (e.0 % 64) None ≡ Some e.1)) }
+    ensures within { IfSome result (λ e. e.0 / 64 ≡ number) }
+    ensures first { IfSome result (λ e.
+        (q : ℕ) → q / 64 ≡ number → after < q → q < e.0 → slice_index_or page.now (q % 64) None ≡ None) }
+    ensures last { IfNone result (
+        (q : ℕ) → q / 64 ≡ number → after < q → slice_index_or page.now (q % 64) None ≡ None) }
+{
+    let first = (IDS * number) as usize;
+    let (offset, place) = page.next_from((after as usize + 1).saturating_sub(first))?;
+    let id = IDS * number + offset as u16;
+    Some((id, place))
 }
