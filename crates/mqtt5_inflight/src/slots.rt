@@ -126,6 +126,10 @@ impl Slots {
     {
         let mut requests = Vec::with_capacity(self.alloc, self.in_use.len())?;
         push_sent(&mut requests, self)?;
+        // No id is released.
+        if requests.len() == self.in_use.len() {
+            return Ok(requests);
+        }
         push_released(&mut requests, self)?;
         Ok(requests)
     }
