@@ -449,6 +449,25 @@ impl MqttState {
         self.copy_out(publish, at)
     }
 
+    /// The same of a publish that the session takes, and stores as it is.
+    pub fn send_own(&mut self, publish: Publish, at: u64) -> Result<Reply, StateError>
+        ensures step { publish.qos ≢ AtMostOnce
+            → Sends (in_full result self.new) self.old self.new
+            (on_request self.old (Request.Publish publish) at) }
+        ensures ledger { owed self.new.core ≡ owed self.old.core + accepted result
+            (adds self.old.core (Request.Publish publish)) }
+        ensures once { (id : ℕ) → kept_id id self.new.core ≡ kept_id id self.old.core }
+        ensures unstored { publish.qos ≡ AtMostOnce → (result ≡ Err StateError.InvalidState)
+            × (self.new ≡ self.old) }
+    {
+        let once = publish.qos == QoS::AtMostOnce;
+        if once {
+            drop(publish);
+            return Err(StateError::InvalidState);
+        }
+        self.own_out(publish, at)
+    }
+
     /// Tells of a Disconnect with ProtocolError, and answers it to send. S12; the session is then unchanged.
     pub fn handle_protocol_error(&mut self) -> Result<Option<Packet>, StateError>
         ensures step { Sends result self.old self.new (protocol_error self.old) }
@@ -477,6 +496,36 @@ impl MqttState {
         self.awaits_ping = false;
         self.collision_pings = 0;
         Ok(requests)
+    }
+
+    /// What `clean` would answer. The session stays as it is. Err where memory is refused.
+    pub fn unacked(&self) -> Result<Vec<Request>, AllocError>
+        ensures { IfOk result
+            (λ v. v.items ≡ requests_of self.now.core.limit self.now.core.in_use) }
+    {
+        self.slots.requests()
+    }
+
+    /// A copy of the session as `clean` would leave it, in which no publish is copied that awaits an ack. Err where
+    /// memory is refused.
+    pub fn cleaned(&self, alloc: Global) -> Result<MqttState, AllocError>
+        ensures { IfOk result (λ s. s ≡ cleaned self.now) }
+    {
+        Ok(MqttState {
+            slots: Slots::new(alloc, self.slots.limit()),
+            last_pkid: self.last_pkid(),
+            current: self.current,
+            aliases: self.aliases.clone()?,
+            alias_max: self.alias_max,
+            manual_acks: self.manual_acks,
+            incoming: self.incoming.clone()?,
+            awaits_ping: false,
+            collision_pings: 0,
+            events: copied_queue(&self.events)?,
+            last_incoming: self.last_incoming,
+            last_outgoing: self.last_outgoing,
+            waiting: copied(&self.waiting)?,
+        })
     }
 
     /// Answers what is to be sent on a new connection to the kept session, and tells of it: all that `clean`

@@ -140,6 +140,73 @@ impl MqttState {
         }
     }
 
+    /// A publish of QoS 1 or 2 is stored as it is, or waits until its id is free.
+    #[tactic(auto, unfolding(crate::specs::Requests::on_request))]
+    pub(super) fn own_out(&mut self, publish: Publish, at: u64) -> Result<Reply, StateError>
+        requires { publish.qos ≢ AtMostOnce }
+        ensures { Sends (in_full result self.new) self.old self.new
+            (on_request self.old (Request.Publish publish) at) }
+    {
+        let mut publish = publish;
+        let (id, last) = self.take_id(publish.pkid);
+        publish.pkid = id;
+        self.own_named(publish, last, at)
+    }
+
+    /// The same of one that has its id.
+    fn own_named(&mut self, publish: Publish, last: u16, at: u64) -> Result<Reply, StateError>
+        requires id { 0 < publish.pkid }
+        requires last { last < self.old.core.limit }
+        requires counted { publish.qos ≢ AtMostOnce }
+        ensures { Sends (in_full result self.new) self.old self.new
+            (out_identified self.old publish last at) }
+    {
+        let id = publish.pkid;
+        match self.is_free_for(id, &publish) {
+            Ok(true) => Ok(Reply::Publish(self.store_own(publish, last, at)?)),
+            Ok(false) => self.park_own(publish, last, at),
+            Err(refused) => {
+                drop(publish);
+                Err(refused)
+            }
+        }
+    }
+
+    /// Stores a publish under its id, which is free, and answers the id.
+    fn store_own(&mut self, publish: Publish, last: u16, at: u64) -> Result<u16, AllocError>
+        requires low { 0 < publish.pkid }
+        requires high { publish.pkid ≤ self.old.core.limit }
+        requires counted { publish.qos ≢ AtMostOnce }
+        requires last { last < self.old.core.limit }
+        ensures id { IfOk result (λ id. id ≡ publish.pkid) }
+        ensures ok { OnOk result (self.new ≡ stored self.old publish last at) }
+        ensures err { OnErr result (self.new ≡ self.old) }
+    {
+        let id = publish.pkid;
+        if let Err(refused) = self.events.reserve(1) {
+            drop(publish);
+            return Err(refused);
+        }
+        self.slots.insert(id, Slot::Sent(publish))?;
+        self.events
+            .push_back_reserved(Event::Outgoing(Outgoing::Publish(id)));
+        self.last_pkid = last;
+        self.last_outgoing = at;
+        Ok(id)
+    }
+
+    /// Keeps a publish until its id is free.
+    #[inline(never)]
+    fn park_own(&mut self, publish: Publish, last: u16, at: u64) -> Result<Reply, StateError>
+        requires last { last < self.old.core.limit }
+        requires counted { publish.qos ≢ AtMostOnce }
+        ensures { Sends (in_full result self.new) self.old self.new
+            (Ok None, awaits self.old publish last at) }
+    {
+        self.park_publish(publish, last, at)?;
+        Ok(Reply::Nothing)
+    }
+
     /// Keeps a copy of a publish until its id is free.
     #[inline(never)]
     fn keep_copy(
