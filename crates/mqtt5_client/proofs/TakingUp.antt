@@ -18,9 +18,9 @@ use Rattle.mqtt5_session.specs.Requests.{on_request}
 use Rattle.mqtt5_session.specs.Packets.{on_packet}
 use Rattle.mqtt5_session.specs.Resuming.{cleaned, send_all, resume_of, with_reply, Sendings}
 use Rattle.mqtt5_session.proofs.Resume.{sent_before}
-use Rattle.mqtt5_client.specs.TakingUp.{is_writable, fitting, unfitting, unacked, fitting_of, NotSent, ended}
+use Rattle.mqtt5_client.specs.TakingUp.{is_writable, fitting, unfitting, unacked, fitting_of, ended}
 use Rattle.mqtt5_client.specs.Again.{frames_of, Framed}
-use Rattle.mqtt5_client.specs.Resending.{all_fitting, SendsOne, allowed_by}
+use Rattle.mqtt5_client.specs.Resending.{all_fitting, NotResent, SendsOne, allowed_by}
 
 -- a packet goes behind those before it
 reply_after : (ps : List Packet) (reply : Option Packet) (r : Sendings) → sent_before ps (with_reply (Ok reply) r) ≡ sent_before (ps ++ option_to_list reply) r
@@ -67,10 +67,10 @@ hears_allowed s old mid new at start heard popped =
 
 -- ---- frames that can't be had
 
-pub not_framed : (result : Result Filled StateError) (codec : Codec) (s t : Session) (sent : List Packet) (at : ℕ) → fitting_of codec s at ≡ Ok (sent, t) → Framed (frames_of codec sent) result → IfErr result (λ e. NotSent e codec s at)
-not_framed (Ok frames) codec s t sent at is h = tt
-not_framed (Err e) codec s t sent at is (inl memory) = inl memory
-not_framed (Err e) codec s t sent at is (inr h) = inr (inr (sent, t, is, h))
+pub not_framed : (result : Result Filled StateError) (codec : Codec) (rs : List Request) (s t : Session) (sent : List Packet) (at : ℕ) → all_fitting codec rs s at ≡ Ok (sent, t) → Framed (frames_of codec sent) result → IfErr result (λ e. NotResent e codec rs s at)
+not_framed (Ok frames) codec rs s t sent at is h = tt
+not_framed (Err e) codec rs s t sent at is (inl memory) = inl memory
+not_framed (Err e) codec rs s t sent at is (inr h) = inr (inr (sent, t, is, h))
 
 -- ---- where all fits
 

@@ -1,20 +1,29 @@
 -- This file serves the logic alone: one request after another is sent again, where it fits.
 use Rattle.std.specs.Prelude.{◌≡◌, ℕ, ◌⊎◌, List, [], ◌++◌, map, Option, None, Some, Result, Ok, Err}
 use Rattle.std.specs.Option.{option_to_list}
+use Rattle.mqtt5_base.specs.declared.error.Error.{Error}
 use Rattle.mqtt5_control.specs.declared.connack.ConnAckProperties.{ConnAckProperties}
 use Rattle.mqtt5_codec.specs.declared.packet.Packet.{Packet}
 use Rattle.mqtt5_codec.specs.declared.codec.Codec.{Codec}
 use Rattle.mqtt5_inflight.specs.declared.event.Request.{Request}
+use Rattle.mqtt5_inflight.specs.Errors.{state_error}
 use Rattle.mqtt5_inflight.specs.declared.error.StateError.{StateError}
 use Rattle.mqtt5_inflight.specs.declared.error.StateError.TheVariants as faults
 use Rattle.mqtt5_session.specs.Session.{Core, Session, Answer}
 use Rattle.mqtt5_session.specs.Requests.{on_request}
 use Rattle.mqtt5_session.specs.Resuming.{send_all, Sendings}
 use Rattle.mqtt5_client.specs.TakingUp.{fitting, unfitting}
+use Rattle.mqtt5_client.specs.Again.{frames_of}
 
 -- what is fitting of these is sent
 abbrev pub all_fitting : Codec → List Request → Session → ℕ → Sendings
 all_fitting codec rs s at = send_all (map (fitting codec) rs) s at
+
+-- memory ran out, or the session refuses one of these for its topic alias, or a packet can't be written
+abbrev pub NotResent : StateError → Codec → List Request → Session → ℕ → Type 0
+NotResent e codec rs s at =
+    (e ≡ faults.OutOfMemory) ⊎ ((all_fitting codec rs s at ≡ Err e)
+    ⊎ ((sent : List Packet) × (t : Session) × (all_fitting codec rs s at ≡ Ok (sent, t)) × ((f : Error) × (frames_of codec sent ≡ Err f) × (e ≡ state_error f))))
 
 -- one more packet, and one more that is given back, as there are
 abbrev pub SendsOne : Result Unit StateError → Codec → Request → ℕ → Session → List Packet → List Request → Session → List Packet → List Request → Type 0

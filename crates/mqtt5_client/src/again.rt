@@ -1,6 +1,6 @@
 //! What is sent again on a new connection, and what is given back without one.
 
-ghost use Rattle.std.specs.Prelude.{◌≡◌, Some, IfOk, IfErr};
+ghost use Rattle.std.specs.Prelude.{◌≡◌, ◌++◌, Some, IfOk, IfErr, OnOk, OnErr};
 ghost use Rattle.mqtt5_inflight.specs.declared.error.StateError.TheVariants.{OutOfMemory};
 ghost use Rattle.mqtt5_drive.specs.Run.{reply_bytes};
 ghost use Rattle.mqtt5_drive.specs.Ways.{Replies};
@@ -12,7 +12,7 @@ use mqtt5_base::copied;
 use mqtt5_codec::{Codec, Packet};
 use mqtt5_publish::Publish;
 use mqtt5_session::{MqttState, Request, StateError};
-use std::alloc::Global;
+use std::alloc::{AllocError, Global};
 
 /// Appends the frame of a packet.
 fn encode(codec: &Codec, output: &mut BytesMut, packet: &Packet) -> Result<(), StateError>
@@ -40,15 +40,24 @@ pub(crate) fn frames(
     Ok(frames)
 }
 
+/// Puts frames behind what waits to be sent. Where nothing does and there is no room for them, they are taken as they are.
+pub(crate) fn append(output: &mut BytesMut, frames: BytesMut) -> Result<(), AllocError>
+    ensures ok { OnOk result (output.new.items ≡ output.old.items ++ frames.items) }
+    ensures err { OnErr result (output.new.items ≡ output.old.items) }
+{
+    if output.is_empty() && output.capacity() < frames.len() {
+        *output = frames;
+        return Ok(());
+    }
+    output.extend_from_slice(frames.as_slice())
+}
+
 /// What a session gives back.
 pub(crate) fn given_back(state: &MqttState) -> Result<Vec<Request>, StateError>
     ensures ok { IfOk result (λ v. v.items ≡ given_back state.now.core) }
     ensures err { IfErr result (λ e. e ≡ OutOfMemory) }
 {
-    let mut copy = state.clone()?;
-    let requests = copy.clean();
-    drop(copy);
-    let mut requests = requests?;
+    let mut requests = state.unacked()?;
     if let Some(publish) = state.collision() {
         requests.push(Request::Publish(copied(publish)?))?;
     }

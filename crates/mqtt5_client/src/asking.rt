@@ -1,15 +1,17 @@
 //! What a request is sent as. It is written before the session takes the request, so what can't be written changes
 //! nothing.
 
-ghost use Rattle.std.specs.Prelude.{◌≡◌, Some};
+ghost use Rattle.std.specs.Prelude.{◌≡◌, ◌≢◌, Some, is_some};
+ghost use Rattle.mqtt5_base.specs.declared.quality.QoS.TheVariants.{AtMostOnce};
 ghost use Rattle.mqtt5_base.specs.Puts.{Writes};
 ghost use Rattle.mqtt5_codec.specs.Packets.{writing_under};
-ghost use Rattle.mqtt5_session.specs.Replies.{made_of};
+ghost use Rattle.mqtt5_session.specs.Replies.{made_of, packet_of};
 ghost use Rattle.mqtt5_session.specs.Requests.{id_for, next_id, on_request};
 ghost use Rattle.mqtt5_drive.specs.Run.{reply_bytes};
 ghost use Rattle.mqtt5_client.specs.Asked.{id_asked, subscribe_asked, bytes_asked, Takes};
 ghost use Rattle.mqtt5_client.specs.Handed.{HandsOn};
 
+use crate::taking_up::as_publish;
 use bytes::BytesMut;
 use mqtt5_base::{Error, QoS};
 use mqtt5_codec::{Codec, Packet};
@@ -166,8 +168,46 @@ fn put(
     }
 }
 
-/// Hands a request on to the session. What the output has behind this length goes where nothing is sent.
-fn hand_on(
+/// Whether a reply of the session is sent.
+fn is_sent(state: &MqttState, reply: Reply) -> bool
+    ensures { result ≡ is_some (packet_of reply state.now) }
+{
+    match reply {
+        Reply::Nothing => false,
+        Reply::Publish(id) => state.outgoing_pub(id).is_some(),
+        _other => true,
+    }
+}
+
+/// The session stores a publish of QoS 1 or 2 as it is.
+fn hand_on_stored(
+    state: &mut MqttState,
+    output: &mut BytesMut,
+    publish: Publish,
+    at: u64,
+    length: usize,
+) -> Result<(), StateError>
+    requires { publish.qos ≢ AtMostOnce }
+    ensures { HandsOn result (on_request state.old (Request.Publish publish) at) length state.old
+        output.old.items state.new output.new.items }
+{
+    match state.send_own(publish, at) {
+        Ok(reply) => {
+            if is_sent(state, reply) {
+                return Ok(());
+            }
+            output.truncate(length);
+            Ok(())
+        }
+        Err(refused) => {
+            output.truncate(length);
+            Err(refused)
+        }
+    }
+}
+
+/// Hands any other request on.
+fn hand_on_any(
     state: &mut MqttState,
     output: &mut BytesMut,
     request: Request,
@@ -190,6 +230,41 @@ fn hand_on(
             output.truncate(length);
             Err(refused)
         }
+    }
+}
+
+/// Hands a publish on. The session stores one of QoS 1 or 2 as it is, unless it has properties: their texts and lists may
+/// have spare room, which would be kept until the ack, and a copy has none.
+fn hand_on_publish(
+    state: &mut MqttState,
+    output: &mut BytesMut,
+    publish: Publish,
+    at: u64,
+    length: usize,
+) -> Result<(), StateError>
+    ensures { HandsOn result (on_request state.old (Request.Publish publish) at) length state.old
+        output.old.items state.new output.new.items }
+{
+    if publish.qos == QoS::AtMostOnce || publish.properties.is_some() {
+        return hand_on_any(state, output, as_publish(publish), at, length);
+    }
+    hand_on_stored(state, output, publish, at, length)
+}
+
+/// Hands a request on to the session. What the output has behind this length goes where nothing is sent.
+fn hand_on(
+    state: &mut MqttState,
+    output: &mut BytesMut,
+    request: Request,
+    at: u64,
+    length: usize,
+) -> Result<(), StateError>
+    ensures { HandsOn result (on_request state.old request at) length state.old output.old.items
+        state.new output.new.items }
+{
+    match request {
+        Request::Publish(publish) => hand_on_publish(state, output, publish, at, length),
+        other => hand_on_any(state, output, other, at, length),
     }
 }
 

@@ -17,7 +17,7 @@ ghost use Rattle.mqtt5_drive.specs.Limit.{allowed};
 ghost use Rattle.mqtt5_client.specs.Connecting.{connect_packet, opened, IsRefused};
 ghost use Rattle.mqtt5_client.specs.Again.{SendsAgain, Refuses};
 
-use crate::again::{frames, given_back};
+use crate::again::{append, frames, given_back};
 use crate::asking::send_request;
 use crate::connecting::{connect_frame, incoming_limit};
 use bytes::BytesMut;
@@ -235,7 +235,7 @@ impl Client {
         let alloc = *self.input.allocator();
         let packets = self.state.resume(at)?;
         let frames = frames(alloc, &self.codec, &packets)?;
-        self.output.extend_from_slice(frames.as_slice())?;
+        append(&mut self.output, frames)?;
         Ok(())
     }
 

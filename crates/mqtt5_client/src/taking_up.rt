@@ -12,9 +12,9 @@ ghost use Rattle.mqtt5_session.specs.Resuming.{resume_of};
 ghost use Rattle.mqtt5_client.specs.Again.{frames_of};
 ghost use Rattle.mqtt5_client.specs.Client.{IsReady, given_back};
 ghost use Rattle.mqtt5_client.specs.TakingUp.{is_writable, fitting, unfitting, unacked, fitting_of, SendsFitting, NotSent, ended, Ends, TakesUp, returned, NotTakenUp};
-ghost use Rattle.mqtt5_client.specs.Resending.{all_fitting, Answered, SendsOne, allowed_by};
+ghost use Rattle.mqtt5_client.specs.Resending.{all_fitting, Answered, NotResent, SendsOne, allowed_by};
 
-use crate::again::{frames, given_back};
+use crate::again::{append, frames, given_back};
 use crate::client::{Client, renewed};
 use bytes::BytesMut;
 use mqtt5_base::Error;
@@ -25,20 +25,20 @@ use mqtt5_publish::{PubRel, Publish};
 use mqtt5_session::{MqttState, Request, StateError};
 use std::alloc::Global;
 
-/// Whether a publish can be written under the outgoing limit.
-fn is_writable(alloc: Global, codec: &Codec, publish: &Publish) -> Result<bool, StateError>
+/// Whether a publish can be written under the outgoing limit: it is written to a buffer that is used again and again.
+fn is_writable(codec: &Codec, scratch: &mut BytesMut, publish: &Publish) -> Result<bool, StateError>
     ensures ok { IfOk result (λ b. b ≡ is_writable codec.now publish.now) }
     ensures err { IfErr result (λ e. e ≡ faults.OutOfMemory) }
 {
-    let mut frame = BytesMut::new(alloc);
-    match put_publish(codec, &mut frame, publish) {
+    scratch.clear();
+    match put_publish(codec, scratch, publish) {
         Ok(()) => Ok(true),
         Err(Error::OutOfMemory) => Err(StateError::OutOfMemory),
         Err(_refused) => Ok(false),
     }
 }
 
-fn as_publish(publish: Publish) -> Request
+pub(crate) fn as_publish(publish: Publish) -> Request
     ensures { result ≡ Request.Publish publish }
 {
     Request::Publish(publish)
@@ -52,8 +52,8 @@ fn as_release(id: u16) -> Request
 
 /// What is sent of a publish; one that can't be written is added to what is given back.
 fn fit_publish(
-    alloc: Global,
     codec: &Codec,
+    scratch: &mut BytesMut,
     publish: Publish,
     given: &mut Vec<Request>,
 ) -> Result<Request, StateError>
@@ -62,7 +62,7 @@ fn fit_publish(
         (Request.Publish publish)) }
     ensures err { IfErr result (λ e. e ≡ faults.OutOfMemory) }
 {
-    let Ok(fits) = is_writable(alloc, codec, &publish) else {
+    let Ok(fits) = is_writable(codec, scratch, &publish) else {
         drop(publish);
         return Err(StateError::OutOfMemory);
     };
@@ -76,8 +76,8 @@ fn fit_publish(
 
 /// What is sent of a request.
 fn fit(
-    alloc: Global,
     codec: &Codec,
+    scratch: &mut BytesMut,
     request: Request,
     given: &mut Vec<Request>,
 ) -> Result<Request, StateError>
@@ -86,7 +86,7 @@ fn fit(
     ensures err { IfErr result (λ e. e ≡ faults.OutOfMemory) }
 {
     match request {
-        Request::Publish(publish) => fit_publish(alloc, codec, publish, given),
+        Request::Publish(publish) => fit_publish(codec, scratch, publish, given),
         other => Ok(other),
     }
 }
@@ -113,9 +113,9 @@ fn keep_packet(
 
 /// Sends one request again.
 fn send_one(
-    alloc: Global,
     state: &mut MqttState,
     codec: &Codec,
+    scratch: &mut BytesMut,
     request: Request,
     packets: &mut Vec<Packet>,
     given: &mut Vec<Request>,
@@ -124,7 +124,7 @@ fn send_one(
     ensures { SendsOne result codec.now request at state.old packets.old.items given.old.items
         state.new packets.new.items given.new.items }
 {
-    let fitting = fit(alloc, codec, request, given)?;
+    let fitting = fit(codec, scratch, request, given)?;
     keep_packet(state, fitting, packets, at)
 }
 
@@ -144,9 +144,10 @@ fn send_all(
     ensures err { IfErr result (λ e. (e ≡ faults.OutOfMemory)
         ⊎ (all_fitting codec.now requests.items state.old at ≡ Err e)) }
 {
-    let mut packets = Vec::new(alloc);
+    let mut packets = Vec::with_capacity(alloc, requests.len())?;
+    let mut scratch = BytesMut::new(alloc);
     for request in requests {
-        send_one(alloc, state, codec, request, &mut packets, given, at)?;
+        send_one(state, codec, &mut scratch, request, &mut packets, given, at)?;
     }
     Ok(packets)
 }
@@ -156,17 +157,17 @@ fn resent(
     alloc: Global,
     state: &mut MqttState,
     codec: &Codec,
+    requests: Vec<Request>,
     given: &mut Vec<Request>,
     at: u64,
 ) -> Result<BytesMut, StateError>
     ensures ok { IfOk result (λ b. (sent : List AnyPacket)
-        × (fitting_of codec.now state.old at ≡ Ok (sent, state.new))
+        × (all_fitting codec.now requests.items state.old at ≡ Ok (sent, state.new))
         × (frames_of codec.now sent ≡ Ok b.items)) }
     ensures given { OnOk result (given.new.items ≡ given.old.items ++ flat_map (unfitting codec.now)
-        (unacked state.old)) }
-    ensures err { IfErr result (λ e. NotSent e codec.now state.old at) }
+        requests.items) }
+    ensures err { IfErr result (λ e. NotResent e codec.now requests.items state.old at) }
 {
-    let requests = state.clean()?;
     let packets = send_all(alloc, state, codec, requests, given, at)?;
     frames(alloc, codec, &packets)
 }
@@ -230,7 +231,7 @@ impl Client {
         }
     }
 
-    /// Sends again what fits. It works on a copy of the session.
+    /// Sends again what fits. It works on a copy of the session, and on one of what awaits an ack.
     fn send_fitting(&mut self, at: u64) -> Result<Vec<Request>, StateError>
         ensures ok { OnOk result (SendsFitting self.old at self.new) }
         ensures given { IfOk result (λ v. v.items ≡ returned true self.old) }
@@ -240,10 +241,11 @@ impl Client {
         ensures kept { (self.new.input ≡ self.old.input) × (self.new.codec ≡ self.old.codec) }
     {
         let alloc = *self.input.allocator();
-        let mut copy = self.state.clone()?;
+        let requests = self.state.unacked()?;
+        let mut copy = self.state.cleaned(alloc)?;
         let mut given = Vec::new(alloc);
-        let frames = resent(alloc, &mut copy, &self.codec, &mut given, at)?;
-        self.output.extend_from_slice(frames.as_slice())?;
+        let frames = resent(alloc, &mut copy, &self.codec, requests, &mut given, at)?;
+        append(&mut self.output, frames)?;
         self.state = copy;
         Ok(given)
     }

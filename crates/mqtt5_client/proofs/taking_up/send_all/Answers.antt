@@ -15,7 +15,7 @@ loop-request-preserved c =
 pub returns-in_err-send_one-clause-err : goal.returns-in_err-send_one-clause-err
 returns-in_err-send_one-clause-err c =
     let here = rw c.in-Some.ensures.steps.0 at c.loop-request.invariant in
-    let p = err_from_is_err_and c.from_residual.result c.from_residual.ensures.1 in
+    let p = err_from_is_err_and c.from_residual-in_err-send_one.result c.from_residual-in_err-send_one.ensures.1 in
     rw (p.1, p.2) (stops_with c.args.codec.now c.in-Some.request c.next.new.self.rest.items c.args.at c.loop-request.state c.send_one.new.state c.loop-request.packets.items c.send_one.new.packets.items c.loop-request.given.items c.send_one.new.given.items _ _ c.in_err-send_one.ensures here.sends)
 
 pub returns-clause-ok : goal.returns-clause-ok

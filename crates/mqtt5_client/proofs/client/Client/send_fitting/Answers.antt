@@ -5,5 +5,4 @@ use Rattle.mqtt5_client.proofs.client.Client.send_fitting.Goals as goal
 pub returns-in_err-frames-clause-err : goal.returns-in_err-frames-clause-err
 returns-in_err-frames-clause-err c =
     let p = err_from_is_err_and c.from_residual-in_err-frames.result c.from_residual-in_err-frames.ensures.1 in
-    let same : c.in_ok-copy.copy ≡ c.args.self.now.state = c.in_ok-copy.ensures.cases in
-    rw (p.1, p.2) (rw same at c.in_err-frames.ensures.err)
+    rw (p.1, p.2) (rw (c.in_ok-requests.ensures, c.in_ok-copy.ensures) at c.in_err-frames.ensures.err)
