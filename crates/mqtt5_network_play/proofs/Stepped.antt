@@ -1,7 +1,7 @@
 -- The next step of a network finds something to do, and steps come to rest.
-use Rattle.std.proofs.Common.{◌≡◌, ℕ, zero, suc, ◌+◌, ◌-◌, ◌<◌, ◌≤◌, ◌==◌, true, false, List, [], ◌∷◌, ◌++◌, length, take, drop, Option, Some, None, refl, sym, ap, ◌∙◌, subst, arith, slice_index_or}
+use Rattle.std.proofs.Common.{◌≡◌, ℕ, zero, suc, ◌+◌, ◌-◌, ◌<◌, ◌≤◌, ◌==◌, true, false, List, [], ◌∷◌, ◌++◌, length, take, drop, Option, Some, None, refl, sym, ap, ◌∙◌, subst, arith, slice_index_or, append-nil, length-append}
 use Rattle.std.proofs.lemmas.Bool.{eqb-true}
-use Rattle.std.proofs.lemmas.List.{drop_all, take_all}
+use Rattle.std.proofs.lemmas.List.{drop_all, take_all, nil_from_length}
 use Rattle.std.specs.List.{All}
 use Rattle.std.proofs.lemmas.List.Elements.{All-more}
 use Rattle.mqtt5_publish.specs.declared.publish.Publish.{Publish}
@@ -10,12 +10,12 @@ use Rattle.mqtt5_progress.specs.Progress.{found}
 use Rattle.mqtt5_network.specs.declared.event.ClientEvent.{ClientEvent}
 use Rattle.mqtt5_network.specs.declared.event.ClientEvent.TheVariants as events
 use Rattle.mqtt5_network.specs.declared.event.NetworkEvent.{NetworkEvent}
-use Rattle.mqtt5_network.specs.Client.{Client, left_for, passes_on}
-use Rattle.mqtt5_network.specs.Network.{Network, Profile, start_network, happens_in, run_network, IsReached, AtRest}
+use Rattle.mqtt5_network.specs.Client.{Client, happens_to, left_for, passes_on}
+use Rattle.mqtt5_network.specs.Network.{Network, Profile, start_network, changed, newly, happens_in, run_network, IsReached, AtRest}
 use Rattle.mqtt5_network.specs.Steps.{IsStep, Steps, work_left, client_moves, at_place, moves}
 use Rattle.mqtt5_network.proofs.Joined.{IsClient, joined, client_of}
 use Rattle.mqtt5_network.proofs.Stepping.{passes_moves, network_lowers}
-use Rattle.mqtt5_network_play.specs.Plays.{next_for}
+use Rattle.mqtt5_network_play.specs.Plays.{next_for, RestsBefore}
 use Rattle.mqtt5_network_play.specs.Reports.{TakesSteps}
 
 -- ---- the next step of a client
@@ -113,6 +113,27 @@ module _ (n : Network) (i : ℕ) (x : Client) (cs : List Client) (handed : List 
 
 pub rest_all : (n : Network) (i : ℕ) (cs : List Client) → cs ≡ n.clients → length cs ≤ i → All (AtRest n.handed) (take i n.clients) → All (AtRest n.handed) n.clients
 rest_all n i cs clients past rest = subst (All (AtRest n.handed)) (take_all i n.clients (subst (λ cs. length cs ≤ i) clients past)) rest
+
+-- ---- the clients before a place
+
+take_before : (i k : ℕ) (f : Client → Client) (cs : List Client) → k ≤ i → take k (changed i f cs) ≡ take k cs
+take_before i zero f cs le = refl
+take_before i (suc k) f [] le = refl
+take_before zero (suc k) f (c ∷ cs) le = absurd (omega arith)
+take_before (suc i) (suc k) f (c ∷ cs) le = ap (λ xs. c ∷ xs) (take_before i k f cs (omega arith))
+
+none_more : (ps qs : List Publish) → length (ps ++ qs) ≡ length ps → ps ++ qs ≡ ps
+none_more ps qs h = ap (λ xs. ps ++ xs) (nil_from_length qs (let l = length-append ps qs in omega (arith, l, h))) ∙ append-nil ps
+
+-- they stay at rest where nothing is handed on
+pub rest_kept : (n m : Network) (e : NetworkEvent) → m ≡ happens_in n e → length m.handed ≡ length n.handed → RestsBefore e.client n → RestsBefore e.client m
+rest_kept n m e same long rest =
+    let f : Client → Client = λ c. happens_to n.handed c e.what in
+    let handed : (happens_in n e).handed ≡ n.handed = none_more n.handed (newly e.client f n.clients) (ap (λ (x : Network). length x.handed) (sym same) ∙ long) in
+    let clients : take e.client (happens_in n e).clients ≡ take e.client n.clients = take_before e.client e.client f n.clients (omega arith) in
+    subst (RestsBefore e.client) (sym same)
+    (subst (λ ps. All (AtRest ps) (take e.client (happens_in n e).clients)) (sym handed)
+    (subst (All (AtRest n.handed)) (sym clients) rest))
 
 -- ---- runs
 

@@ -1,6 +1,6 @@
 //! A client, and what the broker keeps for it, with the packets between them.
 
-ghost use Rattle.std.specs.Prelude.{◌≡◌, ◌+◌, ◌^◌, ◌<◌, ◌++◌, true, IfOk, IfErr, OnOk, drop, length};
+ghost use Rattle.std.specs.Prelude.{◌≡◌, ◌+◌, ◌^◌, ◌<◌, ◌++◌, true, None, IfOk, IfErr, OnOk, drop, length};
 ghost use Rattle.mqtt5_network.specs.Receiver.{shown};
 ghost use Rattle.mqtt5_network.specs.Forwarded.{granted_for};
 ghost use Rattle.mqtt5_network.specs.Client.{asks_for, is_sending, comes_to, goes_up, takes_in, goes_down, left_for, forwards_to, passes_under, passes_on, connected, reconnects, happens_to};
@@ -277,6 +277,16 @@ impl Client {
         self.up = take_up(&mut self.session, alloc)?;
         self.down = take_up(&mut self.sender, alloc)?;
         Ok(())
+    }
+
+    /// Whether no step finds anything to do. It makes no event, so looking at many clients costs little.
+    #[inline]
+    #[tactic(auto, using(crate::proofs::Stepped::next_none))]
+    pub fn rests(&self, handed: &[Publish]) -> bool
+        ensures { result ≡ true
+            → next_for self.now.up self.now.down (left_for handed.now self.now) ≡ None }
+    {
+        self.up.is_empty() && self.down.is_empty() && self.passed >= handed.len()
     }
 
     /// The next step that finds something to do, if there is one.

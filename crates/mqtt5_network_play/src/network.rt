@@ -4,6 +4,7 @@ ghost use Rattle.std.specs.Prelude.{◌≡◌, [], None, IfOk, IfErr, IfSome, On
 ghost use Rattle.mqtt5_network.specs.Receiver.{shown};
 ghost use Rattle.mqtt5_network.specs.Network.{start_network, happens_in, run_network, IsReached, AllAtRest};
 ghost use Rattle.mqtt5_network.specs.Steps.{IsStep, moves};
+ghost use Rattle.mqtt5_network_play.specs.Plays.{RestsBefore};
 ghost use Rattle.mqtt5_network_play.specs.Reports.{TakesSteps, all_told};
 
 use crate::client::Client;
@@ -115,12 +116,43 @@ impl Network {
         ensures step { IfSome result (λ e. IsStep e.what) }
         ensures moves { IfSome result (λ e. IsReached self.now → moves self.now e ≡ 1) }
     {
-        for client in 0..self.clients.len() {
+        self.step_from(0)
+    }
+
+    /// The same, where the clients before a place are at rest.
+    fn step_from(&self, from: usize) -> Option<NetworkEvent>
+        requires { RestsBefore from self.now }
+        ensures none { result ≡ None → AllAtRest self.now }
+        ensures some { IfSome result (λ _. AllAtRest self.now → ⊥) }
+        ensures step { IfSome result (λ e. IsStep e.what) }
+        ensures moves { IfSome result (λ e. IsReached self.now → moves self.now e ≡ 1) }
+        ensures before { IfSome result (λ e. RestsBefore e.client self.now) }
+    {
+        for client in from..self.clients.len() {
+            if self.clients[client].rests(self.handed.as_slice()) {
+                continue;
+            }
             if let Some(what) = self.clients[client].next_step(self.handed.as_slice()) {
                 return Some(NetworkEvent { client, what });
             }
         }
         None
+    }
+
+    /// An event of a client, before which all are at rest, and the place before which they are then: what is handed on is
+    /// left to each.
+    fn play_on(&mut self, alloc: Global, event: &NetworkEvent) -> Result<usize, StateError>
+        requires { RestsBefore event.now.client self.old }
+        ensures ok { OnOk result (self.new ≡ happens_in self.old event.now) }
+        ensures before { IfOk result (λ from. RestsBefore from self.new) }
+        ensures memory { IfErr result (λ e. e ≡ StateError.OutOfMemory) }
+    {
+        let handed = self.handed.len();
+        self.play(alloc, event)?;
+        if self.handed.len() == handed {
+            return Ok(event.client);
+        }
+        Ok(0)
     }
 
     /// Events, one after another. S12, which leaves them unfinished.
@@ -155,8 +187,9 @@ impl Network {
         ensures steps { OnOk result (TakesSteps self.old self.new) }
         ensures memory { IfErr result (λ e. e ≡ StateError.OutOfMemory) }
     {
-        while let Some(event) = self.next_step() {
-            self.play(alloc, &event)?;
+        let mut from = 0;
+        while let Some(event) = self.step_from(from) {
+            from = self.play_on(alloc, &event)?;
         }
         Ok(())
     }
