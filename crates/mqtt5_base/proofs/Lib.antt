@@ -28,8 +28,8 @@ pub mod StepsAgain
 pub mod PartsAgain
 pub mod FramesAgain
 pub mod Wildcards
-pub mod Levels
 pub mod Walk
+pub mod ValidWalk
 pub mod Matching
 pub mod Bits
 pub mod AnswersLemmas

@@ -24,16 +24,16 @@ common-ended t f n over h =
     sym (add-zero n) ∙ ap (λ k. n + k) (sym none) ∙ h
 
 -- the first level
-abbrev first : List ℕ → List ℕ
+abbrev pub first : List ℕ → List ℕ
 first [] = []
 first (b ∷ bs) = cond (b == 47) [] (b ∷ first bs)
 
 -- those behind it
-abbrev others : List ℕ → List (List ℕ)
+abbrev pub others : List ℕ → List (List ℕ)
 others [] = []
 others (b ∷ bs) = cond (b == 47) (levels bs) (others bs)
 
-levels_are : (t : List ℕ) → levels t ≡ first t ∷ others t
+pub levels_are : (t : List ℕ) → levels t ≡ first t ∷ others t
 levels_are [] = refl
 levels_are (b ∷ bs) = by_test (b == 47) (levels_are bs)
   where

@@ -1,6 +1,7 @@
--- This file serves the logic alone: what a walk over a topic and a filter finds behind a level of both.
+-- This file serves the logic alone: what a walk over a topic and a filter finds behind a level of both, and a walk over a
+-- filter behind a level of it.
 use Rattle.std.specs.Prelude.{ℕ, Bool, true, false, ◌&&◌, List, [], ◌∷◌, ◌==◌}
-use Rattle.mqtt5_base.specs.Topics.{levels, match_levels}
+use Rattle.mqtt5_base.specs.Topics.{levels, match_levels, are_valid}
 
 -- whether what is left behind a level, and behind one that covers it, matches: nothing of both, or what follows a `/`
 abbrev pub match_behind : List ℕ → List ℕ → Bool
@@ -8,3 +9,8 @@ match_behind [] [] = true
 match_behind [] (c ∷ f) = c == 47 && match_levels [] (levels f)
 match_behind (b ∷ t) [] = false
 match_behind (b ∷ t) (c ∷ f) = b == 47 && (c == 47 && match_levels (levels t) (levels f))
+
+-- whether what is left of a filter behind the plain bytes of a level is valid: nothing, or what follows a `/`
+abbrev pub valid_behind : List ℕ → Bool
+valid_behind [] = true
+valid_behind (b ∷ f) = b == 47 && are_valid (levels f)

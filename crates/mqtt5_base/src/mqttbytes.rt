@@ -1,14 +1,14 @@
 //! Rules that all packets share: the QoS of a number, topic names and topic filters.
 
-ghost use Rattle.std.specs.Prelude.{◌≡◌, ◌≢◌, ◌<◌, ◌≤◌, ◌&&◌, not, ◌==◌, [], ◌∷◌, length, IsSome, IfSome, IfOk, MatchResult, ◌↔◌};
+ghost use Rattle.std.specs.Prelude.{◌≡◌, ◌≢◌, ◌<◌, ◌≤◌, ◌||◌, ◌&&◌, not, ◌==◌, [], ◌∷◌, length, IsSome, IfSome, IfOk, MatchResult, ◌↔◌};
 ghost use Rattle.std.specs.List.{before_first, common_prefix_len, position_or_len};
 ghost use Rattle.std.specs.Str.{bytes_eq};
 ghost use Rattle.mqtt5_base.specs.Grammar.{is_among, is_qos, number};
 ghost use Rattle.mqtt5_base.specs.Answers.{Finds};
 ghost use Rattle.mqtt5_base.specs.Reading.{judged};
-ghost use Rattle.mqtt5_base.specs.Topics.{IsMatching, has_wildcards, is_inner, is_reserved, is_valid_filter, is_valid_topic, levels, match_levels, stands_alone, topic_matches};
+ghost use Rattle.mqtt5_base.specs.Topics.{IsMatching, are_valid, has_wildcards, is_reserved, is_valid_filter, is_valid_topic, levels, match_levels, topic_matches};
 ghost use Rattle.mqtt5_base.specs.Views.{qos_number};
-ghost use Rattle.mqtt5_base.specs.Walk.{match_behind};
+ghost use Rattle.mqtt5_base.specs.Walk.{match_behind, valid_behind};
 
 use crate::error::Error;
 use crate::quality::QoS;
@@ -60,18 +60,45 @@ pub fn valid_topic(topic: &str) -> bool
     !has_wildcards(topic)
 }
 
-/// Whether a level's wildcard, if it has one, is all of it.
-fn stands_alone(level: &str) -> bool
-    ensures { result ≡ stands_alone level.now }
+/// How many bytes at the start of a text are neither `/` nor a wildcard.
+fn plain_len(text: &[u8]) -> usize
+    ensures value { result
+        ≡ position_or_len (λ b. b == 47 || has_wildcards (b ∷ [])) text.now }
+    ensures within { result ≤ length text.now }
 {
-    !has_wildcards(level) || level.len() == 1
+    let mut len = 0;
+    while len < text.len() && text[len] != b'/' && text[len] != b'+' && text[len] != b'#' {
+        len += 1;
+    }
+    len
 }
 
-/// Whether another level may follow.
-fn is_inner(level: &str) -> bool
-    ensures { result ≡ is_inner level.now }
+/// What is left behind the plain bytes of a level, or whether the filter is valid.
+fn behind_plain(filter: &[u8]) -> Result<&[u8], bool>
+    ensures value { MatchResult result
+        (λ left. are_valid (levels left.now) ≡ valid_behind filter.now)
+        (λ valid. valid ≡ valid_behind filter.now) }
+    ensures shorter { IfOk result (λ left. length left.now < length filter.now) }
 {
-    !has_hash(level) && stands_alone(level)
+    match filter {
+        [] => Err(true),
+        [b'/', levels @ ..] => Ok(levels),
+        _ => Err(false),
+    }
+}
+
+/// What is left behind the first level of a filter, or whether it is valid.
+fn next_level(filter: &[u8]) -> Result<&[u8], bool>
+    ensures value { MatchResult result
+        (λ left. are_valid (levels left.now) ≡ are_valid (levels filter.now))
+        (λ valid. valid ≡ are_valid (levels filter.now)) }
+    ensures shorter { IfOk result (λ left. length left.now < length filter.now) }
+{
+    match filter {
+        [b'+' | b'#'] => Err(true),
+        [b'+', b'/', levels @ ..] => Ok(levels),
+        _ => behind_plain(&filter[plain_len(filter)..]),
+    }
 }
 
 /// Whether a text can be a filter: it isn't empty, each wildcard is all of its level, and a `#` stands
@@ -82,17 +109,13 @@ pub fn valid_filter(filter: &str) -> bool
     if filter.is_empty() {
         return false;
     }
-    // whether the level before may be the last one, and whether another may follow it
-    let mut ends = true;
-    let mut goes_on = true;
-    for level in filter.split('/') {
-        if !goes_on {
-            return false;
+    let mut left = filter.as_bytes();
+    loop {
+        match next_level(left) {
+            Ok(levels) => left = levels,
+            Err(valid) => return valid,
         }
-        ends = stands_alone(level);
-        goes_on = is_inner(level);
     }
-    ends
 }
 
 /// Whether a topic is one that no filter matches.
@@ -128,7 +151,8 @@ fn level_len(text: &[u8]) -> usize
 
 /// How many bytes at the start of both texts are equal and in the first level.
 fn common_len(topic: &[u8], filter: &[u8]) -> usize
-    ensures value { result ≡ common_prefix_len (λ t f. t == f && not (t == 47)) topic.now filter.now }
+    ensures value { result
+        ≡ common_prefix_len (λ t f. t == f && not (t == 47)) topic.now filter.now }
     ensures in_topic { result ≤ length topic.now }
     ensures in_filter { result ≤ length filter.now }
 {
@@ -147,7 +171,8 @@ fn common_len(topic: &[u8], filter: &[u8]) -> usize
 #[tactic(auto, using(crate::proofs::Walk::topic_ended))]
 fn left_behind<'a>(topic: &'a [u8], filter: &'a [u8]) -> Result<(&'a [u8], &'a [u8]), bool>
     ensures value { MatchResult result
-        (λ left. match_levels (levels left.0.now) (levels left.1.now) ≡ match_behind topic.now filter.now)
+        (λ left. match_levels (levels left.0.now) (levels left.1.now)
+        ≡ match_behind topic.now filter.now)
         (λ matches. matches ≡ match_behind topic.now filter.now) }
     ensures shorter { IfOk result (λ left. length left.1.now < length filter.now) }
 {
@@ -162,7 +187,8 @@ fn left_behind<'a>(topic: &'a [u8], filter: &'a [u8]) -> Result<(&'a [u8], &'a [
 /// What is left behind the first level of both, or whether they match.
 fn next_levels<'a>(topic: &'a [u8], filter: &'a [u8]) -> Result<(&'a [u8], &'a [u8]), bool>
     ensures value { MatchResult result
-        (λ left. match_levels (levels left.0.now) (levels left.1.now) ≡ match_levels (levels topic.now) (levels filter.now))
+        (λ left. match_levels (levels left.0.now) (levels left.1.now)
+        ≡ match_levels (levels topic.now) (levels filter.now))
         (λ matches. matches ≡ match_levels (levels topic.now) (levels filter.now)) }
     ensures shorter { IfOk result (λ left. length left.1.now < length filter.now) }
 {

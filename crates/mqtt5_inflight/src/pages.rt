@@ -248,7 +248,8 @@ fn next_in(page: &Page, number: u16, after: u16) -> Option<(u16, usize)>
         (after < e.0) × (slice_index_or page.now (e.0 % 64) None ≡ Some e.1)) }
     ensures within { IfSome result (λ e. e.0 / 64 ≡ number) }
     ensures first { IfSome result (λ e.
-        (q : ℕ) → q / 64 ≡ number → after < q → q < e.0 → slice_index_or page.now (q % 64) None ≡ None) }
+        (q : ℕ) → q / 64 ≡ number → after < q → q < e.0
+        → slice_index_or page.now (q % 64) None ≡ None) }
     ensures last { IfNone result (
         (q : ℕ) → q / 64 ≡ number → after < q → slice_index_or page.now (q % 64) None ≡ None) }
 {

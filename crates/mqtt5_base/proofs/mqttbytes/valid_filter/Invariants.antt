@@ -1,9 +1,10 @@
+use Rattle.std.proofs.Common.{◌≡◌, length}
 use Rattle.mqtt5_base.specs.Topics.{levels, are_valid}
-use Rattle.mqtt5_base.proofs.Levels.{Judge}
 use Rattle.mqtt5_base.proofs.mqttbytes.valid_filter.Given as goal
 
--- the levels that are left, behind the one before them, decide
-abbrev pub invariant-loop-level : goal.invariant-loop-level
-invariant-loop-level l =
-    (goal.iterator-loop-level).can_next l.level-iterator × (goal.iterator-loop-level).is_finite l.level-iterator
-    × Judge l.ends l.goes_on l.level-iterator (are_valid (levels l.filter))
+-- what is left decides
+abbrev pub invariant-loop-levels : goal.invariant-loop-levels
+invariant-loop-levels l = are_valid (levels l.left) ≡ are_valid (levels l.filter)
+
+abbrev pub decreases-loop-levels : goal.decreases-loop-levels
+decreases-loop-levels l = length l.left
