@@ -4,11 +4,15 @@ ghost use Rattle.std.specs.Prelude.{◌≡◌, min};
 ghost use Rattle.mqtt5_base.specs.Puts.{Writes};
 ghost use Rattle.mqtt5_codec.specs.declared.packet.Packet.TheVariants as packets;
 ghost use Rattle.mqtt5_codec.specs.Packets.{writing_under};
+ghost use Rattle.mqtt5_session.specs.Packets.{pubcomp_of};
+ghost use Rattle.mqtt5_session.specs.Replies.{made_of};
+ghost use Rattle.mqtt5_drive.specs.Run.{reply_bytes};
 
 use bytes::BytesMut;
 use mqtt5_base::Error;
 use mqtt5_codec::Codec;
-use mqtt5_publish::{PubAck, PubRec, Publish};
+use mqtt5_publish::{PubAck, PubComp, PubCompReason, PubRec, PubRel, Publish};
+use mqtt5_session::Reply;
 use mqtt5_subscribe::{Subscribe, Unsubscribe};
 
 /// The refusal of a packet over the outgoing limit.
@@ -70,6 +74,46 @@ pub fn put_pubrec(codec: &Codec, output: &mut BytesMut, received: &PubRec) -> Re
     Ok(())
 }
 
+/// The same of a PubRel.
+pub(crate) fn put_pubrel(
+    codec: &Codec,
+    output: &mut BytesMut,
+    release: &PubRel,
+) -> Result<(), Error>
+    ensures { Writes (λ _. tt)
+        (writing_under codec.now.max_outgoing_size (packets.PubRel release.now)) result
+        output.old.items output.new.items }
+{
+    if let Some(max) = codec.max_outgoing_size {
+        let size = release.size();
+        if size > max as usize {
+            return Err(over_limit(size, max));
+        }
+    }
+    release.write(output)?;
+    Ok(())
+}
+
+/// The same of a PubComp.
+pub(crate) fn put_pubcomp(
+    codec: &Codec,
+    output: &mut BytesMut,
+    completed: &PubComp,
+) -> Result<(), Error>
+    ensures { Writes (λ _. tt)
+        (writing_under codec.now.max_outgoing_size (packets.PubComp completed.now)) result
+        output.old.items output.new.items }
+{
+    if let Some(max) = codec.max_outgoing_size {
+        let size = completed.size();
+        if size > max as usize {
+            return Err(over_limit(size, max));
+        }
+    }
+    completed.write(output)?;
+    Ok(())
+}
+
 /// The same of a Subscribe.
 pub fn put_subscribe(
     codec: &Codec,
@@ -108,4 +152,44 @@ pub fn put_unsubscribe(
     }
     unsubscribe.write(output)?;
     Ok(())
+}
+
+/// Appends the frame of a reply that isn't a publish, and nothing of none.
+pub(crate) fn put_made(codec: &Codec, output: &mut BytesMut, reply: Reply) -> Result<(), Error>
+    ensures { Writes (λ _. tt) (reply_bytes codec.now (made_of reply)) result output.old.items
+        output.new.items }
+{
+    match reply {
+        Reply::PubAck(id) => put_puback(codec, output, &PubAck::new(id, None)),
+        Reply::PubRec(id) => put_pubrec(codec, output, &PubRec::new(id, None)),
+        Reply::PubRel(id) => put_pubrel(codec, output, &PubRel::new(id, None)),
+        Reply::PubComp(id, reason) => put_pubcomp(codec, output, &completed(id, reason)),
+        other => put_rare(codec, output, other),
+    }
+}
+
+/// The PubComp of an id, without properties.
+fn completed(pkid: u16, reason: PubCompReason) -> PubComp
+    ensures { packets.PubComp result ≡ pubcomp_of pkid reason }
+{
+    PubComp {
+        pkid,
+        reason,
+        properties: None,
+    }
+}
+
+/// The same of any such reply, by its packet.
+#[inline(never)]
+fn put_rare(codec: &Codec, output: &mut BytesMut, reply: Reply) -> Result<(), Error>
+    ensures { Writes (λ _. tt) (reply_bytes codec.now (made_of reply)) result output.old.items
+        output.new.items }
+{
+    let packet = reply.packet();
+    let written = match &packet {
+        Some(made) => codec.write(made, output),
+        None => Ok(()),
+    };
+    drop(packet);
+    written
 }

@@ -17,11 +17,11 @@ ghost use Rattle.mqtt5_drive.specs.Trace.{Holds, finish, Stops};
 ghost use Rattle.mqtt5_drive.specs.Calls.{calls_of};
 ghost use Rattle.mqtt5_drive.specs.Run.{Turn, bytes_of, of_input, turns, reply_bytes, run, piece};
 
-use crate::put::{put_puback, put_publish};
+use crate::put::{put_made, put_publish};
 use bytes::{Bytes, BytesMut};
 use mqtt5_base::{QoS, copied};
 use mqtt5_codec::{Codec, Packet};
-use mqtt5_publish::{PubAck, Publish};
+use mqtt5_publish::Publish;
 use mqtt5_session::{MqttState, Reply, Request, StateError};
 use std::alloc::Global;
 
@@ -64,17 +64,6 @@ fn write_publish(codec: &Codec, output: &mut BytesMut, publish: &Publish) -> Res
     }
 }
 
-/// Writes a PubAck where it stands.
-fn write_puback(codec: &Codec, output: &mut BytesMut, ack: &PubAck) -> Result<(), StateError>
-    ensures { Replies result (reply_bytes codec.now (Some (Packet.PubAck ack.now))) output.old.items
-        output.new.items }
-{
-    match put_puback(codec, output, ack) {
-        Ok(()) => Ok(()),
-        Err(fault) => Err(StateError::from(fault)),
-    }
-}
-
 fn answer(codec: &Codec, output: &mut BytesMut, reply: &Option<Packet>) -> Result<(), StateError>
     ensures { Replies result (reply_bytes codec.now reply.now) output.old.items output.new.items }
 {
@@ -101,15 +90,14 @@ fn write_stored(
 }
 
 /// Writes an ack or a Disconnect.
-#[inline(never)]
 fn write_made(codec: &Codec, output: &mut BytesMut, reply: Reply) -> Result<(), StateError>
     ensures { Replies result (reply_bytes codec.now (made_of reply)) output.old.items
         output.new.items }
 {
-    let packet = reply.packet();
-    let answered = answer(codec, output, &packet);
-    drop(packet);
-    answered
+    match put_made(codec, output, reply) {
+        Ok(()) => Ok(()),
+        Err(fault) => Err(StateError::from(fault)),
+    }
 }
 
 /// Writes a reply of the session.
@@ -124,7 +112,6 @@ fn write_reply(
 {
     match reply {
         Reply::Nothing => Ok(()),
-        Reply::PubAck(id) => write_puback(codec, output, &PubAck::new(id, None)),
         Reply::Publish(id) => write_stored(state, codec, output, id),
         other => write_made(codec, output, other),
     }
