@@ -5,6 +5,7 @@ ghost use Rattle.std.specs.Option.{option_to_list};
 ghost use Rattle.mqtt5_inflight.specs.declared.event.Request.TheVariants as requests;
 ghost use Rattle.mqtt5_session.specs.Requests.{on_request};
 ghost use Rattle.mqtt5_session.specs.Packets.{on_packet};
+ghost use Rattle.mqtt5_session.specs.Replies.{packet_of};
 ghost use Rattle.mqtt5_session.specs.Resuming.{resume_of};
 ghost use Rattle.mqtt5_session.specs.Ledger.{kept_by};
 ghost use Rattle.mqtt5_network.specs.Client.{reply_in, connected, sent_in};
@@ -14,7 +15,7 @@ ghost use Rattle.std.specs.List.{filter_map};
 use mqtt5_base::copied;
 use mqtt5_codec::Packet;
 use mqtt5_publish::Publish;
-use mqtt5_session::{Event, MqttState, Request, StateError};
+use mqtt5_session::{Event, MqttState, Reply, Request, StateError};
 use mqtt5_world::taken_back;
 use std::alloc::{AllocError, Global};
 use std::collections::VecDeque;
@@ -45,6 +46,31 @@ pub fn ask(
 
 /// A session takes a packet, and its reply, if there is one, goes on a way.
 pub fn take(
+    state: &mut MqttState,
+    packet: Packet,
+    way: &mut VecDeque<Packet>,
+) -> Result<(), StateError>
+    ensures state { OnOk result (state.new ≡ (on_packet state.old packet 0).1) }
+    ensures reply { OnOk result
+        (way.new.items ≡ way.old.items ++ reply_in (on_packet state.old packet 0).0) }
+    ensures err { IfErr result (λ e. e ≡ StateError.OutOfMemory) }
+{
+    // (a publish that waits may be the reply, which is then copied once)
+    if state.collision().is_some() {
+        return take_any(state, packet, way);
+    }
+    match state.hear_packet(packet, 0) {
+        Ok(reply) => {
+            send_reply(state, reply, way)?;
+            Ok(())
+        }
+        Err(StateError::OutOfMemory) => Err(StateError::OutOfMemory),
+        Err(_) => Ok(()),
+    }
+}
+
+/// The same, whatever the reply is.
+fn take_any(
     state: &mut MqttState,
     packet: Packet,
     way: &mut VecDeque<Packet>,
@@ -104,6 +130,33 @@ pub fn send(way: &mut VecDeque<Packet>, reply: Option<Packet>) -> Result<(), All
                 return Err(refused);
             }
             way.push_back_reserved(packet);
+            Ok(())
+        }
+        None => Ok(()),
+    }
+}
+
+/// Puts the packet of a reply at the end of a way, if there is one.
+fn send_reply(state: &MqttState, reply: Reply, way: &mut VecDeque<Packet>) -> Result<(), AllocError>
+    ensures { OnOk result
+        (way.new.items ≡ way.old.items ++ option_to_list (packet_of reply state.now)) }
+{
+    match reply {
+        Reply::Nothing => Ok(()),
+        Reply::Publish(id) => send_stored(state, id, way),
+        other => send(way, other.packet()),
+    }
+}
+
+/// Puts the publish that awaits its ack under an id at the end of a way.
+fn send_stored(state: &MqttState, id: u16, way: &mut VecDeque<Packet>) -> Result<(), AllocError>
+    ensures { OnOk result (way.new.items
+        ≡ way.old.items ++ option_to_list (packet_of (Reply.Publish id) state.now)) }
+{
+    match state.outgoing_pub(id) {
+        Some(publish) => {
+            way.reserve(1)?;
+            way.push_back_reserved(Packet::Publish(copied(publish)?));
             Ok(())
         }
         None => Ok(()),
