@@ -2,4 +2,5 @@ pub mod Behind
 pub mod Joined
 pub mod Taken
 pub mod Requested
+pub mod Written
 pub mod TakingUp

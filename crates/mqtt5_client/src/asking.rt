@@ -11,7 +11,6 @@ ghost use Rattle.mqtt5_drive.specs.Run.{reply_bytes};
 ghost use Rattle.mqtt5_client.specs.Asked.{id_asked, subscribe_asked, bytes_asked, Takes};
 ghost use Rattle.mqtt5_client.specs.Handed.{HandsOn};
 
-use crate::taking_up::as_publish;
 use bytes::BytesMut;
 use mqtt5_base::{Error, QoS};
 use mqtt5_codec::{Codec, Packet};
@@ -233,8 +232,32 @@ fn hand_on_any(
     }
 }
 
-/// Hands a publish on. The session stores one of QoS 1 or 2 as it is, unless it has properties: their texts and lists may
-/// have spare room, which would be kept until the ack, and a copy has none.
+pub(crate) fn as_publish(publish: Publish) -> Request
+    ensures { result ≡ Request.Publish publish }
+{
+    Request::Publish(publish)
+}
+
+/// Hands a publish on of which no copy is made: the session stores one of QoS 1 or 2 as it is.
+#[inline(always)]
+pub(crate) fn hand_on_own(
+    state: &mut MqttState,
+    output: &mut BytesMut,
+    publish: Publish,
+    at: u64,
+    length: usize,
+) -> Result<(), StateError>
+    ensures { HandsOn result (on_request state.old (Request.Publish publish) at) length state.old
+        output.old.items state.new output.new.items }
+{
+    if publish.qos == QoS::AtMostOnce {
+        return hand_on_any(state, output, as_publish(publish), at, length);
+    }
+    hand_on_stored(state, output, publish, at, length)
+}
+
+/// Hands a publish on, as it is unless it has properties: their texts and lists may have spare
+/// room, which would be kept until the ack, and a copy has none.
 fn hand_on_publish(
     state: &mut MqttState,
     output: &mut BytesMut,
@@ -245,10 +268,10 @@ fn hand_on_publish(
     ensures { HandsOn result (on_request state.old (Request.Publish publish) at) length state.old
         output.old.items state.new output.new.items }
 {
-    if publish.qos == QoS::AtMostOnce || publish.properties.is_some() {
+    if publish.properties.is_some() {
         return hand_on_any(state, output, as_publish(publish), at, length);
     }
-    hand_on_stored(state, output, publish, at, length)
+    hand_on_own(state, output, publish, at, length)
 }
 
 /// Hands a request on to the session. What the output has behind this length goes where nothing is sent.

@@ -9,12 +9,14 @@ ghost use Rattle.mqtt5_inflight.specs.declared.error.StateError.TheVariants as f
 ghost use Rattle.mqtt5_session.specs.Session.{Session};
 ghost use Rattle.mqtt5_session.specs.Requests.{on_request};
 ghost use Rattle.mqtt5_session.specs.Resuming.{resume_of};
+ghost use Rattle.mqtt5_drive.specs.Run.{reply_bytes};
 ghost use Rattle.mqtt5_client.specs.Again.{frames_of};
 ghost use Rattle.mqtt5_client.specs.Client.{IsReady, given_back};
-ghost use Rattle.mqtt5_client.specs.TakingUp.{is_writable, fitting, unfitting, unacked, fitting_of, SendsFitting, NotSent, ended, Ends, TakesUp, returned, NotTakenUp};
-ghost use Rattle.mqtt5_client.specs.Resending.{all_fitting, Answered, NotResent, SendsOne, allowed_by};
+ghost use Rattle.mqtt5_client.specs.TakingUp.{fitting, unfitting, unacked, fitting_of, SendsFitting, NotSent, ended, Ends, TakesUp, returned, NotTakenUp};
+ghost use Rattle.mqtt5_client.specs.Resending.{all_fitting, NotResent, Adds, SendsFrame, allowed_by};
 
-use crate::again::{append, frames, given_back};
+use crate::again::{append, given_back};
+use crate::asking::{as_publish, hand_on_own};
 use crate::client::{Client, renewed};
 use bytes::BytesMut;
 use mqtt5_base::Error;
@@ -25,85 +27,41 @@ use mqtt5_publish::{PubRel, Publish};
 use mqtt5_session::{MqttState, Request, StateError};
 use std::alloc::Global;
 
-/// Whether a publish can be written under the outgoing limit: it is written to a buffer that is used again and again.
-fn is_writable(codec: &Codec, scratch: &mut BytesMut, publish: &Publish) -> Result<bool, StateError>
-    ensures ok { IfOk result (λ b. b ≡ is_writable codec.now publish.now) }
-    ensures err { IfErr result (λ e. e ≡ faults.OutOfMemory) }
-{
-    scratch.clear();
-    match put_publish(codec, scratch, publish) {
-        Ok(()) => Ok(true),
-        Err(Error::OutOfMemory) => Err(StateError::OutOfMemory),
-        Err(_refused) => Ok(false),
-    }
-}
-
-pub(crate) fn as_publish(publish: Publish) -> Request
-    ensures { result ≡ Request.Publish publish }
-{
-    Request::Publish(publish)
-}
-
 fn as_release(id: u16) -> Request
     ensures { result ≡ Request.PubRel (record { pkid = id; reason = Success; properties = None }) }
 {
     Request::PubRel(PubRel::new(id, None))
 }
 
-/// What is sent of a publish; one that can't be written is added to what is given back.
-fn fit_publish(
-    codec: &Codec,
-    scratch: &mut BytesMut,
-    publish: Publish,
-    given: &mut Vec<Request>,
-) -> Result<Request, StateError>
-    ensures ok { IfOk result (λ r. r ≡ fitting codec.now (Request.Publish publish)) }
-    ensures given { OnOk result (given.new.items ≡ given.old.items ++ unfitting codec.now
-        (Request.Publish publish)) }
-    ensures err { IfErr result (λ e. e ≡ faults.OutOfMemory) }
+/// Appends the frame of a packet. The first fault is kept.
+fn add_frame(codec: &Codec, frames: &mut BytesMut, packet: &Packet, fault: &mut Option<StateError>)
+    ensures { Adds fault.old frames.old.items (reply_bytes codec.now (Some packet.now)) fault.new
+        frames.new.items }
 {
-    let Ok(fits) = is_writable(codec, scratch, &publish) else {
-        drop(publish);
-        return Err(StateError::OutOfMemory);
-    };
-    if fits {
-        return Ok(as_publish(publish));
+    if fault.is_some() {
+        return;
     }
-    let release = as_release(publish.pkid);
-    given.push(as_publish(publish))?;
-    Ok(release)
-}
-
-/// What is sent of a request.
-fn fit(
-    codec: &Codec,
-    scratch: &mut BytesMut,
-    request: Request,
-    given: &mut Vec<Request>,
-) -> Result<Request, StateError>
-    ensures ok { IfOk result (λ r. r ≡ fitting codec.now request) }
-    ensures given { OnOk result (given.new.items ≡ given.old.items ++ unfitting codec.now request) }
-    ensures err { IfErr result (λ e. e ≡ faults.OutOfMemory) }
-{
-    match request {
-        Request::Publish(publish) => fit_publish(codec, scratch, publish, given),
-        other => Ok(other),
+    if let Err(refused) = codec.write(packet, frames) {
+        *fault = Some(StateError::from(refused));
     }
 }
 
-/// Asks the session, and keeps its packet.
-fn keep_packet(
+/// Asks the session, and appends the frame of its packet.
+fn send_any(
     state: &mut MqttState,
+    codec: &Codec,
+    frames: &mut BytesMut,
     request: Request,
-    packets: &mut Vec<Packet>,
     at: u64,
+    fault: &mut Option<StateError>,
 ) -> Result<(), StateError>
-    ensures { Answered result (on_request state.old request at) packets.old.items state.new
-        packets.new.items }
+    ensures { SendsFrame result codec.now (on_request state.old request at) fault.old
+        frames.old.items state.new fault.new frames.new.items }
 {
     match state.handle_outgoing_packet(request, at) {
         Ok(Some(packet)) => {
-            packets.push(packet)?;
+            add_frame(codec, frames, &packet, fault);
+            drop(packet);
             Ok(())
         }
         Ok(None) => Ok(()),
@@ -111,48 +69,62 @@ fn keep_packet(
     }
 }
 
+/// Sends a publish again, whose frame is written before the session takes it. In place of one that
+/// can't be written its release is sent, and it is added to what is given back.
+fn send_publish(
+    state: &mut MqttState,
+    codec: &Codec,
+    frames: &mut BytesMut,
+    publish: Publish,
+    given: &mut Vec<Request>,
+    at: u64,
+    fault: &mut Option<StateError>,
+) -> Result<(), StateError>
+    ensures sent { SendsFrame result codec.now
+        (on_request state.old (fitting codec.now (Request.Publish publish)) at) fault.old
+        frames.old.items state.new fault.new frames.new.items }
+    ensures given { OnOk result (given.new.items ≡ given.old.items ++ unfitting codec.now
+        (Request.Publish publish)) }
+{
+    let length = frames.len();
+    match put_publish(codec, frames, &publish) {
+        Ok(()) => hand_on_own(state, frames, publish, at, length),
+        Err(Error::OutOfMemory) => {
+            drop(publish);
+            Err(StateError::OutOfMemory)
+        }
+        Err(_refused) => {
+            let release = as_release(publish.pkid);
+            given.push(as_publish(publish))?;
+            send_any(state, codec, frames, release, at, fault)
+        }
+    }
+}
+
 /// Sends one request again.
 fn send_one(
     state: &mut MqttState,
     codec: &Codec,
-    scratch: &mut BytesMut,
+    frames: &mut BytesMut,
     request: Request,
-    packets: &mut Vec<Packet>,
     given: &mut Vec<Request>,
     at: u64,
+    fault: &mut Option<StateError>,
 ) -> Result<(), StateError>
-    ensures { SendsOne result codec.now request at state.old packets.old.items given.old.items
-        state.new packets.new.items given.new.items }
+    ensures sent { SendsFrame result codec.now (on_request state.old (fitting codec.now request) at)
+        fault.old frames.old.items state.new fault.new frames.new.items }
+    ensures given { OnOk result (given.new.items ≡ given.old.items ++ unfitting codec.now request) }
 {
-    let fitting = fit(codec, scratch, request, given)?;
-    keep_packet(state, fitting, packets, at)
-}
-
-/// Sends requests again, and answers their packets.
-fn send_all(
-    alloc: Global,
-    state: &mut MqttState,
-    codec: &Codec,
-    requests: Vec<Request>,
-    given: &mut Vec<Request>,
-    at: u64,
-) -> Result<Vec<Packet>, StateError>
-    ensures ok { IfOk result (λ v. all_fitting codec.now requests.items state.old at
-        ≡ Ok (v.items, state.new)) }
-    ensures given { OnOk result (given.new.items ≡ given.old.items ++ flat_map
-        (unfitting codec.now) requests.items) }
-    ensures err { IfErr result (λ e. (e ≡ faults.OutOfMemory)
-        ⊎ (all_fitting codec.now requests.items state.old at ≡ Err e)) }
-{
-    let mut packets = Vec::with_capacity(alloc, requests.len())?;
-    let mut scratch = BytesMut::new(alloc);
-    for request in requests {
-        send_one(state, codec, &mut scratch, request, &mut packets, given, at)?;
+    match request {
+        Request::Publish(publish) => {
+            send_publish(state, codec, frames, publish, given, at, fault)
+        }
+        other => send_any(state, codec, frames, other, at, fault),
     }
-    Ok(packets)
 }
 
-/// The frames of what a session sends again.
+/// The frames of what a session sends again. Where one can't be written, the session still takes what
+/// comes after it, and its refusal goes before that fault.
 fn resent(
     alloc: Global,
     state: &mut MqttState,
@@ -168,8 +140,15 @@ fn resent(
         requests.items) }
     ensures err { IfErr result (λ e. NotResent e codec.now requests.items state.old at) }
 {
-    let packets = send_all(alloc, state, codec, requests, given, at)?;
-    frames(alloc, codec, &packets)
+    let mut frames = BytesMut::new(alloc);
+    let mut fault = None;
+    for request in requests {
+        send_one(state, codec, &mut frames, request, given, at, &mut fault)?;
+    }
+    match fault {
+        Some(fault) => Err(fault),
+        None => Ok(frames),
+    }
 }
 
 /// A ConnAck that allows what a session's last one allowed.
