@@ -45,9 +45,13 @@ pub(crate) fn append(output: &mut BytesMut, frames: BytesMut) -> Result<(), Allo
     ensures ok { OnOk result (output.new.items ≡ output.old.items ++ frames.items) }
     ensures err { OnErr result (output.new.items ≡ output.old.items) }
 {
-    if output.is_empty() && output.capacity() < frames.len() {
-        *output = frames;
-        return Ok(());
+    if output.is_empty() {
+        // (what was sent left its room in front)
+        output.clear();
+        if output.capacity() < frames.len() {
+            *output = frames;
+            return Ok(());
+        }
     }
     output.extend_from_slice(frames.as_slice())
 }

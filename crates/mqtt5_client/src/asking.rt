@@ -205,7 +205,7 @@ fn hand_on_stored(
     }
 }
 
-/// Hands any other request on.
+/// Hands a request on of which the session stores a copy, if it stores it.
 fn hand_on_any(
     state: &mut MqttState,
     output: &mut BytesMut,
@@ -256,8 +256,8 @@ pub(crate) fn hand_on_own(
     hand_on_stored(state, output, publish, at, length)
 }
 
-/// Hands a publish on, as it is unless it has properties: their texts and lists may have spare
-/// room, which would be kept until the ack, and a copy has none.
+/// Hands a publish on, as it is where that keeps no more memory until its ack than a copy: texts and lists of properties may
+/// have spare room, and no bytes may stand in a block that a copy of them lets go.
 fn hand_on_publish(
     state: &mut MqttState,
     output: &mut BytesMut,
@@ -268,7 +268,7 @@ fn hand_on_publish(
     ensures { HandsOn result (on_request state.old (Request.Publish publish) at) length state.old
         output.old.items state.new output.new.items }
 {
-    if publish.properties.is_some() {
+    if publish.properties.is_some() || publish.topic.is_empty() || publish.payload.is_empty() {
         return hand_on_any(state, output, as_publish(publish), at, length);
     }
     hand_on_own(state, output, publish, at, length)
