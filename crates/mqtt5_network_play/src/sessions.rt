@@ -55,7 +55,7 @@ pub fn take(
         (way.new.items ≡ way.old.items ++ reply_in (on_packet state.old packet 0).0) }
     ensures err { IfErr result (λ e. e ≡ StateError.OutOfMemory) }
 {
-    // (a publish that waits may be the reply, which is then copied once)
+    // (the reply may be the publish that waits: `take_any` hands it over, and `send_stored` would copy it)
     if state.collision().is_some() {
         return take_any(state, packet, way);
     }
@@ -148,7 +148,8 @@ fn send_reply(state: &MqttState, reply: Reply, way: &mut VecDeque<Packet>) -> Re
     }
 }
 
-/// Puts the publish that awaits its ack under an id at the end of a way.
+/// Puts the publish that awaits its ack under an id at the end of a way. (`take` never comes here: while a publish waits, it
+/// leaves each packet to `take_any`, and otherwise none is answered by a publish. The clause of `send_reply` asks for it.)
 fn send_stored(state: &MqttState, id: u16, way: &mut VecDeque<Packet>) -> Result<(), AllocError>
     ensures { OnOk result (way.new.items
         ≡ way.old.items ++ option_to_list (packet_of (Reply.Publish id) state.now)) }
