@@ -5,7 +5,7 @@ ghost use Rattle.std.specs.Prelude.{◌≡◌, ◌≢◌, Some, is_some};
 ghost use Rattle.mqtt5_base.specs.declared.quality.QoS.TheVariants.{AtMostOnce};
 ghost use Rattle.mqtt5_base.specs.Puts.{Writes};
 ghost use Rattle.mqtt5_codec.specs.Packets.{writing_under};
-ghost use Rattle.mqtt5_session.specs.Replies.{made_of, packet_of};
+ghost use Rattle.mqtt5_session.specs.Replies.{packet_of};
 ghost use Rattle.mqtt5_session.specs.Requests.{id_for, next_id, on_request};
 ghost use Rattle.mqtt5_drive.specs.Run.{reply_bytes};
 ghost use Rattle.mqtt5_client.specs.Asked.{id_asked, subscribe_asked, bytes_asked, Takes};
@@ -15,7 +15,7 @@ use bytes::BytesMut;
 use mqtt5_base::{Error, QoS};
 use mqtt5_codec::{Codec, Packet};
 use mqtt5_control::DisconnectReasonCode;
-use mqtt5_drive::{put_puback, put_publish, put_pubrec, put_subscribe, put_unsubscribe};
+use mqtt5_drive::{put_made, put_puback, put_publish, put_pubrec, put_subscribe, put_unsubscribe};
 use mqtt5_publish::{PingReq, Publish};
 use mqtt5_session::{MqttState, Reply, Request, StateError};
 use mqtt5_subscribe::{Subscribe, Unsubscribe};
@@ -45,20 +45,6 @@ fn id_asked(state: &MqttState, qos: QoS, id: u16) -> u16
         QoS::AtMostOnce => id,
         QoS::AtLeastOnce | QoS::ExactlyOnce => id_for(state, id),
     }
-}
-
-/// Writes a release, or a Disconnect.
-fn put_made(codec: &Codec, output: &mut BytesMut, reply: Reply) -> Result<(), Error>
-    ensures { Writes (λ _. tt) (reply_bytes codec.now (made_of reply)) result output.old.items
-        output.new.items }
-{
-    let packet = reply.packet();
-    let written = match &packet {
-        Some(made) => codec.write(made, output),
-        None => Ok(()),
-    };
-    drop(packet);
-    written
 }
 
 fn put_ping(codec: &Codec, output: &mut BytesMut) -> Result<(), Error>

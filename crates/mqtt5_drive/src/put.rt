@@ -75,11 +75,7 @@ pub fn put_pubrec(codec: &Codec, output: &mut BytesMut, received: &PubRec) -> Re
 }
 
 /// The same of a PubRel.
-pub(crate) fn put_pubrel(
-    codec: &Codec,
-    output: &mut BytesMut,
-    release: &PubRel,
-) -> Result<(), Error>
+fn put_pubrel(codec: &Codec, output: &mut BytesMut, release: &PubRel) -> Result<(), Error>
     ensures { Writes (λ _. tt)
         (writing_under codec.now.max_outgoing_size (packets.PubRel release.now)) result
         output.old.items output.new.items }
@@ -95,11 +91,7 @@ pub(crate) fn put_pubrel(
 }
 
 /// The same of a PubComp.
-pub(crate) fn put_pubcomp(
-    codec: &Codec,
-    output: &mut BytesMut,
-    completed: &PubComp,
-) -> Result<(), Error>
+fn put_pubcomp(codec: &Codec, output: &mut BytesMut, completed: &PubComp) -> Result<(), Error>
     ensures { Writes (λ _. tt)
         (writing_under codec.now.max_outgoing_size (packets.PubComp completed.now)) result
         output.old.items output.new.items }
@@ -154,8 +146,10 @@ pub fn put_unsubscribe(
     Ok(())
 }
 
-/// Appends the frame of a reply that isn't a publish, and nothing of none.
-pub(crate) fn put_made(codec: &Codec, output: &mut BytesMut, reply: Reply) -> Result<(), Error>
+/// Appends the frame of an ack or a Disconnect that is given in short, as `Codec::write` does that of its packet: under the
+/// outgoing limit, with the same errors, after which the buffer is unchanged. Appends nothing of a publish, which the session
+/// has, and nothing for `Reply::Nothing`.
+pub fn put_made(codec: &Codec, output: &mut BytesMut, reply: Reply) -> Result<(), Error>
     ensures { Writes (λ _. tt) (reply_bytes codec.now (made_of reply)) result output.old.items
         output.new.items }
 {
