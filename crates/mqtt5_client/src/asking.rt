@@ -242,22 +242,36 @@ pub(crate) fn hand_on_own(
     hand_on_stored(state, output, publish, at, length)
 }
 
-/// Hands a publish on, as it is where that keeps no more memory until its ack than a copy: texts and lists of properties may
-/// have spare room, and no bytes may stand in a block that a copy of them lets go.
-fn hand_on_publish(
+/// Whether the session is to store a request as it is: a publish of QoS 1 or 2 of which it keeps no more memory until its
+/// ack than of a copy. Texts and lists of properties may have spare room, and empty bytes may hold a block that a copy of
+/// them lets go.
+fn is_stored_as_it_is(request: &Request) -> bool {
+    match request {
+        Request::Publish(publish) => {
+            publish.qos != QoS::AtMostOnce
+                && publish.properties.is_none()
+                && !publish.topic.is_empty()
+                && !publish.payload.is_empty()
+        }
+        _other => false,
+    }
+}
+
+/// Hands a request on that is stored as it is: a publish, so the other arm is never taken.
+fn hand_on_as_it_is(
     state: &mut MqttState,
     output: &mut BytesMut,
-    publish: Publish,
+    request: Request,
     at: u64,
     length: usize,
 ) -> Result<(), StateError>
-    ensures { HandsOn result (on_request state.old (Request.Publish publish) at) length state.old
-        output.old.items state.new output.new.items }
+    ensures { HandsOn result (on_request state.old request at) length state.old output.old.items
+        state.new output.new.items }
 {
-    if publish.properties.is_some() || publish.topic.is_empty() || publish.payload.is_empty() {
-        return hand_on_any(state, output, as_publish(publish), at, length);
+    match request {
+        Request::Publish(publish) => hand_on_own(state, output, publish, at, length),
+        other => hand_on_any(state, output, other, at, length),
     }
-    hand_on_own(state, output, publish, at, length)
 }
 
 /// Hands a request on to the session. What the output has behind this length goes where nothing is sent.
@@ -271,9 +285,10 @@ fn hand_on(
     ensures { HandsOn result (on_request state.old request at) length state.old output.old.items
         state.new output.new.items }
 {
-    match request {
-        Request::Publish(publish) => hand_on_publish(state, output, publish, at, length),
-        other => hand_on_any(state, output, other, at, length),
+    if is_stored_as_it_is(&request) {
+        hand_on_as_it_is(state, output, request, at, length)
+    } else {
+        hand_on_any(state, output, request, at, length)
     }
 }
 
