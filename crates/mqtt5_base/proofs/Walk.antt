@@ -1,27 +1,22 @@
 -- The first level of a text, and what the walk over two texts knows of it.
-use Rattle.std.proofs.Common.{◌≡◌, ℕ, ◌+◌, ◌-◌, ◌<◌, ◌≤◌, Bool, true, false, cond, not, ◌&&◌, ◌||◌, ◌==◌, List, [], ◌∷◌, length, get_or, take, drop, bytes_eq, add-zero, ◌⊎◌, inl, inr, refl, sym, ap, subst, ◌∙◌, arith}
+use Rattle.std.proofs.Common.{◌≡◌, ℕ, Bor, MatchResult, Result, ◌+◌, ◌-◌, ◌<◌, ◌≤◌, Bool, true, false, cond, not, ◌&&◌, ◌||◌, ◌==◌, nat_eq, List, [], ◌∷◌, length, get_or, take, drop, min, bytes_eq, ◌⊎◌, inl, inr, refl, sym, ap, subst, ◌∙◌, arith}
 use Rattle.std.proofs.Math.Numerals.{one-add}
-use Rattle.std.specs.List.{before_first, position_or_len, common_prefix_len, onto_first}
+use Rattle.std.specs.List.{before_first, position_or_len, onto_first}
+use Rattle.std.specs.Cmp.Lexicographic.{pointwise}
 use Rattle.std.proofs.lemmas.Bool.{eqb-true, eq-eqb}
-use Rattle.std.proofs.lemmas.List.{drop_all, take_rest}
+use Rattle.std.proofs.lemmas.List.{drop-drop, length-drop, length-take-le, take_rest}
+use Rattle.std.proofs.lemmas.List.Sums.{common_prefix_len-le}
 use Rattle.std.proofs.lemmas.Slice.Eq.{bytes_eq-Decides}
 use Rattle.mqtt5_base.specs.Topics.{levels, plus, hash, covers, match_levels}
-use Rattle.mqtt5_base.specs.Walk.{match_behind}
+use Rattle.mqtt5_base.specs.Walk.{common_len, match_behind, match_same}
 
--- how many bytes are equal and in the first level
-abbrev pub common : List ℕ → List ℕ → ℕ
-common = common_prefix_len (λ t f. t == f && not (t == 47))
-
--- none are, where the filter is at its end
-common-nothing : (t : List ℕ) → common t [] ≡ 0
-common-nothing [] = refl
-common-nothing (b ∷ bs) = refl
-
--- and so no more than those that were found
-pub common-ended : (t f : List ℕ) (n : ℕ) → length f ≤ n → n + common (drop n t) (drop n f) ≡ common t f → n ≡ common t f
+-- where one of the texts is at its end, no more bytes are equal than those that were found
+pub common-ended : (t f : List ℕ) (n : ℕ) → min (length t) (length f) ≤ n → n + common_len (drop n t) (drop n f) ≡ common_len t f → n ≡ common_len t f
 common-ended t f n over h =
-    let none : common (drop n t) (drop n f) ≡ 0 = ap (common (drop n t)) (drop_all n f over) ∙ common-nothing (drop n t) in
-    sym (add-zero n) ∙ ap (λ k. n + k) (sym none) ∙ h
+    let most = common_prefix_len-le (λ t f. t == f && not (t == 47)) (drop n t) (drop n f) in
+    let topic = length-drop n t in
+    let filter = length-drop n f in
+    omega arith
 
 -- the first level
 abbrev pub first : List ℕ → List ℕ
@@ -63,7 +58,7 @@ abbrev literal : List ℕ → List ℕ → Bool
 literal t f = bytes_eq (first f) (first t) && match_levels (others t) (others f)
 
 -- a literal level and what is behind it
-after_common : (t f : List ℕ) → literal t f ≡ match_behind (drop (common t f) t) (drop (common t f) f)
+after_common : (t f : List ℕ) → literal t f ≡ match_behind (drop (common_len t f) t) (drop (common_len t f) f)
 after_common [] [] = refl
 after_common [] (y ∷ f) = by_test (y == 47)
   where
@@ -75,7 +70,7 @@ after_common (x ∷ t) [] = by_test (x == 47)
     by_test : (s : Bool) → (bytes_eq [] (cond s [] (x ∷ first t)) && match_levels (cond s (levels t) (others t)) []) ≡ false
     by_test true = ap (λ ls. match_levels ls []) (levels_are t)
     by_test false = refl
-after_common (x ∷ t) (y ∷ f) = by_tests (x == y) (x == 47) (y == 47) refl refl refl (after_common t f) ∙ sym (left (x == y && not (x == 47)) (common t f))
+after_common (x ∷ t) (y ∷ f) = by_tests (x == y) (x == 47) (y == 47) refl refl refl (after_common t f) ∙ sym (left (x == y && not (x == 47)) (common_len t f))
   where
     left : (k : Bool) (n : ℕ) → match_behind (drop (cond k (1 + n) 0) (x ∷ t)) (drop (cond k (1 + n) 0) (y ∷ f))
         ≡ cond k (match_behind (drop n t) (drop n f)) (x == 47 && (y == 47 && match_levels (levels t) (levels f)))
@@ -87,11 +82,11 @@ after_common (x ∷ t) (y ∷ f) = by_tests (x == y) (x == 47) (y == 47) refl re
     never true = refl
     never false = refl
 
-    by_tests : (e s u : Bool) → (x == y) ≡ e → (x == 47) ≡ s → (y == 47) ≡ u → literal t f ≡ match_behind (drop (common t f) t) (drop (common t f) f)
+    by_tests : (e s u : Bool) → (x == y) ≡ e → (x == 47) ≡ s → (y == 47) ≡ u → literal t f ≡ match_behind (drop (common_len t f) t) (drop (common_len t f) f)
         → (bytes_eq (cond u [] (y ∷ first f)) (cond s [] (x ∷ first t)) && match_levels (cond s (levels t) (others t)) (cond u (levels f) (others f)))
-        ≡ cond (e && not s) (match_behind (drop (common t f) t) (drop (common t f) f)) (s && (u && match_levels (levels t) (levels f)))
-    by_tests e true true same slash slash' h = ap (λ k. cond k (match_behind (drop (common t f) t) (drop (common t f) f)) (match_levels (levels t) (levels f))) (sym (never e))
-    by_tests e true false same slash slash' h = ap (λ k. cond k (match_behind (drop (common t f) t) (drop (common t f) f)) false) (sym (never e))
+        ≡ cond (e && not s) (match_behind (drop (common_len t f) t) (drop (common_len t f) f)) (s && (u && match_levels (levels t) (levels f)))
+    by_tests e true true same slash slash' h = ap (λ k. cond k (match_behind (drop (common_len t f) t) (drop (common_len t f) f)) (match_levels (levels t) (levels f))) (sym (never e))
+    by_tests e true false same slash slash' h = ap (λ k. cond k (match_behind (drop (common_len t f) t) (drop (common_len t f) f)) false) (sym (never e))
     by_tests false false true same slash slash' h = refl
     by_tests true false true same slash slash' h =
         let is : y ≡ 47 = eqb-true y 47 slash' in
@@ -186,7 +181,7 @@ by_plus t f isnt is other =
 -- a literal level, or one that doesn't match
 pub by_literal : (t f : List ℕ) → bytes_eq (before_first (λ b. b == 47) f) hash ≡ false
     → (bytes_eq (before_first (λ b. b == 47) f) plus ≡ false) ⊎ (bytes_eq (before_first (λ b. b == 47) t) hash ≡ true)
-    → match_behind (drop (common t f) t) (drop (common t f) f) ≡ match_levels (levels t) (levels f)
+    → match_behind (drop (common_len t f) t) (drop (common_len t f) f) ≡ match_levels (levels t) (levels f)
 by_literal t f isnt o =
     let no_hash : bytes_eq (first f) hash ≡ false = ap (λ l. bytes_eq l hash) (sym (first_is f)) ∙ isnt in
     sym (after_common t f)
@@ -203,3 +198,94 @@ by_literal t f isnt o =
         by_test : (k : Bool) → cond k (not (bytes_eq m hash)) (bytes_eq l m) ≡ bytes_eq l m
         by_test true = ap not e ∙ sym same
         by_test false = refl
+
+-- ---- what is left
+
+-- what the rest says is said of the whole
+pub told : (r : Result (Bor (List ℕ) × Bor (List ℕ)) Bool) (a b : Bool) → a ≡ b
+    → MatchResult r (λ left. match_levels (levels left.0.now) (levels left.1.now) ≡ a) (λ matches. matches ≡ a)
+    → MatchResult r (λ left. match_levels (levels left.0.now) (levels left.1.now) ≡ b) (λ matches. matches ≡ b)
+told r a b e = subst (λ (x : Bool). MatchResult r (λ left. match_levels (levels left.0.now) (levels left.1.now) ≡ x) (λ matches. matches ≡ x)) e
+
+-- ---- a long level
+
+-- what a test of the first bytes of two texts has told
+both : (k p : Bool) → true ≡ (k && p) → (true ≡ k) × (true ≡ p)
+both true p h = (refl, h)
+both false p h = absurd cc
+
+-- a filter that starts with the topic's level has it in common
+far_same : (t f : List ℕ) → true ≡ pointwise nat_eq (take (length (first t)) f) (first t) → common_len t f ≡ length (first t)
+far_same [] f h = refl
+far_same (x ∷ t) [] h = by_test (x == 47) h
+  where
+    by_test : (s : Bool) → true ≡ pointwise nat_eq (take (length (cond s [] (x ∷ first t))) []) (cond s [] (x ∷ first t)) → 0 ≡ length (cond s [] (x ∷ first t))
+    by_test true h = refl
+    by_test false h = absurd cc
+far_same (x ∷ t) (y ∷ f) h = by_test (x == 47) (far_same t f) h
+  where
+    never : (e : Bool) → (e && false) ≡ false
+    never true = refl
+    never false = refl
+
+    same : (e : Bool) → (x == y) ≡ e → true ≡ nat_eq y x → common_len t f ≡ length (first t) → cond (e && true) (1 + common_len t f) 0 ≡ length (x ∷ first t)
+    same true is h rest = ap (λ k. 1 + k) rest ∙ one-add (length (first t))
+    same false is h rest = let equal : (x == y) ≡ true = eq-eqb x y (sym (eqb-true y x (sym h))) in absurd cc
+
+    by_test : (s : Bool) → (true ≡ pointwise nat_eq (take (length (first t)) f) (first t) → common_len t f ≡ length (first t))
+        → true ≡ pointwise nat_eq (take (length (cond s [] (x ∷ first t))) (y ∷ f)) (cond s [] (x ∷ first t))
+        → cond (x == y && not s) (1 + common_len t f) 0 ≡ length (cond s [] (x ∷ first t))
+    by_test true rest h = ap (λ k. cond k (1 + common_len t f) 0) (never (x == y))
+    by_test false rest h =
+        let b = both (nat_eq y x) (pointwise nat_eq (take (length (first t)) f) (first t)) h in
+        same (x == y) refl b.0 (rest b.1)
+
+-- one that doesn't matches no such topic
+far_other : (t f : List ℕ) → false ≡ pointwise nat_eq (take (length (first t)) f) (first t) → false ≡ match_same t f
+far_other [] f h = absurd cc
+far_other (x ∷ t) [] h = by_test (x == 47) h
+  where
+    by_test : (s : Bool) → false ≡ pointwise nat_eq (take (length (cond s [] (x ∷ first t))) []) (cond s [] (x ∷ first t)) → false ≡ match_same (x ∷ t) []
+    by_test true h = absurd cc
+    by_test false h = refl
+far_other (x ∷ t) (y ∷ f) h = by_test (x == 47) refl (far_other t f) h
+  where
+    left : (k : Bool) (n : ℕ) → match_behind (drop (cond k (1 + n) 0) (x ∷ t)) (drop (cond k (1 + n) 0) (y ∷ f))
+        ≡ cond k (match_behind (drop n t) (drop n f)) (x == 47 && (y == 47 && match_levels (levels t) (levels f)))
+    left true n = λ i. match_behind (drop (one-add n i) (x ∷ t)) (drop (one-add n i) (y ∷ f))
+    left false n = refl
+
+    other : (e : Bool) → (x == y) ≡ e → (x == 47) ≡ false → (false ≡ pointwise nat_eq (take (length (first t)) f) (first t) → false ≡ match_same t f)
+        → false ≡ (nat_eq y x && pointwise nat_eq (take (length (first t)) f) (first t))
+        → false ≡ cond (e && true) (match_same t f) (x == 47 && (y == 47 && match_levels (levels t) (levels f)))
+    other true is inside rest h = rest (h ∙ ap (λ k. k && pointwise nat_eq (take (length (first t)) f) (first t)) (eq-eqb y x (sym (eqb-true x y is))))
+    other false is inside rest h = ap (λ k. k && (y == 47 && match_levels (levels t) (levels f))) (sym inside)
+
+    by_test : (s : Bool) → (x == 47) ≡ s → (false ≡ pointwise nat_eq (take (length (first t)) f) (first t) → false ≡ match_same t f)
+        → false ≡ pointwise nat_eq (take (length (cond s [] (x ∷ first t))) (y ∷ f)) (cond s [] (x ∷ first t)) → false ≡ match_same (x ∷ t) (y ∷ f)
+    by_test true is rest h = absurd cc
+    by_test false is rest h =
+        other (x == y) refl is rest h
+        ∙ ap (λ s. cond (x == y && not s) (match_same t f) (x == 47 && (y == 47 && match_levels (levels t) (levels f)))) (sym is)
+        ∙ sym (left (x == y && not (x == 47)) (common_len t f))
+
+-- what is left behind a level that both have
+pub behind_same : (t f left : List ℕ) (e : ℕ) → e ≡ position_or_len (λ b. b == 47) t → e ≤ length t → true ≡ pointwise nat_eq (take (length (take e t)) f) (take e t)
+    → left ≡ drop (length (take e t)) f → match_behind (drop e t) left ≡ match_same t f
+behind_same t f left e end within same rest =
+    let level : take e t ≡ first t = ap (λ n. take n t) end ∙ first_is t in
+    let len : length (take e t) ≡ e = length-take-le e t within in
+    let common : common_len t f ≡ e = far_same t f (same ∙ ap (λ l. pointwise nat_eq (take (length l) f) l) level) ∙ ap length (sym level) ∙ len in
+    ap (λ l. match_behind (drop e t) l) (rest ∙ ap (λ n. drop n f) len) ∙ ap (λ n. match_behind (drop n t) (drop n f)) (sym common)
+
+-- and where the filter doesn't have it
+pub behind_other : (t f : List ℕ) (e : ℕ) → e ≡ position_or_len (λ b. b == 47) t → false ≡ pointwise nat_eq (take (length (take e t)) f) (take e t) → false ≡ match_same t f
+behind_other t f e end other =
+    let level : take e t ≡ first t = ap (λ n. take n t) end ∙ first_is t in
+    far_other t f (other ∙ ap (λ l. pointwise nat_eq (take (length l) f) l) level)
+
+-- how many bytes both have in common begins with those that were found
+pub match_from : (t f : List ℕ) (n : ℕ) → n + common_len (drop n t) (drop n f) ≡ common_len t f → match_same (drop n t) (drop n f) ≡ match_same t f
+match_from t f n h =
+    (λ i. match_behind (drop-drop (common_len (drop n t) (drop n f)) n t i) (drop-drop (common_len (drop n t) (drop n f)) n f i))
+    ∙ ap (λ k. match_behind (drop k t) (drop k f)) h

@@ -1,14 +1,14 @@
 //! Rules that all packets share: the QoS of a number, topic names and topic filters.
 
-ghost use Rattle.std.specs.Prelude.{◌≡◌, ◌≢◌, ◌<◌, ◌≤◌, ◌||◌, ◌&&◌, not, ◌==◌, [], ◌∷◌, length, IsSome, IfSome, IfOk, MatchResult, ◌↔◌};
-ghost use Rattle.std.specs.List.{before_first, common_prefix_len, position_or_len};
+ghost use Rattle.std.specs.Prelude.{◌≡◌, ◌≢◌, ◌+◌, ◌<◌, ◌≤◌, ◌||◌, ◌&&◌, not, ◌==◌, [], ◌∷◌, drop, length, IsSome, IfSome, IfOk, MatchResult, ◌↔◌};
+ghost use Rattle.std.specs.List.{before_first, position_or_len};
 ghost use Rattle.std.specs.Str.{bytes_eq};
 ghost use Rattle.mqtt5_base.specs.Grammar.{is_among, is_qos, number};
 ghost use Rattle.mqtt5_base.specs.Answers.{Finds};
 ghost use Rattle.mqtt5_base.specs.Reading.{judged};
 ghost use Rattle.mqtt5_base.specs.Topics.{IsMatching, are_valid, has_wildcards, is_reserved, is_valid_filter, is_valid_topic, levels, match_levels, topic_matches};
 ghost use Rattle.mqtt5_base.specs.Views.{qos_number};
-ghost use Rattle.mqtt5_base.specs.Walk.{match_behind, valid_behind};
+ghost use Rattle.mqtt5_base.specs.Walk.{common_len, match_behind, match_same, valid_behind};
 
 use crate::error::Error;
 use crate::quality::QoS;
@@ -149,19 +149,21 @@ fn level_len(text: &[u8]) -> usize
     end
 }
 
-/// How many bytes at the start of both texts are equal and in the first level.
+/// How many bytes of a level are compared one by one. Most levels are shorter, and what a longer one has behind them is
+/// compared as a whole.
+const NEAR: usize = 16;
+
+/// How many bytes at the start of both texts are equal and in the first level, of the first `NEAR` bytes.
 fn common_len(topic: &[u8], filter: &[u8]) -> usize
-    ensures value { result
-        ≡ common_prefix_len (λ t f. t == f && not (t == 47)) topic.now filter.now }
+    ensures value { result + common_len (drop result topic.now) (drop result filter.now)
+        ≡ common_len topic.now filter.now }
+    ensures all { result < 16 → result ≡ common_len topic.now filter.now }
     ensures in_topic { result ≤ length topic.now }
     ensures in_filter { result ≤ length filter.now }
 {
+    let near = topic.len().min(filter.len()).min(NEAR);
     let mut len = 0;
-    while len < topic.len()
-        && len < filter.len()
-        && topic[len] == filter[len]
-        && topic[len] != b'/'
-    {
+    while len < near && topic[len] == filter[len] && topic[len] != b'/' {
         len += 1;
     }
     len
@@ -184,6 +186,21 @@ fn left_behind<'a>(topic: &'a [u8], filter: &'a [u8]) -> Result<(&'a [u8], &'a [
     }
 }
 
+/// What is left behind the rest of a level that is the same in both so far, or whether they match.
+fn far_left<'a>(topic: &'a [u8], filter: &'a [u8]) -> Result<(&'a [u8], &'a [u8]), bool>
+    ensures value { MatchResult result
+        (λ left. match_levels (levels left.0.now) (levels left.1.now)
+        ≡ match_same topic.now filter.now)
+        (λ matches. matches ≡ match_same topic.now filter.now) }
+    ensures shorter { IfOk result (λ left. length left.1.now < length filter.now) }
+{
+    let end = level_len(topic);
+    match filter.strip_prefix(&topic[..end]) {
+        Some(left) => left_behind(&topic[end..], left),
+        None => Err(false),
+    }
+}
+
 /// What is left behind the first level of both, or whether they match.
 fn next_levels<'a>(topic: &'a [u8], filter: &'a [u8]) -> Result<(&'a [u8], &'a [u8]), bool>
     ensures value { MatchResult result
@@ -199,7 +216,10 @@ fn next_levels<'a>(topic: &'a [u8], filter: &'a [u8]) -> Result<(&'a [u8], &'a [
         return left_behind(&topic[level_len(topic)..], &filter[1..]);
     }
     let len = common_len(topic, filter);
-    left_behind(&topic[len..], &filter[len..])
+    if len < NEAR {
+        return left_behind(&topic[len..], &filter[len..]);
+    }
+    far_left(&topic[len..], &filter[len..])
 }
 
 fn levels_match(topic: &str, filter: &str) -> bool

@@ -37,6 +37,14 @@ a/b/c a/b/c/d false
 a/# a/+ false
 é/a +/a true
 $SYS/a $SYS/a false
+abcdefghijklmnop/x abcdefghijklmnop/+ true
+abcdefghijklmnop abcdefghijklmnopq false
+abcdefghijklmnopq abcdefghijklmnop false
+abcdefghijklmnopqrst/x abcdefghijklmnopqrst/x true
+abcdefghijklmnopqrst/x abcdefghijklmnopqrsu/x false
+abcdefghijklmnopqrst/x abcdefghijklmnopqrst/y false
+abcdefghijklmnopqrst/x abcdefghijklmnopqrstu/x false
+abcdefghijklmnopqrst abcdefghijklmnopqrst/# true
 ";
 
 fn write_filter(row: &str, text: &mut String) -> Result<(), Error> {
