@@ -33,3 +33,4 @@ pub mod ValidWalk
 pub mod Matching
 pub mod Bits
 pub mod AnswersLemmas
+pub mod Marks

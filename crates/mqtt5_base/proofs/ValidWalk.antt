@@ -1,40 +1,39 @@
 -- What the walk over a filter knows of its first level.
-use Rattle.std.proofs.Common.{◌≡◌, ◌≢◌, ℕ, suc, ◌+◌, ◌<◌, Bool, true, false, cond, not, ◌&&◌, ◌||◌, ◌==◌, List, [], ◌∷◌, length, get_or, drop, refl, sym, ap, ◌∙◌, arith}
+use Rattle.std.proofs.Common.{◌≡◌, ◌≢◌, ℕ, suc, ◌+◌, ◌<◌, ◌≤◌, Bool, true, false, cond, not, ◌&&◌, ◌||◌, ◌==◌, List, [], ◌∷◌, length, get_or, drop, refl, sym, ap, ◌∙◌, arith}
 use Rattle.std.proofs.Math.Numerals.{one-add}
-use Rattle.std.specs.List.{position_or_len}
 use Rattle.std.proofs.lemmas.Bool.Decides.{nat_tests}
 use Rattle.mqtt5_base.specs.Grammar.{is_among}
 use Rattle.mqtt5_base.specs.Topics.{levels, has_wildcards, are_valid}
-use Rattle.mqtt5_base.specs.Walk.{valid_behind}
+use Rattle.mqtt5_base.specs.Walk.{plain_len, valid_behind}
 use Rattle.mqtt5_base.proofs.Walk.{first, others, levels_are}
 
--- how many bytes are neither `/` nor a wildcard
-abbrev plain : List ℕ → ℕ
-plain = position_or_len (λ b. b == 47 || has_wildcards (b ∷ []))
+-- so many bytes are plain, and those that follow go on with it
+abbrev pub plain_so_far : List ℕ → ℕ → Type 0
+plain_so_far t n = (n ≤ length t) × (n + plain_len (drop n t) ≡ plain_len t)
 
 -- whether a first level has no wildcard, and the others are valid
 abbrev is_plain : List ℕ → Bool
 is_plain f = not (has_wildcards (first f)) && are_valid (others f)
 
 -- what is left behind the plain bytes decides that
-after_plain : (f : List ℕ) → is_plain f ≡ valid_behind (drop (plain f) f)
+after_plain : (f : List ℕ) → is_plain f ≡ valid_behind (drop (plain_len f) f)
 after_plain [] = refl
-after_plain (b ∷ bs) = by_slash (b == 47) (after_plain bs) ∙ sym (left (not (b == 47 || has_wildcards (b ∷ []))) (plain bs))
+after_plain (b ∷ bs) = by_slash (b == 47) (after_plain bs) ∙ sym (left (not (b == 47 || has_wildcards (b ∷ []))) (plain_len bs))
   where
     left : (k : Bool) (n : ℕ) → valid_behind (drop (cond k (1 + n) 0) (b ∷ bs)) ≡ cond k (valid_behind (drop n bs)) (b == 47 && are_valid (levels bs))
     left true n = λ i. valid_behind (drop (one-add n i) (b ∷ bs))
     left false n = refl
 
-    by_wildcard : (u v x y : Bool) → (not (x || y) && are_valid (others bs)) ≡ valid_behind (drop (plain bs) bs)
-        → (not ((u || x) || (v || y)) && are_valid (others bs)) ≡ cond (not ((u || false) || (v || false))) (valid_behind (drop (plain bs) bs)) false
+    by_wildcard : (u v x y : Bool) → (not (x || y) && are_valid (others bs)) ≡ valid_behind (drop (plain_len bs) bs)
+        → (not ((u || x) || (v || y)) && are_valid (others bs)) ≡ cond (not ((u || false) || (v || false))) (valid_behind (drop (plain_len bs) bs)) false
     by_wildcard true v x y h = refl
     by_wildcard false true true y h = refl
     by_wildcard false true false y h = refl
     by_wildcard false false x y h = h
 
-    by_slash : (s : Bool) → is_plain bs ≡ valid_behind (drop (plain bs) bs)
+    by_slash : (s : Bool) → is_plain bs ≡ valid_behind (drop (plain_len bs) bs)
         → (not (has_wildcards (cond s [] (b ∷ first bs))) && are_valid (cond s (levels bs) (others bs)))
-        ≡ cond (not (s || has_wildcards (b ∷ []))) (valid_behind (drop (plain bs) bs)) (s && are_valid (levels bs))
+        ≡ cond (not (s || has_wildcards (b ∷ []))) (valid_behind (drop (plain_len bs) bs)) (s && are_valid (levels bs))
     by_slash true h = refl
     by_slash false h = by_wildcard (43 == b) (35 == b) (is_among (first bs) 43) (is_among (first bs) 35) h
 
@@ -108,5 +107,5 @@ known (b ∷ c ∷ f) plus hash more = let m : b ≡ 43 → c ≢ 47 = more (ome
 
 -- is decided by what is left behind its plain bytes
 pub by_plain : (f : List ℕ) → (length f ≡ 1 → get_or f 0 0 ≢ 43) → (length f ≡ 1 → get_or f 0 0 ≢ 35) → (1 < length f → get_or f 0 0 ≡ 43 → get_or f 1 0 ≢ 47)
-    → valid_behind (drop (plain f) f) ≡ are_valid (levels f)
+    → valid_behind (drop (plain_len f) f) ≡ are_valid (levels f)
 by_plain f plus hash more = sym (ap are_valid (levels_are f) ∙ only_plain f (known f plus hash more) ∙ after_plain f)

@@ -1,22 +1,27 @@
 -- The first level of a text, and what the walk over two texts knows of it.
-use Rattle.std.proofs.Common.{◌≡◌, ℕ, Bor, MatchResult, Result, ◌+◌, ◌-◌, ◌<◌, ◌≤◌, Bool, true, false, cond, not, ◌&&◌, ◌||◌, ◌==◌, nat_eq, List, [], ◌∷◌, length, get_or, take, drop, min, bytes_eq, ◌⊎◌, inl, inr, refl, sym, ap, subst, ◌∙◌, arith}
+use Rattle.std.proofs.Common.{◌≡◌, ℕ, ◌+◌, ◌-◌, ◌<◌, ◌≤◌, Bool, true, false, cond, not, ◌&&◌, ◌||◌, ◌==◌, List, [], ◌∷◌, length, get_or, take, drop, bytes_eq, add-zero, ◌⊎◌, inl, inr, refl, sym, ap, subst, ◌∙◌, arith}
 use Rattle.std.proofs.Math.Numerals.{one-add}
 use Rattle.std.specs.List.{before_first, position_or_len, onto_first}
-use Rattle.std.specs.Cmp.Lexicographic.{pointwise}
 use Rattle.std.proofs.lemmas.Bool.{eqb-true, eq-eqb}
-use Rattle.std.proofs.lemmas.List.{drop-drop, length-drop, length-take-le, take_rest}
-use Rattle.std.proofs.lemmas.List.Sums.{common_prefix_len-le}
+use Rattle.std.proofs.lemmas.List.{drop_all, take_rest}
 use Rattle.std.proofs.lemmas.Slice.Eq.{bytes_eq-Decides}
 use Rattle.mqtt5_base.specs.Topics.{levels, plus, hash, covers, match_levels}
-use Rattle.mqtt5_base.specs.Walk.{common_len, match_behind, match_same}
+use Rattle.mqtt5_base.specs.Walk.{common_len, match_behind}
 
--- where one of the texts is at its end, no more bytes are equal than those that were found
-pub common-ended : (t f : List ℕ) (n : ℕ) → min (length t) (length f) ≤ n → n + common_len (drop n t) (drop n f) ≡ common_len t f → n ≡ common_len t f
+-- so many bytes are equal and in the first level, and those that follow go on with it
+abbrev pub common_so_far : List ℕ → List ℕ → ℕ → Type 0
+common_so_far t f n = (n ≤ length t) × (n ≤ length f) × (n + common_len (drop n t) (drop n f) ≡ common_len t f)
+
+-- no bytes are in common where the filter is at its end
+common-nothing : (t : List ℕ) → common_len t [] ≡ 0
+common-nothing [] = refl
+common-nothing (b ∷ bs) = refl
+
+-- and so no more than those that were found
+pub common-ended : (t f : List ℕ) (n : ℕ) → length f ≤ n → n + common_len (drop n t) (drop n f) ≡ common_len t f → n ≡ common_len t f
 common-ended t f n over h =
-    let most = common_prefix_len-le (λ t f. t == f && not (t == 47)) (drop n t) (drop n f) in
-    let topic = length-drop n t in
-    let filter = length-drop n f in
-    omega arith
+    let none : common_len (drop n t) (drop n f) ≡ 0 = ap (common_len (drop n t)) (drop_all n f over) ∙ common-nothing (drop n t) in
+    sym (add-zero n) ∙ ap (λ k. n + k) (sym none) ∙ h
 
 -- the first level
 abbrev pub first : List ℕ → List ℕ
@@ -198,94 +203,3 @@ by_literal t f isnt o =
         by_test : (k : Bool) → cond k (not (bytes_eq m hash)) (bytes_eq l m) ≡ bytes_eq l m
         by_test true = ap not e ∙ sym same
         by_test false = refl
-
--- ---- what is left
-
--- what the rest says is said of the whole
-pub told : (r : Result (Bor (List ℕ) × Bor (List ℕ)) Bool) (a b : Bool) → a ≡ b
-    → MatchResult r (λ left. match_levels (levels left.0.now) (levels left.1.now) ≡ a) (λ matches. matches ≡ a)
-    → MatchResult r (λ left. match_levels (levels left.0.now) (levels left.1.now) ≡ b) (λ matches. matches ≡ b)
-told r a b e = subst (λ (x : Bool). MatchResult r (λ left. match_levels (levels left.0.now) (levels left.1.now) ≡ x) (λ matches. matches ≡ x)) e
-
--- ---- a long level
-
--- what a test of the first bytes of two texts has told
-both : (k p : Bool) → true ≡ (k && p) → (true ≡ k) × (true ≡ p)
-both true p h = (refl, h)
-both false p h = absurd cc
-
--- a filter that starts with the topic's level has it in common
-far_same : (t f : List ℕ) → true ≡ pointwise nat_eq (take (length (first t)) f) (first t) → common_len t f ≡ length (first t)
-far_same [] f h = refl
-far_same (x ∷ t) [] h = by_test (x == 47) h
-  where
-    by_test : (s : Bool) → true ≡ pointwise nat_eq (take (length (cond s [] (x ∷ first t))) []) (cond s [] (x ∷ first t)) → 0 ≡ length (cond s [] (x ∷ first t))
-    by_test true h = refl
-    by_test false h = absurd cc
-far_same (x ∷ t) (y ∷ f) h = by_test (x == 47) (far_same t f) h
-  where
-    never : (e : Bool) → (e && false) ≡ false
-    never true = refl
-    never false = refl
-
-    same : (e : Bool) → (x == y) ≡ e → true ≡ nat_eq y x → common_len t f ≡ length (first t) → cond (e && true) (1 + common_len t f) 0 ≡ length (x ∷ first t)
-    same true is h rest = ap (λ k. 1 + k) rest ∙ one-add (length (first t))
-    same false is h rest = let equal : (x == y) ≡ true = eq-eqb x y (sym (eqb-true y x (sym h))) in absurd cc
-
-    by_test : (s : Bool) → (true ≡ pointwise nat_eq (take (length (first t)) f) (first t) → common_len t f ≡ length (first t))
-        → true ≡ pointwise nat_eq (take (length (cond s [] (x ∷ first t))) (y ∷ f)) (cond s [] (x ∷ first t))
-        → cond (x == y && not s) (1 + common_len t f) 0 ≡ length (cond s [] (x ∷ first t))
-    by_test true rest h = ap (λ k. cond k (1 + common_len t f) 0) (never (x == y))
-    by_test false rest h =
-        let b = both (nat_eq y x) (pointwise nat_eq (take (length (first t)) f) (first t)) h in
-        same (x == y) refl b.0 (rest b.1)
-
--- one that doesn't matches no such topic
-far_other : (t f : List ℕ) → false ≡ pointwise nat_eq (take (length (first t)) f) (first t) → false ≡ match_same t f
-far_other [] f h = absurd cc
-far_other (x ∷ t) [] h = by_test (x == 47) h
-  where
-    by_test : (s : Bool) → false ≡ pointwise nat_eq (take (length (cond s [] (x ∷ first t))) []) (cond s [] (x ∷ first t)) → false ≡ match_same (x ∷ t) []
-    by_test true h = absurd cc
-    by_test false h = refl
-far_other (x ∷ t) (y ∷ f) h = by_test (x == 47) refl (far_other t f) h
-  where
-    left : (k : Bool) (n : ℕ) → match_behind (drop (cond k (1 + n) 0) (x ∷ t)) (drop (cond k (1 + n) 0) (y ∷ f))
-        ≡ cond k (match_behind (drop n t) (drop n f)) (x == 47 && (y == 47 && match_levels (levels t) (levels f)))
-    left true n = λ i. match_behind (drop (one-add n i) (x ∷ t)) (drop (one-add n i) (y ∷ f))
-    left false n = refl
-
-    other : (e : Bool) → (x == y) ≡ e → (x == 47) ≡ false → (false ≡ pointwise nat_eq (take (length (first t)) f) (first t) → false ≡ match_same t f)
-        → false ≡ (nat_eq y x && pointwise nat_eq (take (length (first t)) f) (first t))
-        → false ≡ cond (e && true) (match_same t f) (x == 47 && (y == 47 && match_levels (levels t) (levels f)))
-    other true is inside rest h = rest (h ∙ ap (λ k. k && pointwise nat_eq (take (length (first t)) f) (first t)) (eq-eqb y x (sym (eqb-true x y is))))
-    other false is inside rest h = ap (λ k. k && (y == 47 && match_levels (levels t) (levels f))) (sym inside)
-
-    by_test : (s : Bool) → (x == 47) ≡ s → (false ≡ pointwise nat_eq (take (length (first t)) f) (first t) → false ≡ match_same t f)
-        → false ≡ pointwise nat_eq (take (length (cond s [] (x ∷ first t))) (y ∷ f)) (cond s [] (x ∷ first t)) → false ≡ match_same (x ∷ t) (y ∷ f)
-    by_test true is rest h = absurd cc
-    by_test false is rest h =
-        other (x == y) refl is rest h
-        ∙ ap (λ s. cond (x == y && not s) (match_same t f) (x == 47 && (y == 47 && match_levels (levels t) (levels f)))) (sym is)
-        ∙ sym (left (x == y && not (x == 47)) (common_len t f))
-
--- what is left behind a level that both have
-pub behind_same : (t f left : List ℕ) (e : ℕ) → e ≡ position_or_len (λ b. b == 47) t → e ≤ length t → true ≡ pointwise nat_eq (take (length (take e t)) f) (take e t)
-    → left ≡ drop (length (take e t)) f → match_behind (drop e t) left ≡ match_same t f
-behind_same t f left e end within same rest =
-    let level : take e t ≡ first t = ap (λ n. take n t) end ∙ first_is t in
-    let len : length (take e t) ≡ e = length-take-le e t within in
-    let common : common_len t f ≡ e = far_same t f (same ∙ ap (λ l. pointwise nat_eq (take (length l) f) l) level) ∙ ap length (sym level) ∙ len in
-    ap (λ l. match_behind (drop e t) l) (rest ∙ ap (λ n. drop n f) len) ∙ ap (λ n. match_behind (drop n t) (drop n f)) (sym common)
-
--- and where the filter doesn't have it
-pub behind_other : (t f : List ℕ) (e : ℕ) → e ≡ position_or_len (λ b. b == 47) t → false ≡ pointwise nat_eq (take (length (take e t)) f) (take e t) → false ≡ match_same t f
-behind_other t f e end other =
-    let level : take e t ≡ first t = ap (λ n. take n t) end ∙ first_is t in
-    far_other t f (other ∙ ap (λ l. pointwise nat_eq (take (length l) f) l) level)
-
--- how many bytes both have in common begins with those that were found
-pub match_from : (t f : List ℕ) (n : ℕ) → n + common_len (drop n t) (drop n f) ≡ common_len t f → match_same (drop n t) (drop n f) ≡ match_same t f
-match_from t f n h =
-    (λ i. match_behind (drop-drop (common_len (drop n t) (drop n f)) n t i) (drop-drop (common_len (drop n t) (drop n f)) n f i))
-    ∙ ap (λ k. match_behind (drop k t) (drop k f)) h

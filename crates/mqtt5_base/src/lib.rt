@@ -8,6 +8,7 @@ mod exact;
 mod fields;
 mod frame;
 mod header;
+mod lanes;
 mod laws;
 mod mqttbytes;
 mod property;

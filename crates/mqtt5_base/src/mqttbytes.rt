@@ -1,6 +1,6 @@
 //! Rules that all packets share: the QoS of a number, topic names and topic filters.
 
-ghost use Rattle.std.specs.Prelude.{◌≡◌, ◌≢◌, ◌+◌, ◌<◌, ◌≤◌, ◌||◌, ◌&&◌, not, ◌==◌, [], ◌∷◌, drop, length, IsSome, IfSome, IfOk, MatchResult, ◌↔◌};
+ghost use Rattle.std.specs.Prelude.{◌≡◌, ◌≢◌, ◌<◌, ◌≤◌, ◌==◌, nat_lt, [], ◌∷◌, length, IsSome, IfSome, IfOk, MatchResult, ◌↔◌};
 ghost use Rattle.std.specs.List.{before_first, position_or_len};
 ghost use Rattle.std.specs.Str.{bytes_eq};
 ghost use Rattle.mqtt5_base.specs.Grammar.{is_among, is_qos, number};
@@ -8,9 +8,10 @@ ghost use Rattle.mqtt5_base.specs.Answers.{Finds};
 ghost use Rattle.mqtt5_base.specs.Reading.{judged};
 ghost use Rattle.mqtt5_base.specs.Topics.{IsMatching, are_valid, has_wildcards, is_reserved, is_valid_filter, is_valid_topic, levels, match_levels, topic_matches};
 ghost use Rattle.mqtt5_base.specs.Views.{qos_number};
-ghost use Rattle.mqtt5_base.specs.Walk.{common_len, match_behind, match_same, valid_behind};
+ghost use Rattle.mqtt5_base.specs.Walk.{common_len, match_behind, plain_len, valid_behind};
 
 use crate::error::Error;
+use crate::lanes::{LANES, common_end, plain_end};
 use crate::quality::QoS;
 
 /// The QoS of a number, which is 0, 1 or 2; None of another.
@@ -60,10 +61,9 @@ pub fn valid_topic(topic: &str) -> bool
     !has_wildcards(topic)
 }
 
-/// How many bytes at the start of a text are neither `/` nor a wildcard.
-fn plain_len(text: &[u8]) -> usize
-    ensures value { result
-        ≡ position_or_len (λ b. b == 47 || has_wildcards (b ∷ [])) text.now }
+/// How many bytes at the start of a text are neither `/` nor a wildcard, one by one.
+fn plain_by_bytes(text: &[u8]) -> usize
+    ensures value { result ≡ plain_len text.now }
     ensures within { result ≤ length text.now }
 {
     let mut len = 0;
@@ -71,6 +71,21 @@ fn plain_len(text: &[u8]) -> usize
         len += 1;
     }
     len
+}
+
+/// How many bytes at the start of a text are neither `/` nor a wildcard.
+fn plain_len(text: &[u8]) -> usize
+    ensures value { result ≡ plain_len text.now }
+    ensures within { result ≤ length text.now }
+{
+    let mut len = 0;
+    while LANES <= text.len() - len {
+        if let Some(end) = plain_end(&text[len..]) {
+            return len + end;
+        }
+        len += LANES;
+    }
+    len + plain_by_bytes(&text[len..])
 }
 
 /// What is left behind the plain bytes of a level, or whether the filter is valid.
@@ -137,36 +152,60 @@ fn begins_with_level(text: &[u8], byte: u8) -> bool
     }
 }
 
+/// How many bytes at the start of both texts are equal and in the first level, one by one.
+fn common_by_bytes(topic: &[u8], filter: &[u8]) -> usize
+    ensures value { result ≡ common_len topic.now filter.now }
+    ensures in_topic { result ≤ length topic.now }
+    ensures in_filter { result ≤ length filter.now }
+{
+    let mut len = 0;
+    while len < topic.len()
+        && len < filter.len()
+        && topic[len] == filter[len]
+        && topic[len] != b'/'
+    {
+        len += 1;
+    }
+    len
+}
+
+/// Whether the first byte of both texts is the same and in the first level.
+fn have_common(topic: &[u8], filter: &[u8]) -> bool
+    ensures { result ≡ nat_lt 0 (common_len topic.now filter.now) }
+{
+    match (topic, filter) {
+        ([b'/', ..], _) => false,
+        ([first, ..], [other, ..]) => first == other,
+        _ => false,
+    }
+}
+
+/// How many bytes at the start of both texts are equal and in the first level.
+fn common_len(topic: &[u8], filter: &[u8]) -> usize
+    ensures value { result ≡ common_len topic.now filter.now }
+    ensures in_topic { result ≤ length topic.now }
+    ensures in_filter { result ≤ length filter.now }
+{
+    if !have_common(topic, filter) {
+        return 0;
+    }
+    let mut len = 0;
+    while LANES <= topic.len() - len && LANES <= filter.len() - len {
+        if let Some(end) = common_end(&topic[len..], &filter[len..]) {
+            return len + end;
+        }
+        len += LANES;
+    }
+    len + common_by_bytes(&topic[len..], &filter[len..])
+}
+
 /// How many bytes the first level of a text has.
 fn level_len(text: &[u8]) -> usize
     ensures value { result ≡ position_or_len (λ b. b == 47) text.now }
     ensures within { result ≤ length text.now }
 {
-    let mut end = 0;
-    while end < text.len() && text[end] != b'/' {
-        end += 1;
-    }
-    end
-}
-
-/// How many bytes of a level are compared one by one. Most levels are shorter, and what a longer one has behind them is
-/// compared as a whole.
-const NEAR: usize = 16;
-
-/// How many bytes at the start of both texts are equal and in the first level, of the first `NEAR` bytes.
-fn common_len(topic: &[u8], filter: &[u8]) -> usize
-    ensures value { result + common_len (drop result topic.now) (drop result filter.now)
-        ≡ common_len topic.now filter.now }
-    ensures all { result < 16 → result ≡ common_len topic.now filter.now }
-    ensures in_topic { result ≤ length topic.now }
-    ensures in_filter { result ≤ length filter.now }
-{
-    let near = topic.len().min(filter.len()).min(NEAR);
-    let mut len = 0;
-    while len < near && topic[len] == filter[len] && topic[len] != b'/' {
-        len += 1;
-    }
-    len
+    // A text has its first level in common with itself.
+    common_len(text, text)
 }
 
 /// What is left behind a level that covers one, or whether it matches.
@@ -186,21 +225,6 @@ fn left_behind<'a>(topic: &'a [u8], filter: &'a [u8]) -> Result<(&'a [u8], &'a [
     }
 }
 
-/// What is left behind the rest of a level that is the same in both so far, or whether they match.
-fn far_left<'a>(topic: &'a [u8], filter: &'a [u8]) -> Result<(&'a [u8], &'a [u8]), bool>
-    ensures value { MatchResult result
-        (λ left. match_levels (levels left.0.now) (levels left.1.now)
-        ≡ match_same topic.now filter.now)
-        (λ matches. matches ≡ match_same topic.now filter.now) }
-    ensures shorter { IfOk result (λ left. length left.1.now < length filter.now) }
-{
-    let end = level_len(topic);
-    match filter.strip_prefix(&topic[..end]) {
-        Some(left) => left_behind(&topic[end..], left),
-        None => Err(false),
-    }
-}
-
 /// What is left behind the first level of both, or whether they match.
 fn next_levels<'a>(topic: &'a [u8], filter: &'a [u8]) -> Result<(&'a [u8], &'a [u8]), bool>
     ensures value { MatchResult result
@@ -216,10 +240,7 @@ fn next_levels<'a>(topic: &'a [u8], filter: &'a [u8]) -> Result<(&'a [u8], &'a [
         return left_behind(&topic[level_len(topic)..], &filter[1..]);
     }
     let len = common_len(topic, filter);
-    if len < NEAR {
-        return left_behind(&topic[len..], &filter[len..]);
-    }
-    far_left(&topic[len..], &filter[len..])
+    left_behind(&topic[len..], &filter[len..])
 }
 
 fn levels_match(topic: &str, filter: &str) -> bool

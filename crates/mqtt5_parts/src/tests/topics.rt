@@ -15,6 +15,19 @@ sport/tennis/#/ranking false
 +/+ true
 / true
 a/# true
+abcdefghijklmno/# true
+abcdefghijklmno+ false
+abcdefghijklmnop+ false
+abcdefghijklmnop/+ true
+abcdefghijklmnop/#/a false
++bcdefghijklmnopqrst false
+abcdefghijklmn#/ false
+a/+/c/+/e/+/g/+/i/#/k false
+a/+/c/+/e/+/g/+/i/# true
+abcdefghijklmnopqrstuvwxyzabcde+ false
+abcdefghijklmnopqrstuvwxyzabcde/# true
+abcdefghijklmnopqrstuvwxyzabcdef#/a false
+abcdefghijklmnopqrstuvwxyzabcdef/+/a true
 ";
 
 /// Texts, whether each has wildcards, and whether it is a topic.
@@ -45,6 +58,28 @@ abcdefghijklmnopqrst/x abcdefghijklmnopqrsu/x false
 abcdefghijklmnopqrst/x abcdefghijklmnopqrst/y false
 abcdefghijklmnopqrst/x abcdefghijklmnopqrstu/x false
 abcdefghijklmnopqrst abcdefghijklmnopqrst/# true
+xbcdefghijklmnopqrst/x abcdefghijklmnopqrst/x false
+abcdefghijklmno abcdefghijklmnop false
+abcdefghijklmnop abcdefghijklmno false
+home/kitchen/temperature/1 home/kitchen/temperature/1 true
+home/kitchen/temperature/1 home/kitchen/temperature/2 false
+home/kitchen/temperature/1 home/kitchen/# true
+home/kitchen/temperature/1 home/+/temperature/1 true
+home/kitchen/temperature/1 home/+/humidity/1 false
+home//temperature/1/2 home//temperature/+/2 true
+/home/kitchen/temperature +/home/kitchen/temperature true
+abcdefghijklmno/x abcdefghijklmno/x true
+abcdefghijklmno/x abcdefghijklmno/y false
+abcdefghijklmno/xy abcdefghijklmnop/xy false
+abcdefghijklmno/x +/x true
+abcdefghijklmnopqrstuvwxyzabcde/x abcdefghijklmnopqrstuvwxyzabcde/x true
+abcdefghijklmnopqrstuvwxyzabcde/x abcdefghijklmnopqrstuvwxyzabcdf/x false
+abcdefghijklmnopqrstuvwxyzabcdef/x abcdefghijklmnopqrstuvwxyzabcdef/x true
+abcdefghijklmnopqrstuvwxyzabcdef/x abcdefghijklmnopqrstuvwxyzabcdeg/x false
+abcdefghijklmnopqrstuvwxyzabcdefg abcdefghijklmnopqrstuvwxyzabcdefh false
+abcdefghijklmnopqrstuvwxyzabcdef/x +/x true
+abcdefghijklmnopqrstuvwxyzabcdef/x +/y false
+abcdefghijklmnopqrstuvwxyzabcdef +/# true
 ";
 
 fn write_filter(row: &str, text: &mut String) -> Result<(), Error> {

@@ -1,10 +1,9 @@
 use Rattle.std.proofs.Common.{arith}
-use Rattle.mqtt5_base.proofs.Walk.{common-ended}
+use Rattle.mqtt5_base.proofs.Marks.{common_on}
 use Rattle.mqtt5_base.proofs.mqttbytes.common_len.Goals as goal
 
-pub returns-after-loop-len-clause-all : goal.returns-after-loop-len-clause-all
-returns-after-loop-len-clause-all c = λ near.
-    let most = c.loop-len-test.false in
-    let both = c.min-near.ensures in
-    let shorter = c.min.ensures in
-    common-ended c.args.topic.now c.args.filter.now c.loop-len.len (omega arith) c.loop-len.invariant.2
+pub loop-len-preserved : goal.loop-len-preserved
+loop-len-preserved c =
+    let in_topic = c.loop-len-test.true in
+    let in_filter = c.if-filter-len-ge-LANES.true in
+    (omega arith, omega arith, common_on c.args.topic.now c.args.filter.now c.loop-len.len c.loop-len.invariant.2 c.in_default.ensures.value)
