@@ -4,7 +4,7 @@ use Rattle.std.specs.List.{common_prefix_len, prefix_len, position_or_len}
 use Rattle.std.specs.Int.{trailing_zeros, w64}
 use Rattle.std.proofs.lemmas.Bool.{cases_eq, eq-eqb}
 use Rattle.std.proofs.lemmas.Bool.Decides.{nat_tests}
-use Rattle.std.proofs.lemmas.List.{drop-drop, length-map, length-take-le, take_rest}
+use Rattle.std.proofs.lemmas.List.{drop-drop, length-map, length-take-le, map-id, take_rest}
 use Rattle.std.proofs.lemmas.List.Recursion.{is_position_or_len}
 use Rattle.std.proofs.lemmas.List.Sums.{prefix_len-le-length}
 use Rattle.std.proofs.lemmas.Simd.{length-zip2, mask_l-mod, first_set_mask_l, zip2_splat}
@@ -15,11 +15,6 @@ use Rattle.mqtt5_base.specs.Walk.{common_len, plain_len}
 -- how many lanes come before the first that is marked
 abbrev before : List Bool → ℕ
 before = prefix_len (λ m. not m)
-
--- marks as they are
-itself : (ms : List Bool) → map (λ m. m) ms ≡ ms
-itself [] = refl
-itself (m ∷ ms) = ap (λ l. m ∷ l) (itself ms)
 
 -- where as many come as there are, none is
 none_marked : (ms : List Bool) → before ms ≡ length ms → mask_l ms ≡ 0
@@ -34,7 +29,7 @@ pub told_by_mask : (lanes : List ℕ) (ms : List Bool) → map (top 7) lanes ≡
 told_by_mask lanes ms marks long r h =
     let mask : mask_l (map (top 7) lanes) % 2 ^ 64 ≡ mask_l ms = ap (λ l. mask_l l % 2 ^ 64) marks ∙ mask_l-mod ms 64 (omega arith) in
     let first : cond (mask_l ms == 0) 16 (trailing_zeros w64 (mask_l ms)) ≡ before ms =
-    ap (λ l. cond (mask_l l == 0) 16 (trailing_zeros w64 (mask_l l))) (sym (itself ms)) ∙ first_set_mask_l (λ m. m) ms 16 long (omega arith) in
+    ap (λ l. cond (mask_l l == 0) 16 (trailing_zeros w64 (mask_l l))) (sym (map-id ms)) ∙ first_set_mask_l (λ m. m) ms 16 long (omega arith) in
     subst (λ (r : Option ℕ). MatchOption r (before ms ≡ 16) (λ len. (len ≡ before ms) × (len < 16)))
     (sym (h ∙ ap (λ n. cond (n == 0) None (Some (trailing_zeros w64 n))) mask)) (by_test (mask_l ms == 0) refl first)
   where

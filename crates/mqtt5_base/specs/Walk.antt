@@ -1,5 +1,5 @@
--- This file serves the logic alone: what a walk over a topic and a filter finds behind a level of both, and a walk over a
--- filter behind a level of it.
+-- This file serves the logic alone: how many bytes a walk over a topic and a filter, or over a filter, goes on within the first
+-- level, and what it finds behind that.
 use Rattle.std.specs.Prelude.{ℕ, Bool, true, false, not, ◌&&◌, ◌||◌, List, [], ◌∷◌, ◌==◌}
 use Rattle.std.specs.List.{common_prefix_len, position_or_len}
 use Rattle.mqtt5_base.specs.Topics.{levels, match_levels, are_valid, has_wildcards}
