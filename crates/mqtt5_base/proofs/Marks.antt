@@ -23,7 +23,7 @@ none_marked (true ∷ ms) h = absurd (omega arith)
 none_marked (false ∷ ms) h = let rest = none_marked ms (omega arith) in omega arith
 
 -- what a vector's mask tells: all of its lanes come before one that is marked, or so many and no more
-pub told_by_mask : (lanes : List ℕ) (ms : List Bool) → map (top 7) lanes ≡ ms → length ms ≡ 16 → (r : Option ℕ)
+told_by_mask : (lanes : List ℕ) (ms : List Bool) → map (top 7) lanes ≡ ms → length ms ≡ 16 → (r : Option ℕ)
     → r ≡ cond (mask_l (map (top 7) lanes) % 2 ^ 64 == 0) None (Some (trailing_zeros w64 (mask_l (map (top 7) lanes) % 2 ^ 64)))
     → MatchOption r (before ms ≡ 16) (λ len. (len ≡ before ms) × (len < 16))
 told_by_mask lanes ms marks long r h =
@@ -97,11 +97,11 @@ from_common e (suc n) (x ∷ t) (y ∷ f) h = by_test (e x y) h (from_common e n
 -- ---- bytes that two texts have in common
 
 -- whether a byte differs from the filter's, or ends the level
-abbrev pub ends : ℕ → ℕ → Bool
+abbrev ends : ℕ → ℕ → Bool
 ends t f = not (t == f) || t == 47
 
 -- the marks of such bytes
-pub common_marks : (t f : List ℕ)
+common_marks : (t f : List ℕ)
     → map (top 7) (zip2 bit_or (zip2 (λ a b. cond (not (a == b)) 255 0) t f) (map (λ a. cond (a == 47) 255 0) t)) ≡ zip2 ends t f
 common_marks [] f = refl
 common_marks (x ∷ t) [] = refl
@@ -116,7 +116,7 @@ common_marks (x ∷ t) (y ∷ f) = by_tests (x == y) (x == 47) (common_marks t f
     by_tests false false h = ap (λ l. true ∷ l) h
 
 -- those before the first mark
-pub common_before : (t f : List ℕ) → before (zip2 ends t f) ≡ common_len t f
+common_before : (t f : List ℕ) → before (zip2 ends t f) ≡ common_len t f
 common_before [] f = refl
 common_before (x ∷ t) [] = refl
 common_before (x ∷ t) (y ∷ f) = by_tests (x == y) (x == 47) (common_before t f)
@@ -171,11 +171,11 @@ common_with_itself = is_position_or_len (λ t. common_len t t) (λ b. b == 47) r
 -- ---- plain bytes of a text
 
 -- whether a byte isn't plain
-abbrev pub stops : ℕ → Bool
+abbrev stops : ℕ → Bool
 stops b = b == 47 || has_wildcards (b ∷ [])
 
 -- the marks of such bytes
-pub plain_marks : (t : List ℕ)
+plain_marks : (t : List ℕ)
     → map (top 7) (zip2 bit_or (zip2 bit_or (map (λ b. cond (b == 47) 255 0) t) (map (λ b. cond (b == 43) 255 0) t)) (map (λ b. cond (b == 35) 255 0) t)) ≡ map stops t
 plain_marks [] = refl
 plain_marks (b ∷ t) =
@@ -198,7 +198,7 @@ plain_marks (b ∷ t) =
     by_tests false false false = refl
 
 -- those before the first mark
-pub plain_before : (t : List ℕ) → before (map stops t) ≡ plain_len t
+plain_before : (t : List ℕ) → before (map stops t) ≡ plain_len t
 plain_before [] = refl
 plain_before (b ∷ t) = by_test (stops b) (plain_before t)
   where

@@ -28,6 +28,10 @@ abcdefghijklmnopqrstuvwxyzabcde+ false
 abcdefghijklmnopqrstuvwxyzabcde/# true
 abcdefghijklmnopqrstuvwxyzabcdef#/a false
 abcdefghijklmnopqrstuvwxyzabcdef/+/a true
+abcdefghijklmnop true
+abcdefghijklmnopqrstuvwxyzabcdef true
+éééééééé/# true
+éééééééé+ false
 ";
 
 /// Texts, whether each has wildcards, and whether it is a topic.
@@ -80,6 +84,12 @@ abcdefghijklmnopqrstuvwxyzabcdefg abcdefghijklmnopqrstuvwxyzabcdefh false
 abcdefghijklmnopqrstuvwxyzabcdef/x +/x true
 abcdefghijklmnopqrstuvwxyzabcdef/x +/y false
 abcdefghijklmnopqrstuvwxyzabcdef +/# true
+abcdefghijklmnop abcdefghijklmnop true
+abcdefghijklmnop/x +/x true
+éééééééé/x éééééééé/x true
+éééééééé/x éééééééè/x false
+éééééééé/x +/x true
+#a/x #a/x true
 ";
 
 fn write_filter(row: &str, text: &mut String) -> Result<(), Error> {
