@@ -1,4 +1,4 @@
-//! Packets as frames, by their own types: each is written where it stands, and needs no `Packet` for that.
+//! Packets as frames, by their own types: each is written where it stands, and only a Disconnect is made into a `Packet`.
 
 ghost use Rattle.std.specs.Prelude.{◌≡◌, min};
 ghost use Rattle.mqtt5_base.specs.Puts.{Writes};
