@@ -6,6 +6,7 @@
 mod client;
 mod drive;
 mod first;
+mod kept;
 mod laws;
 mod pipe;
 mod shown;
