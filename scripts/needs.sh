@@ -97,12 +97,13 @@ processors() {
     echo "$found"
 }
 
-# How many jobs that take so many kilobytes each fit: one for each processor, and fewer where memory is short.
+# How many jobs that take so many kilobytes each fit, beside something else that takes so many: one for each processor, and
+# fewer where memory is short.
 jobs_that_fit() {
     local most free
     most=$(processors)
     free=$(free_memory)
-    if [ -n "$free" ] && [ "$((free / $1))" -lt "$most" ]; then most=$((free / $1)); fi
+    if [ -n "$free" ] && [ "$(((free - ${2:-0}) / $1))" -lt "$most" ]; then most=$(((free - ${2:-0}) / $1)); fi
     echo $((most > 1 ? most : 1))
 }
 

@@ -102,7 +102,7 @@ begin() {
 
 # What a first build takes, which comes first, and what answers sooner.
 tell_first() {
-    tell "proving ${#order[@]} crates${1:+ takes some $1 here}, once${2:+; $2 answers in a minute or two, unproved}"
+    tell "proving ${#order[@]} crates${1:+ takes $1 here}, once${2:+; $2 answers in a minute or two, unproved}"
 }
 
 hear_run() {

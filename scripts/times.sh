@@ -1,69 +1,21 @@
-# What each crate's proof, tests and wrong bodies take of a processor: read off the prover's processes once a second while
-# a check runs, printed as a table, and kept in docs/TIMES.md, from which ./mqtt5 says what a first build takes.
-# ./mqtt5 and ./check set `here`, the top of the repository, and then read this file.
+# What a check takes, as a table: the whole of it, each test, the functions that rt ci tells of, and where that is wanted each
+# crate, by `rt ci NAME` from nothing. And what a first build of ./mqtt5 takes, by those that were timed.
+# ./mqtt5 and ./check set `here`, the top of the repository, and then read this file, with needs.sh and progress.sh.
 # shellcheck shell=bash
 # shellcheck disable=SC2154
 
 times_page=$here/docs/TIMES.md
 
-# ---- Reading them off. ----
+processor_name() { sed -n 's/^model name[^:]*: //p' /proc/cpuinfo 2> /dev/null | head -n 1; }
 
-# Whether a process is of this check: its environment has the mark that the check set.
-is_ours() {
-    local words word
-    mapfile -d '' words 2> /dev/null < "/proc/$1/environ" || return
-    for word in "${words[@]}"; do
-        [ "$word" != "CHECK_MARK=$CHECK_MARK" ] || return 0
-    done
-    return 1
+# The seconds of the processor that what `times` printed adds up to.
+seconds_in() {
+    awk '{ for (i = 1; i <= NF; i++) { split($i, part, "m"); all += 60 * part[1] + part[2] } } END { printf "%.0f\n", all }' "$1"
 }
-
-# Sets `crate` and `part`, proof, tests or edits, of a prover's process by its words and by where it runs.
-part_of() {
-    local words number
-    crate='' part=proof
-    mapfile -d '' words 2> /dev/null < "/proc/$1/cmdline" || return
-    for number in "${!words[@]}"; do
-        case ${words[number]} in
-            --crate-name) crate=${words[number + 1]-} ;;
-            --test) part=tests ;;
-        esac
-    done
-    case $(readlink "/proc/$1/cwd") in */rt-edit-*) part=edits ;; esac
-}
-
-# Prints a line `PROCESS CRATE PART TICKS` for each of the prover's processes, as often as it is called.
-sample() {
-    local folder name line crate part numbers
-    for folder in /proc/[0-9]*; do
-        name=''
-        read -r name 2> /dev/null < "$folder/comm" || continue
-        [ "$name" = rattle ] || continue
-        is_ours "${folder#/proc/}" || continue
-        part_of "${folder#/proc/}" || continue
-        read -r line 2> /dev/null < "$folder/stat" || continue
-        # (behind the name's bracket: user and system time are the 12th and 13th, when it began is the 20th)
-        read -r -a numbers <<< "${line##*) }"
-        [ -z "$crate" ] || echo "${folder#/proc/}.${numbers[19]} $crate $part $((numbers[11] + numbers[12]))"
-    done
-}
-
-# Goes on until it is killed.
-keep_sampling() { while sleep 1 > /dev/null 2>&1; do sample; done; }
 
 # ---- The table. ----
 
-# The seconds of a crate's part, `-` where there was nothing to do: none there, or kept from an earlier run.
-seconds_of() {
-    awk -v crate="$2" -v part="$3" -v ticks="$(getconf CLK_TCK)" '
-        $2 == crate && $3 == part && $4 > most[$1] { most[$1] = $4 }
-        END {
-            for (process in most) all += most[process]
-            if (all) printf "%.0f\n", all / ticks; else print "-"
-        }' "$1"
-}
-
-# The functions of a crate that the prover told of, `-` where it was kept.
+# The functions of a crate that rt told of, `-` where it took them from an earlier run.
 functions_of() {
     awk -v crate="$2" '
         /^== / { ours = $2 == crate && NF == 2 }
@@ -71,30 +23,105 @@ functions_of() {
         END { print found == "" ? "-" : found }' "$1"
 }
 
-# Prints the table of a check: its samples, what rt ci said, and lines `NAME SECONDS` of what ran after the proofs.
-print_times() {
-    local name seconds
-    echo '| | Functions | Proof | Tests | Wrong bodies |'
-    echo '|---|---|---|---|---|'
+# Prints the rows of the crates by what rt ci said, with lines `NAME SECONDS PROCESSOR` of those that were timed alone.
+print_crates() {
+    local name
+    echo '| | Functions | Seconds alone | of the processor |'
+    echo '|---|---|---|---|'
     for name in "${crates[@]}"; do
-        echo "| \`$name\` | $(functions_of "$2" "$name") | $(seconds_of "$1" "$name" proof) | $(seconds_of "$1" "$name" tests) | $(seconds_of "$1" "$name" edits) |"
-    done | tee "$1.rows"
-    awk -F ' *[|] *' '{ for (i = 3; i <= 6; i++) all[i] += $i }
-        END { printf "| all crates | %d | %d | %d | %d |\n", all[3], all[4], all[5], all[6] }' "$1.rows"
-    while read -r name seconds; do echo "| \`tests/$name\` | - | - | $seconds | - |"; done < "$3"
+        echo "$name $(functions_of "$1" "$name") $(grep "^$name " "$2" 2> /dev/null)"
+    done | awk '
+        { printf "| `%s` | %s | %s | %s |\n", $1, $2, $4 == "" ? "-" : $4, $5 == "" ? "-" : $5; all += $2; alone += $4; spent += $5 }
+        END { printf "| all crates | %d | %s | %s |\n", all, alone ? alone : "-", spent ? spent : "-" }'
+}
+
+# Prints the rows of what ran beside the proofs and after them, by lines of a name and its seconds.
+print_tests() {
+    echo '| | Seconds of the processor |'
+    echo '|---|---|'
+    sed 's/^\(.*\) \([^ ]*\)$/| \1 | \2 |/' "$1"
+}
+
+# ---- Each crate alone. ----
+
+# Copies the crates into a folder, each root file with a line of its own, so that rt takes nothing of them from an earlier run.
+copy_anew() {
+    local name root part mark
+    mark="// $(date +%s%N)"
+    mkdir -p "$1/crates" && cp "$here/crates.txt" "$here/HANDLES" "$1" || return
+    for name in "${crates[@]}"; do
+        mkdir "$1/crates/$name" || return
+        for part in "$here/crates/$name"/*; do
+            [ "${part##*/}" = out ] || cp -R "$part" "$1/crates/$name" || return
+        done
+        for root in "$1/crates/$name"/src/lib.rt "$1/crates/$name"/src/main.rt; do
+            [ ! -f "$root" ] || echo "$mark" >> "$root"
+        done
+    done
+}
+
+# Has rt prove and try each crate alone, lowest first, over those below it, and prints `NAME SECONDS PROCESSOR` of each. What rt
+# says goes to a file.
+time_crates() {
+    local folder=$1 log=$2 name at=0 telling spent TIMEFORMAT='%0R %0U %0S' status=0
+    order=()
+    for name in "${crates[@]}"; do put_in_order "$name"; done
+    copy_anew "$folder" || return
+    for name in "${order[@]}"; do
+        at=$((at + 1))
+        tell "timing $name, $at of ${#order[@]}"
+        keep_telling "timing $name, $at of ${#order[@]}" &
+        telling=$!
+        spent=$({ time (cd "$folder" && rt ci "$name" < /dev/null >> "$log" 2>&1); } 2>&1) || status=1
+        kill "$telling"
+        awk -v name="$name" -v spent="$spent" 'BEGIN { split(spent, s, " "); print name, s[1], s[2] + s[3] }'
+    done
+    return "$status"
 }
 
 # ---- What a first build takes. ----
 
-# The minutes for which so many jobs prove these crates one after the other, by the proofs of docs/TIMES.md; nothing where
-# it doesn't have them. A second job of a crate saves less than it takes: four are some two and a half times as fast.
-proving_time() {
-    local jobs=$1 name seconds all=0
-    shift
+# The functions of crates, by docs/TIMES.md; nothing where it lacks one.
+functions_in() {
+    local name found all=0
     for name in "$@"; do
-        seconds=$(sed -n "s/^| \`$name\` | [0-9-]* | \([0-9][0-9]*\) |.*/\1/p" "$times_page" 2> /dev/null)
-        [ -n "$seconds" ] || return 0
-        all=$((all + seconds))
+        found=$(sed -n "s/^| \`$name\` | \([0-9][0-9]*\) |.*/\1/p" "$times_page" 2> /dev/null)
+        [ -n "$found" ] || return 0
+        all=$((all + found))
     done
-    echo "$((all / (30 + 30 * jobs) + 1)) minutes"
+    echo "$all"
+}
+
+# "some 20 minutes" or "10 to 40 minutes": what a program takes that is built of nothing by so many jobs, where scripts/first_builds
+# has it timed whole. What wasn't timed as this is built is a range: another program, by how many functions it has beside the
+# one that was timed, other jobs, another processor, and crates of which something is built already.
+first_build_time() {
+    local program=$1 jobs=$2 tree=$3 timed its_jobs minutes processor low high ours theirs name
+    local -a wanted
+    order=()
+    put_in_order "$program"
+    wanted=("${order[@]}")
+    read -r timed its_jobs minutes processor < <(
+        grep "^$program " "$here/scripts/first_builds" || grep -v -e '^#' "$here/scripts/first_builds" | head -n 1
+    ) || return 0
+    low=$((minutes * 60)) high=$((minutes * 60))
+    if [ "$timed" != "$program" ]; then
+        [ -n "${libraries[$timed]+known}" ] || return 0
+        order=()
+        put_in_order "$timed"
+        ours=$(functions_in "${wanted[@]}") theirs=$(functions_in "${order[@]}")
+        order=("${wanted[@]}")
+        [ -n "$ours" ] && [ "${theirs:-0}" -gt 0 ] || return 0
+        low=$((low * ours * 2 / theirs / 3)) high=$((high * ours * 4 / theirs / 3))
+    fi
+    if [ "$jobs" -lt "$its_jobs" ]; then high=$((high * its_jobs / jobs)); else low=$((low * its_jobs / jobs)); fi
+    if [ "$processor" != "$(processor_name)" ]; then low=$((low / 2)) high=$((high * 2)); fi
+    for name in "${wanted[@]}"; do
+        [ ! -d "$tree/crates/$name/out" ] || low=0
+    done
+    if [ "$low" = "$high" ]; then
+        echo "some $((low / 60)) minutes"
+    else
+        echo "$((low / 60 > 0 ? low / 60 : 1)) to $((high / 60 + 1)) minutes"
+    fi
 }
