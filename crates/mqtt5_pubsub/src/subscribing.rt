@@ -10,8 +10,8 @@ use mqtt5_client::Client;
 use mqtt5_codec::Packet;
 use mqtt5_subscribe::{Filter, Subscribe};
 use mqtt5_talk::{
-    Lines, Raw, Screen, TalkError, close, connect_of, new_client, open, quality_of, receive,
-    refuse, subscribe, tell,
+    Lines, Raw, Screen, TalkError, await_end, close, connect_of, new_client, open, quality_of,
+    receive, refuse, subscribe, tell,
 };
 use std::alloc::Global;
 use std::io::{Read, Write};
@@ -128,7 +128,8 @@ fn talk<R: Read, W: Write, S: Screen>(
     ended
 }
 
-/// Shows so many messages.
+/// Shows so many messages. The end is awaited, since where more is on its way the broker may lose acks with a socket that
+/// is closed before.
 fn talk_over<R: Read, W: Write, S: Screen>(
     client: &mut Client,
     connect: &Packet,
@@ -143,7 +144,8 @@ fn talk_over<R: Read, W: Write, S: Screen>(
     open(client, connect, reader, writer)?;
     subscribe(client, wanted, writer)?;
     receive(client, screen, count, reader, writer)?;
-    close(client, writer)
+    close(client, writer)?;
+    await_end(reader)
 }
 
 /// The Subscribe that the words ask for.

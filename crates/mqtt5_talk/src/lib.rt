@@ -11,7 +11,7 @@ mod subscribing;
 mod words;
 
 pub use error::TalkError;
-pub use opening::{close, open};
+pub use opening::{await_end, close, open};
 pub use program::{new_client, refuse, refuse_words, tell};
 pub use publishing::publish;
 pub use show::{Lines, Raw, Screen};

@@ -1,9 +1,13 @@
 //! How a connection is opened and ended.
 
-ghost use Rattle.std.specs.Prelude.{◌≡◌, ◌⊎◌, List, [], ◌∷◌, length, drop, OnOk, Ok, true, false};
+ghost use Rattle.std.specs.Prelude.{◌≡◌, ◌⊎◌, ℕ, List, [], ◌∷◌, length, drop, OnOk, IfErr, Ok, true, false};
+ghost use Rattle.std.specs.Io.KnownBytes.{Consumes, IsAtEnd};
+ghost use Rattle.std.specs.declared.io.Error.{Error as IoError};
+ghost use Rattle.mqtt5_pipe.specs.declared.error.PipeError.TheVariants as faults;
 ghost use Rattle.mqtt5_inflight.specs.declared.event.Request.TheVariants.{Disconnect};
 ghost use Rattle.mqtt5_drive.specs.Limit.{allowed};
 ghost use Rattle.mqtt5_client.specs.Client.{IsReady};
+ghost use Rattle.mqtt5_talk.specs.declared.error.TalkError.TheVariants.{Failed};
 ghost use Rattle.mqtt5_talk.specs.Answers.{IsAnswered};
 ghost use Rattle.mqtt5_talk.specs.Conversation.{Saying, Opens, Asks, Conversation, Talked, SendsOnly};
 
@@ -97,7 +101,9 @@ fn is_answered(state: &MqttState) -> Result<bool, TalkError>
 }
 
 /// After 2^64 - 1 turns.
-pub(crate) fn endless() -> TalkError {
+pub(crate) fn endless() -> TalkError
+    ensures { (error : IoError) × (result ≡ Failed (faults.Read error)) }
+{
     TalkError::Failed(PipeError::Read(ErrorKind::TimedOut.into()))
 }
 
@@ -171,4 +177,24 @@ pub fn close<W: Write>(client: &mut Client, writer: &mut W) -> Result<(), TalkEr
     ensures ready { OnOk result (IsReady client.new) }
 {
     ask(client, Request::Disconnect, writer)
+}
+
+/// Reads to the end of the stream, and lets go what comes: after a Disconnect the broker closes the connection (3.14.4),
+/// and a socket that is closed with bytes unread may take back what was written last. The reader is called again after an
+/// interruption. `Failed` is its failure (`Read`), also (`TimedOut`) after 2^64 - 1 reads.
+pub fn await_end<R: Read>(reader: &mut R) -> Result<(), TalkError>
+    ensures came { (came : List ℕ) × Consumes (R.remaining reader.old) (R.remaining reader.new) came }
+    ensures end { OnOk result (IsAtEnd (R.remaining reader.new)) }
+    ensures fault { IfErr result (λ trouble. (error : IoError) × (trouble ≡ Failed (faults.Read error))) }
+{
+    let mut room = [0; 1024];
+    for _ in 0..u64::MAX {
+        match reader.read(&mut room) {
+            Ok(0) => return Ok(()),
+            Ok(_count) => {}
+            Err(error) if error.kind() == ErrorKind::Interrupted => {}
+            Err(error) => return Err(TalkError::Failed(PipeError::Read(error))),
+        }
+    }
+    Err(endless())
 }

@@ -17,7 +17,7 @@ use std::test::Fail;
 /// `from` has what each read gives between `/`: a piece, `!` for an interruption, `x` for a failure. `room` is a new writer
 /// that takes one byte at a time, is interrupted before each write and each flush, and fails once it has so many; `idle`
 /// one that takes nothing. `write` asks for a publish of "hi" to "a/b" at a quality of service (3.3), or for nothing, and writes; `turn` and `end`
-/// are calls that read. `written` is what the writer has, `left` what isn't written. The rows have a publish and its ack
+/// are calls that read. `written` is what the writer has, `left` what isn't written, `unread` what the reader still gives. The rows have a publish and its ack
 /// (3.4) in pieces; three turns; a publish of QoS 1 under id 7 and the ack of id 5, which awaits none; that publish alone
 /// with writers and readers that fail; limits that are set later, and one of a ConnAck (3.2.2.3.6).
 const CALLS: &str =
@@ -251,6 +251,7 @@ fn looks(
         "events" => write!(text, "={}", client.state.events().len()),
         "left" => add_bytes(alloc, client.output.as_slice(), text),
         "shown" => add_bytes(alloc, ends.screen.writer.as_slice(), text),
+        "unread" => write!(text, "={}", ends.source.rest),
         _written => add_bytes(alloc, ends.sink.bytes.as_slice(), text),
     }
 }
@@ -266,7 +267,7 @@ fn takes(
     let (name, _argument) = cut(call, ':');
     match name {
         "from" | "room" | "idle" | "in" | "out" => sets(alloc, client, ends, call)?,
-        "ready" | "ids" | "events" | "left" | "shown" | "written" => {
+        "ready" | "ids" | "events" | "left" | "shown" | "unread" | "written" => {
             looks(alloc, client, ends, name, text)?;
         }
         "pipe" | "publisher" | "subscriber" => (),

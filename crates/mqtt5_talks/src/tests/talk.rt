@@ -9,12 +9,12 @@ use mqtt5_client::Client;
 use mqtt5_codec::Packet;
 use mqtt5_connect::Connect;
 use mqtt5_subscribe::{Filter, Subscribe};
-use mqtt5_talk::{TalkError, close, open, publish, receive, subscribe};
+use mqtt5_talk::{TalkError, await_end, close, open, publish, receive, subscribe};
 use std::alloc::Global;
 use std::test::Fail;
 
 /// `open` has clean start, keep alive 0 and no client identifier (3.1), `publish` is "hi" to "a/b" at a quality of service,
-/// `subscribe` to "a/#" at QoS 2, and `receive` shows two messages. The broker's answers are ConnAcks, one not authorized
+/// `subscribe` to "a/#" at QoS 2, `receive` shows two messages, and `await_end` reads what comes behind them. The broker's answers are ConnAcks, one not authorized
 /// and one with a maximum packet size of 10 (3.2), acks of id 1, some with quota exceeded (3.4 to 3.7), SubAcks, one not
 /// authorized (3.9), and a Disconnect for shutting down (3.14).
 const TALKS: &str =
@@ -31,6 +31,8 @@ publisher; from:2003000000/50020001/70020001; open; publish:2; close; written=10
 publisher; from:2003000000/5003000197; open; publish:2=the broker refused the message: QuotaExceeded; written=100D00044D51545405020000000000340A0003612F620001006869
 subscriber; from:2003000000/900400010002/30080003612F62006869/320A0003612F620001006869; open; subscribe; receive; close; written=100D00044D5154540502000000000082090001000003612F230240020001E000; shown=612F622068690A612F622068690A
 subscriber; from:2003000000/900400010002/340A0003612F620001006869/62020001/340A0003612F620001006869; open; subscribe; receive; close; written=100D00044D5154540502000000000082090001000003612F2302500200017002000150020001E000; shown=612F622068690A612F622068690A
+subscriber; from:2003000000/900400010002/30080003612F62006869/320A0003612F620001006869/!/320A0003612F62/0002/!/006869; open; subscribe; receive; close; unread=!/320A0003612F62/0002/!/006869; await_end; unread=; written=100D00044D5154540502000000000082090001000003612F230240020001E000; shown=612F622068690A612F622068690A
+subscriber; from:2003000000/900400010002/30080003612F6200686930080003612F62006869/3008/!/x/00; open; subscribe; receive; close; await_end=reads: ConnectionReset; unread=00; shown=612F622068690A612F622068690A
 subscriber; from:2003000000/900400010087; open; subscribe; receive=the broker refused the subscription: NotAuthorized; written=100D00044D5154540502000000000082090001000003612F2302; shown=-
 subscriber; from:2003000000/900400010002/E0018B; open; subscribe; receive=the broker ended the connection: ServerShuttingDown; written=100D00044D5154540502000000000082090001000003612F2302; shown=-
 subscriber; from:2003000000/900400010002; open; subscribe; receive=the connection was closed; written=100D00044D5154540502000000000082090001000003612F2302; shown=-
@@ -102,6 +104,7 @@ pub(super) fn talks(
         "publish" => publishes(alloc, client, ends, argument),
         "subscribe" => subscribes(alloc, client, ends),
         "receive" => receives(client, ends),
+        "await_end" => await_end(&mut ends.source),
         _close => close(client, &mut ends.sink),
     }
 }
