@@ -1,23 +1,37 @@
 # A client of a broker on a connection of its own: bash opens it, by its /dev/tcp, or socat where it is TLS, a socket of the
 # file system, or has options. ./mqtt5 and tests/live set `me`, their name, and then read this file.
 # shellcheck shell=bash
-# shellcheck disable=SC2154
+# shellcheck disable=SC2034,SC2154
 
-# The words of the connection, as `take_connection` found them; `rest` has the others.
-host='' port='' socket='' tls=0 secure=() plain=() rest=()
-# Whether what is shown goes to a file, the content comes from a file, and what of standard input is published: all of it, or
-# each line.
-shows_itself=0 has_file=0 from_input=''
+# The words of the connection, as `take_connection` found them; `rest` has the others. `named` is the first that is of use
+# with a broker alone.
+host='' port='' socket='' tls=0 insecure=0 secure=() plain=() rest=() named=''
+# Whether help is asked for, what is shown goes to a file, which word says what the content is, whether that is parted into
+# lines, and what of standard input is published: all of it, or each line.
+asks_help=0 shows_itself=0 content='' by_lines=0 from_input=''
 
-# mqtt(s)://[NAME[:PASSWORD]@]HOST[:PORT][/TOPIC]
+# Refuses a word's value.
+refuse_value() {
+    echo "$me: $1: $2" >&2
+    return 2
+}
+
+# A name or an address, without what socat, a URL or bash's /dev/tcp takes for more than that.
+is_host() { [[ $1 =~ ^[A-Za-z0-9_.:%-]+$ ]]; }
+is_address() { [[ $1 == *:* || $1 =~ ^[0-9.]+$ ]]; }
+is_port() { [[ $1 =~ ^[1-9][0-9]{0,4}$ ]] && [ "$1" -le 65535 ]; }
+# A file's name without the marks that part or quote the options of socat's addresses.
+is_path() { [ -n "$1" ] && [[ $1 != *[]\[\(\)\{\}\'\"\\,:\!]* ]]; }
+
+# mqtt(s)://[NAME[:PASSWORD]@]HOST[:PORT][/TOPIC], where HOST may be an address of IPv6 in brackets.
 take_url() {
     local left=$1 login=''
     case $left in
         mqtts://*) tls=1 ;;
         mqtt://*) ;;
         *)
-            echo "$me: no URL of a broker: '$1'" >&2
-            return 2
+            refuse_value -L "no URL of a broker: '$1'"
+            return
             ;;
     esac
     left=${left#*://}
@@ -30,33 +44,58 @@ take_url() {
             case $login in *:*) rest+=(-P "${login#*:}") ;; esac
             ;;
     esac
-    host=${left%%:*}
-    case $left in *:*) port=${left##*:} ;; esac
+    host=''
+    if [[ $left =~ ^\[([^]]+)\](:(.+))?$ || $left =~ ^([^:]+)(:(.+))?$ ]]; then
+        host=${BASH_REMATCH[1]}
+        port=${BASH_REMATCH[3]:-$port}
+    fi
+    if ! is_host "$host" || ! is_port "${port:-1}"; then refuse_value -L "no URL of a broker: '$1'"; fi
 }
 
 # One word of the connection with its value.
 take_option() {
+    named=${named:-$1}
     case $1 in
-        -h | --host) host=$2 ;;
-        -p | --port) port=$2 ;;
+        -h | --host)
+            is_host "$2" || refuse_value "$1" "no host: '$2'" || return
+            host=$2
+            ;;
+        -p | --port)
+            is_port "$2" || refuse_value "$1" "no port: '$2'" || return
+            port=$2
+            ;;
         -L | --url) take_url "$2" ;;
         -I | --id-prefix) rest+=(-i "$2$$") ;;
-        -A) plain+=("bind=$2") ;;
-        --unix) socket=$2 host=$2 ;;
-        --cafile | --capath | --cert | --key) tls=1 secure+=("${1#--}=$2") ;;
+        -A)
+            is_host "$2" || refuse_value "$1" "no address: '$2'" || return
+            plain+=("bind=$(in_brackets "$2")")
+            ;;
+        --unix)
+            is_path "$2" || refuse_path "$1" "$2" || return
+            socket=$2 host=$2
+            ;;
+        --cafile | --capath | --cert | --key)
+            is_path "$2" || refuse_path "$1" "$2" || return
+            tls=1 secure+=("${1#--}=$2")
+            ;;
     esac
 }
+refuse_path() { refuse_value "$1" "socat takes no name with a comma, a colon, a quote, a bracket, a backslash or '!': '$2'"; }
+
+# An address of IPv6 stands in brackets where a port may follow.
+in_brackets() { case $1 in *:*) echo "[$1]" ;; *) echo "$1" ;; esac; }
 
 # Takes the words of the connection out of a client's words: those that are left are in `rest`. A word behind an option
 # with a value is that value, whatever it looks like.
 take_connection() {
-    host='' port='' socket='' tls=0 secure=() plain=() rest=()
-    shows_itself=0 has_file=0 from_input=''
+    host='' port='' socket='' tls=0 insecure=0 secure=() plain=() rest=() named=''
+    asks_help=0 shows_itself=0 content='' by_lines=0 from_input=''
     while [ $# -gt 0 ]; do
         case $1 in
             -h | --host | -p | --port | -L | --url | -I | --id-prefix | -A | --unix | --cafile | --capath | --cert | --key)
                 if [ $# = 1 ]; then
-                    rest+=("$1")
+                    [ "$1" = -h ] || refuse_value "$1" 'its value lacks' || return
+                    asks_help=1
                     return
                 fi
                 take_option "$1" "$2" || return
@@ -65,19 +104,19 @@ take_connection() {
             --host=* | --port=* | --url=* | --id-prefix=* | --unix=* | --cafile=* | --capath=* | --cert=* | --key=*)
                 take_option "${1%%=*}" "${1#*=}" || return
                 ;;
-            --tls) tls=1 ;;
-            --insecure) tls=1 secure+=(verify=0) ;;
-            --nodelay) plain+=(nodelay) ;;
-            -s | --stdin-file) from_input=all ;;
+            --tls) tls=1 named=${named:-$1} ;;
+            --insecure) tls=1 insecure=1 named=${named:-$1} ;;
+            --nodelay) plain+=(nodelay) named=${named:-$1} ;;
+            -s | --stdin-file) from_input=all named=${named:-$1} ;;
             -l | --lines | --stdin-line)
-                from_input=${from_input:-lines}
+                by_lines=1 from_input=${from_input:-lines}
                 rest+=(-l)
                 ;;
             -i | --id | -u | --username | -P | --pw | -x | --session-expiry-interval | --will-topic | --will-payload | --will-qos | \
                 -t | --topic | -m | --message | -f | --file | -q | --qos | -C | -o | --output)
                 case $1 in
                     -o | --output) shows_itself=1 ;;
-                    -f | --file) has_file=1 ;;
+                    -m | --message | -f | --file) content=$1 ;;
                 esac
                 rest+=("$1")
                 [ $# = 1 ] || rest+=("$2") && shift
@@ -86,10 +125,11 @@ take_connection() {
                 shows_itself=1
                 rest+=("$1")
                 ;;
-            --file=* | -f*)
-                has_file=1
+            --message=* | -m* | --file=* | -f* | -n | --null-message)
+                content=${1%%=*}
                 rest+=("$1")
                 ;;
+            --help) asks_help=1 ;;
             --)
                 rest+=("$@")
                 return
@@ -98,6 +138,22 @@ take_connection() {
         esac
         [ $# = 0 ] || shift
     done
+}
+
+# Refuses words of pub or sub that contradict each other, and those that name no broker where they need one.
+check_connection() {
+    if [ "$from_input" = all ] && [ "$1" != pub ]; then
+        refuse_value -s 'only pub takes it'
+    elif [ "$from_input" = all ] && [ -n "$content" ]; then
+        refuse_value -s "standard input is the message, and so is what $content says: give one of them"
+    elif [ "$from_input" = all ] && [ "$by_lines" = 1 ]; then
+        refuse_value -s 'standard input is one message, and with -l each line is one: give one of them'
+    elif [ -z "$host" ] && [ -n "$named" ]; then
+        refuse_value "$named" 'it needs a broker: name its host by -h HOST, -L URL or --unix PATH'
+    elif [ -z "$host" ] && [ -t 1 ]; then
+        echo "$me: $1 needs a broker: name its host by -h HOST (without it standard output goes to the broker, and here it is a terminal)" >&2
+        return 2
+    fi
 }
 
 # The words joined by commas, each behind one.
@@ -112,7 +168,7 @@ open_connection() {
     if [ "$tls" = 0 ] && [ -z "$socket" ] && [ ${#plain[@]} = 0 ]; then
         port=${port:-1883}
         if ! { exec {from}<> "/dev/tcp/$host/$port"; } 2> /dev/null; then
-            echo "$me: no connection to $host:$port" >&2
+            echo "$me: no connection to $(in_brackets "$host"):$port" >&2
             return 1
         fi
         to=$from
@@ -125,19 +181,32 @@ open_connection() {
     if [ -n "$socket" ]; then
         address=UNIX-CONNECT:$socket
     elif [ "$tls" = 1 ]; then
-        address=OPENSSL:$host:${port:-8883}$(listed "${secure[@]}" "${plain[@]}")
+        # The certificate's name is looked at, unless an empty one is said to be enough; who signed it is looked at in any case.
+        # (what is said of the name to the server is a host's name, never an address)
+        [ "$insecure" = 0 ] || secure+=(commonname=)
+        if is_address "$host"; then secure+=(no-sni=1); else secure+=("snihost=$host"); fi
+        address=OPENSSL:$(in_brackets "$host"):${port:-8883}$(listed "${secure[@]}" "${plain[@]}")
     else
-        address=TCP:$host:${port:-1883}$(listed "${plain[@]}")
+        address=TCP:$(in_brackets "$host"):${port:-1883}$(listed "${plain[@]}")
     fi
-    coproc socat { socat - "$address"; }
-    from=${socat[0]} to=${socat[1]}
+    coproc socat { exec socat - "$address"; }
+    # (a program in the background has none of a coproc's own)
+    local reads=${socat[0]} writes=${socat[1]}
+    exec {from}<&"$reads" {to}>&"$writes" {reads}<&- {writes}>&-
+}
+
+# A signal that came while the program ran.
+caught=''
+end_running() {
+    caught=$1
+    kill -TERM "$running" 2> /dev/null || true
 }
 
 # Runs a program with the first of its words, pub or sub, and those in `rest` on a connection that it has for itself, and
 # ends with its status. What sub shows goes to standard output as it came, unless the words name a file; what pub publishes
-# may be standard input.
+# may be standard input. At TERM, INT and HUP the program ends too, and the connection with it; then this ends by that signal.
 run_connected() {
-    local program=$1 word=$2 from='' to='' shown='' showing='' given='' status=0
+    local program=$1 word=$2 from='' to='' shown='' showing='' given='' running='' status=0 signal
     exec {given}<&0
     open_connection || return
     if [ "$word" = sub ] && [ "$shows_itself" = 0 ]; then
@@ -145,14 +214,24 @@ run_connected() {
         showing=$!
         rest=(-o "/dev/fd/$shown" "${rest[@]}")
     fi
-    if [ "$word" = pub ] && [ -n "$from_input" ] && [ "$has_file" = 0 ]; then
-        rest=(-f "/dev/fd/$given" "${rest[@]}")
-    fi
-    "$program" "$word" "${rest[@]}" <&"$from" >&"$to" || status=$?
+    case $word:$from_input:$content in
+        pub:all:* | pub:lines:) rest=(-f "/dev/fd/$given" "${rest[@]}") ;;
+    esac
+    caught=''
+    # shellcheck disable=SC2064
+    for signal in TERM INT HUP; do trap "end_running $signal" "$signal"; done
+    "$program" "$word" "${rest[@]}" <&"$from" >&"$to" &
+    running=$!
+    [ -z "$caught" ] || kill -TERM "$running"
+    wait "$running" || status=$?
+    [ -z "$caught" ] || wait "$running" 2> /dev/null || true
+    trap - TERM INT HUP
+    [ "$to" = "$from" ] || exec {to}>&-
     exec {from}>&-
     if [ -n "$shown" ]; then
         exec {shown}>&-
         wait "$showing" || status=1
     fi
+    [ -z "$caught" ] || kill -"$caught" "$BASHPID"
     return "$status"
 }
