@@ -3,10 +3,10 @@
 ghost use Rattle.std.specs.Prelude.{◌<◌, OnOk};
 ghost use Rattle.mqtt5_client.specs.Client.{IsReady};
 
-use crate::words::parse_pub;
+use crate::words::{parse_pub, refuses_texts, refuses_topic};
 use bytes::Bytes;
 use clap::ArgMatches;
-use mqtt5_base::{QoS, valid_topic};
+use mqtt5_base::QoS;
 use mqtt5_client::Client;
 use mqtt5_codec::Packet;
 use mqtt5_publish::Publish;
@@ -29,8 +29,7 @@ struct Task<'a> {
     by_lines: bool,
 }
 
-/// Publishes, and answers the exit status: 0; 1 after a fault; 2 where the words are refused. The log tells why,
-/// and has the help where that is asked for.
+/// Publishes, and answers the exit status: 0; 1 after a fault; 2 where the words are refused. The log tells why.
 pub fn run<F: Files + AllocGlobal, R: Read, W: Write, E: Write>(
     rt: &F,
     words: &[String],
@@ -62,8 +61,7 @@ fn run_matches<F: Files + AllocGlobal, R: Read, W: Write, E: Write>(
         retain: matches.get_flag("retain"),
         by_lines: matches.get_flag("lines"),
     };
-    if task.topic.is_empty() || !valid_topic(task.topic) {
-        let _ = writeln!(log, "error: no topic to publish to: '{}'", task.topic);
+    if refuses_texts(matches, log) || refuses_topic(task.topic, log) {
         return 2;
     }
     match content_of(rt, matches) {

@@ -7,8 +7,8 @@ use std::io::{Read, Write};
 use std::rt::Files;
 
 /// Runs the client that the first word names, `pub` or `sub`, on the words behind it, and answers its exit status: 0; 1
-/// after a fault; 2 where the words are refused, as those without such a first word are. The log tells why, has the help
-/// where that is asked for, and the messages of a subscriber.
+/// after a fault; 2 where the words are refused, as those without such a first word are. The log tells why, and has the
+/// messages of a subscriber.
 pub fn run<F: Files + AllocGlobal, R: Read, W: Write, E: Write>(
     rt: &F,
     words: &[String],

@@ -3,7 +3,7 @@
 ghost use Rattle.std.specs.Prelude.{◌<◌};
 ghost use Rattle.mqtt5_client.specs.Client.{IsReady};
 
-use crate::words::parse_sub;
+use crate::words::{parse_sub, refuses_texts};
 use clap::ArgMatches;
 use mqtt5_base::{Error, Sequence, valid_filter};
 use mqtt5_client::Client;
@@ -19,7 +19,7 @@ use std::rt::Files;
 use std::{fs, io};
 
 /// Subscribes, and answers the exit status: 0; 1 after a fault; 2 where the words are refused. The log has the
-/// messages, tells why the program ended, and has the help where that is asked for.
+/// messages, and tells why the program ended.
 pub fn run<F: Files + AllocGlobal, R: Read, W: Write, E: Write>(
     rt: &F,
     words: &[String],
@@ -44,14 +44,22 @@ fn run_matches<F: Files + AllocGlobal, R: Read, W: Write, E: Write>(
 ) -> u8
     ensures { result < 3 }
 {
-    if let Some(filter) = bad_filter(matches, "filters").or(bad_filter(matches, "topic")) {
-        let _ = writeln!(log, "error: no topic filter: '{filter}'");
+    if refuses_texts(matches, log) || refuses_filters(matches, log) {
         return 2;
     }
     match matches.get_str("output") {
         Some(file) => write_raw(rt, file, matches, reader, writer, log),
         None => write_lines(rt.alloc(), matches, reader, writer, log),
     }
+}
+
+/// Whether a word is no topic filter, of which the log tells.
+fn refuses_filters<E: Write>(matches: &ArgMatches<'_>, log: &mut E) -> bool {
+    if let Some(filter) = bad_filter(matches, "filters").or(bad_filter(matches, "topic")) {
+        let _ = writeln!(log, "error: no topic filter: '{filter}'");
+        return true;
+    }
+    false
 }
 
 /// The first word under this id that is no topic filter.

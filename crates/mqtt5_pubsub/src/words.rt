@@ -1,38 +1,101 @@
 //! What the words after `pub` and after `sub` ask for.
 
 use clap::{Arg, ArgAction, ArgGroup, ArgMatches, Command, Error, value_parser};
+use mqtt5_base::valid_topic;
 use mqtt5_talk::connection_options;
 use std::alloc::{AllocError, Global};
+use std::io::Write;
 
 /// The qualities of service, as words.
 const QUALITIES: [&str; 3] = ["0", "1", "2"];
 
-/// The values of the options behind `pub`; the error has the text to print, also where help is asked for.
+/// How many bytes a text of a frame has at most (MQTT 5.0 sections 1.5.4, 1.5.6).
+const LONGEST: usize = 65_535;
+
+/// The options whose values are such texts, and what each is.
+const TEXTS: [(&str, &str); 7] = [
+    ("filters", "topic filter"),
+    ("topic", "topic"),
+    ("id", "client identifier"),
+    ("username", "user name"),
+    ("password", "password"),
+    ("will-topic", "will's topic"),
+    ("will-payload", "will's message"),
+];
+
+/// Whether a text is too long for a frame, or the will's topic is none to publish to. The log tells which.
+pub fn refuses_texts<E: Write>(matches: &ArgMatches<'_>, log: &mut E) -> bool {
+    if let Some(name) = overlong(matches) {
+        let _ = writeln!(log, "error: the {name} has more than {LONGEST} bytes");
+        return true;
+    }
+    match matches.get_str("will-topic") {
+        Some(topic) => refuses_topic(topic, log),
+        None => false,
+    }
+}
+
+/// Whether a topic is none to publish to, of which the log tells.
+pub fn refuses_topic<E: Write>(topic: &str, log: &mut E) -> bool {
+    if topic.is_empty() || !valid_topic(topic) {
+        let _ = writeln!(log, "error: no topic to publish to: '{topic}'");
+        return true;
+    }
+    false
+}
+
+/// What the first text is that is too long.
+fn overlong(matches: &ArgMatches<'_>) -> Option<&'static str> {
+    for (id, name) in TEXTS {
+        if has_overlong(matches, id) {
+            return Some(name);
+        }
+    }
+    None
+}
+
+fn has_overlong(matches: &ArgMatches<'_>, id: &str) -> bool {
+    match matches.get_strs(id) {
+        Some(texts) => texts.iter().any(|text| text.len() > LONGEST),
+        None => false,
+    }
+}
+
+/// The values of the options behind `pub`; the error has the text to print.
 pub fn parse_pub<'a>(alloc: Global, words: &'a [String]) -> Result<ArgMatches<'a>, Error> {
     let command = pub_command(alloc)?;
     command.try_get_matches_from(words)
 }
 
-/// The values of the options behind `sub`; the error has the text to print, also where help is asked for.
+/// The values of the options behind `sub`; the error has the text to print.
 pub fn parse_sub<'a>(alloc: Global, words: &'a [String]) -> Result<ArgMatches<'a>, Error> {
     let command = sub_command(alloc)?;
     command.try_get_matches_from(words)
 }
 
+/// A client, without its options. The script that opens the connection has the help, since it takes words of its own.
+fn client_command<'a>(alloc: Global, name: &'a str, usage: &'a str) -> Command<'a> {
+    Command::new(alloc, name)
+        .no_binary_name(true)
+        .disable_help_flag(true)
+        .override_usage(usage)
+}
+
 /// An option of the quality of service.
-fn quality_option<'a>(alloc: Global, help: &'a str) -> Arg<'a> {
+fn quality_option<'a>(alloc: Global) -> Arg<'a> {
     Arg::new(alloc, "qos")
         .short('q')
         .long("qos")
         .value_name("QOS")
-        .help(help)
         .value_parser(QUALITIES.as_slice())
 }
 
 fn pub_command<'a>(alloc: Global) -> Result<Command<'a>, AllocError> {
-    let command = Command::new(alloc, "mqtt5 pub")
-        .no_binary_name(true)
-        .about("Publishes to a broker over standard input and output");
+    let command = client_command(
+        alloc,
+        "mqtt5 pub",
+        "mqtt5 pub -h HOST -t TOPIC -m MESSAGE; mqtt5 pub --help has all options",
+    );
     let command = message_options(alloc, command)?;
     let command = content_options(alloc, command)?;
     connection_options(alloc, command)
@@ -40,7 +103,7 @@ fn pub_command<'a>(alloc: Global) -> Result<Command<'a>, AllocError> {
 
 fn message_options<'a>(alloc: Global, command: Command<'a>) -> Result<Command<'a>, AllocError> {
     let command = command.arg(topic_of_message(alloc))?;
-    let command = command.arg(quality_option(alloc, "Quality of service, else 0"))?;
+    let command = command.arg(quality_option(alloc))?;
     command.arg(retain_option(alloc))
 }
 
@@ -49,7 +112,6 @@ fn topic_of_message<'a>(alloc: Global) -> Arg<'a> {
         .short('t')
         .long("topic")
         .value_name("TOPIC")
-        .help("Topic of the message")
         .required(true)
 }
 
@@ -57,7 +119,6 @@ fn retain_option<'a>(alloc: Global) -> Arg<'a> {
     Arg::new(alloc, "retain")
         .short('r')
         .long("retain")
-        .help("The broker retains the message")
         .action(ArgAction::SetTrue)
 }
 
@@ -75,7 +136,6 @@ fn message_option<'a>(alloc: Global) -> Arg<'a> {
         .short('m')
         .long("message")
         .value_name("MESSAGE")
-        .help("The message")
         .allow_hyphen_values(true)
 }
 
@@ -84,14 +144,12 @@ fn file_option<'a>(alloc: Global) -> Arg<'a> {
         .short('f')
         .long("file")
         .value_name("FILE")
-        .help("A file that is the message")
 }
 
 fn lines_option<'a>(alloc: Global) -> Result<Arg<'a>, AllocError> {
     Arg::new(alloc, "lines")
         .short('l')
         .long("lines")
-        .help("Each line of the file is a message")
         .action(ArgAction::SetTrue)
         .conflicts_with("message")?
         .conflicts_with("empty")
@@ -101,7 +159,6 @@ fn empty_option<'a>(alloc: Global) -> Arg<'a> {
     Arg::new(alloc, "empty")
         .short('n')
         .long("null-message")
-        .help("An empty message")
         .action(ArgAction::SetTrue)
 }
 
@@ -115,8 +172,10 @@ fn content_group<'a>(alloc: Global) -> Result<ArgGroup<'a>, AllocError> {
 }
 
 fn sub_command<'a>(alloc: Global) -> Result<Command<'a>, AllocError> {
-    let command = Command::new(alloc, "mqtt5 sub").no_binary_name(true).about(
-        "Subscribes at a broker over standard input and output, and shows what comes on standard error",
+    let command = client_command(
+        alloc,
+        "mqtt5 sub",
+        "mqtt5 sub -h HOST FILTER..; mqtt5 sub --help has all options",
     );
     let command = filter_options(alloc, command)?;
     let command = show_options(alloc, command)?;
@@ -126,15 +185,13 @@ fn sub_command<'a>(alloc: Global) -> Result<Command<'a>, AllocError> {
 fn filter_options<'a>(alloc: Global, command: Command<'a>) -> Result<Command<'a>, AllocError> {
     let command = command.arg(filters_argument(alloc)?)?;
     let command = command.arg(filter_option(alloc))?;
-    let help = "The greatest quality of service of what comes, else 0";
-    let command = command.arg(quality_option(alloc, help))?;
+    let command = command.arg(quality_option(alloc))?;
     command.arg(count_option(alloc))
 }
 
 fn filters_argument<'a>(alloc: Global) -> Result<Arg<'a>, AllocError> {
     Arg::new(alloc, "filters")
         .value_name("FILTER")
-        .help("Topic filters")
         .num_args(1..)
         .required_unless_present("topic")
 }
@@ -144,7 +201,6 @@ fn filter_option<'a>(alloc: Global) -> Arg<'a> {
         .short('t')
         .long("topic")
         .value_name("FILTER")
-        .help("A topic filter; may be given often")
         .action(ArgAction::Append)
 }
 
@@ -152,7 +208,6 @@ fn count_option<'a>(alloc: Global) -> Arg<'a> {
     Arg::new(alloc, "count")
         .short('C')
         .value_name("COUNT")
-        .help("Ends after so many messages")
         .value_parser(value_parser!(u64).range(1..))
 }
 
@@ -166,7 +221,6 @@ fn verbose_option<'a>(alloc: Global) -> Arg<'a> {
     Arg::new(alloc, "verbose")
         .short('v')
         .long("verbose")
-        .help("Shows the topic and a space before the message")
         .action(ArgAction::SetTrue)
 }
 
@@ -175,14 +229,12 @@ fn output_option<'a>(alloc: Global) -> Arg<'a> {
         .short('o')
         .long("output")
         .value_name("FILE")
-        .help("Writes messages to this file, as they are")
 }
 
 fn joined_option<'a>(alloc: Global) -> Result<Arg<'a>, AllocError> {
     Arg::new(alloc, "joined")
         .short('N')
         .long("no-newline")
-        .help("Writes no newline behind a message to the file")
         .action(ArgAction::SetTrue)
         .requires_arg("output")
 }
