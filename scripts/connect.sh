@@ -148,6 +148,10 @@ check_connection() {
         refuse_value -s "standard input is the message, and so is what $content says: give one of them"
     elif [ "$from_input" = all ] && [ "$by_lines" = 1 ]; then
         refuse_value -s 'standard input is one message, and with -l each line is one: give one of them'
+    elif [ -n "$socket" ] && [ "$tls" = 1 ]; then
+        refuse_value --unix 'it has no TLS'
+    elif [ -n "$socket" ] && [ ${#plain[@]} != 0 ]; then
+        refuse_value --unix 'neither -A nor --nodelay stands beside it'
     elif [ -z "$host" ] && [ -n "$named" ]; then
         refuse_value "$named" 'it needs a broker: name its host by -h HOST, -L URL or --unix PATH'
     elif [ -z "$host" ] && [ -t 1 ]; then
