@@ -46,6 +46,18 @@ async def hundred_filters():
         assert (await next_of(c)).payload == b"taken"
 
 
+async def thirty_at_once():
+    """More requests than many a broker's receive maximum: each is answered."""
+    async with client("thirty") as c:
+        topics = [f"a/thirty/{i}" for i in range(30)]
+        granted = await asyncio.gather(*[c.subscribe(topic, 1) for topic in topics])
+        assert granted == [[1]] * 30, granted
+        await asyncio.gather(*[c.publish(topic, b"x", 1) for topic in topics])
+        came = [(await next_of(c)).topic for _ in topics]
+        assert sorted(came) == sorted(topics), came
+        await asyncio.gather(*[c.unsubscribe(topic) for topic in topics])
+
+
 async def expiry_of_messages():
     kept = {"clean_start": False, "session_expiry_interval": 100}
     async with client("late", **kept) as late:
@@ -131,6 +143,7 @@ async def main():
     await asyncio.gather(
         request_and_response(),
         hundred_filters(),
+        thirty_at_once(),
         expiry_of_messages(),
         a_will(),
         keep_alive_of_the_broker(),

@@ -2,9 +2,12 @@
 the sections of MQTT 5.0 that stand beside them."""
 
 import asyncio
+import faulthandler
 import socket
+import sys
 import threading
 import unittest
+from unittest import mock
 
 from bistortpost import (
     Client,
@@ -26,31 +29,49 @@ CONNECT_AGAIN = "10 13 0004 4D515454 05 00 003C 05 11 00000000 0001 63"
 CONNACK_AGAIN = "20 03 01 00 00"
 # A normal Disconnect (3.14).
 DISCONNECT = "E0 00"
-GETS, SAYS = "gets", "says"
+GETS, SAYS, NOTHING = "gets", "says", "nothing"
+# How many seconds each wait may take, in all and of one step; and how long nothing is to come where nothing may.
+LIMIT, PATIENCE, SILENCE = 40, 20, 0.3
 
 
 class Broker:
-    """One conversation for each connection: (GETS, bytes) and (SAYS, bytes), each in hexadecimal, in order; then it ends
-    the connection."""
+    """One conversation for each connection: (GETS, bytes) and (SAYS, bytes), each in hexadecimal, and (NOTHING, why), where
+    nothing may come, in order; then it ends the connection."""
 
     def __init__(self, *conversations):
         self.wrong = []
         self.listening = socket.create_server(("127.0.0.1", 0))
+        self.listening.settimeout(PATIENCE)
         self.port = self.listening.getsockname()[1]
         self.thread = threading.Thread(target=self.talk, args=(conversations,))
 
     def talk(self, conversations):
         for conversation in conversations:
-            connection, _ = self.listening.accept()
-            with connection:
-                connection.settimeout(20)
-                for way, digits in conversation:
-                    wanted = bytes.fromhex(digits)
-                    if way == SAYS:
-                        connection.sendall(wanted)
-                    elif (got := self.read(connection, len(wanted))) != wanted:
-                        self.wrong.append(f"got {got.hex()}, not {wanted.hex()}")
-                        return
+            step = "its connection"
+            try:
+                connection, _ = self.listening.accept()
+                with connection:
+                    for step in conversation:
+                        self.take(connection, *step)
+            except (AssertionError, OSError) as error:
+                self.wrong.append(f"connection {conversations.index(conversation) + 1}, at {step}: {error}")
+                # (the client may wait for what doesn't come now)
+                print("broker:", self.wrong[0], file=sys.stderr)
+                return
+
+    def take(self, connection, way, wanted):
+        connection.settimeout(SILENCE if way == NOTHING else PATIENCE)
+        if way == SAYS:
+            connection.sendall(bytes.fromhex(wanted))
+        elif way == GETS:
+            got = self.read(connection, len(bytes.fromhex(wanted)))
+            assert got == bytes.fromhex(wanted), f"got {got.hex()}"
+        else:
+            try:
+                got = connection.recv(1000)
+            except TimeoutError:
+                return
+            raise AssertionError(f"got {got.hex()}")
 
     @staticmethod
     def read(connection, count):
@@ -70,7 +91,25 @@ class Broker:
             raise AssertionError(self.wrong[0])
 
 
+def runs(use, *scripts, **settings):
+    """Runs what uses a client for asyncio against a broker that follows these scripts."""
+
+    async def run(port):
+        async with aio.Client("127.0.0.1", port, **{"client_id": "c", **settings}) as client:
+            await use(client)
+
+    with Broker(*scripts) as broker:
+        asyncio.run(asyncio.wait_for(run(broker.port), PATIENCE))
+
+
 class Clients(unittest.TestCase):
+    def setUp(self):
+        # (then it prints what each thread waits for)
+        faulthandler.dump_traceback_later(LIMIT, exit=True)
+
+    def tearDown(self):
+        faulthandler.cancel_dump_traceback_later()
+
     def test_settings(self):
         # User name, password, a retained will of QoS 1 with a delay of 5 and a content type (3.1.2, 3.1.3).
         connect = (
@@ -179,12 +218,218 @@ class Clients(unittest.TestCase):
             (GETS, "32 07 0001 61 0001 00 79"), (SAYS, "40 02 0001"), (GETS, DISCONNECT),
         ]  # fmt: skip
 
-        async def run(port):
-            async with aio.Client("127.0.0.1", port, client_id="c") as client:
-                await asyncio.gather(client.publish("a", b"x", 1), client.publish("a", b"y", 1))
+        async def use(client):
+            await asyncio.gather(client.publish("a", b"x", 1), client.publish("a", b"y", 1))
 
-        with Broker(script) as broker:
-            asyncio.run(run(broker.port))
+        runs(use, script)
+
+    def test_receive_maximum_of_each_connection(self):
+        # One message at a time on the first connection, ten on the second one.
+        scripts = [
+            [(GETS, CONNECT), (SAYS, "20 06 00 00 03 21 0001")],
+            [
+                (GETS, CONNECT_AGAIN), (SAYS, "20 06 01 00 03 21 000A"), (GETS, "32 07 0001 61 0001 00 78"),
+                (GETS, "32 07 0001 61 0002 00 79"), (SAYS, "40 02 0001"), (SAYS, "40 02 0002"), (GETS, DISCONNECT),
+            ],
+        ]  # fmt: skip
+
+        async def use(client):
+            await asyncio.sleep(0.5)
+            await asyncio.gather(client.publish("a", b"x", 1), client.publish("a", b"y", 1))
+
+        runs(use, *scripts)
+
+    def test_identifiers(self):
+        # Each is given again once its request is answered (2.2.1): of Subscribes, and beside publishes, an Unsubscribe.
+        script = [
+            (GETS, CONNECT), (SAYS, "20 06 00 00 03 21 0002"), (GETS, "82 07 0001 00 0001 61 00"),
+            (GETS, "82 07 0002 00 0001 62 01"), (NOTHING, "may be asked for"), (SAYS, "90 04 0002 00 01"),
+            (NOTHING, "may be asked for"), (SAYS, "90 04 0001 00 00"), (GETS, "82 07 0001 00 0001 63 02"),
+            (SAYS, "90 04 0001 00 02"), (GETS, "32 07 0001 61 0002 00 78"), (GETS, "32 07 0001 61 0001 00 79"),
+            (NOTHING, "may be asked for"), (SAYS, "40 02 0002"), (GETS, "A2 06 0002 00 0001 62"), (SAYS, "40 02 0001"),
+            (SAYS, "B0 04 0002 00 00"), (GETS, DISCONNECT),
+        ]  # fmt: skip
+
+        async def use(client):
+            asked = [client.subscribe(name, qos) for qos, name in enumerate("abc")]
+            self.assertEqual(await asyncio.gather(*asked), [[0], [1], [2]])
+            await asyncio.gather(client.publish("a", b"x", 1), client.publish("a", b"y", 1), client.unsubscribe("b"))
+
+        runs(use, script)
+
+    def test_refused_lists(self):
+        # What a refused request has added isn't in the next one.
+        script = [
+            (GETS, CONNECT), (SAYS, CONNACK), (GETS, "32 07 0001 61 0001 00 78"), (SAYS, "40 02 0001"),
+            (GETS, "82 07 0002 00 0001 63 01"), (SAYS, "90 04 0002 00 01"), (GETS, "A2 06 0003 00 0001 63"),
+            (SAYS, "B0 04 0003 00 00"), (GETS, DISCONNECT),
+        ]  # fmt: skip
+        too_large = Properties(message_expiry_interval=5, topic_alias=70000)
+        with Broker(script) as broker, Client("127.0.0.1", broker.port, client_id="c") as client:
+            with self.assertRaises(Fault):
+                client.publish("a", b"x", 1, properties=too_large)
+            client.publish("a", b"x", 1)
+            with self.assertRaises(Fault):
+                client.subscribe(["a", "b#"], 1)
+            client.subscribe("c", 1)
+            with self.assertRaises(Fault):
+                client.unsubscribe("c", too_large)
+            client.unsubscribe("c")
+
+    def test_long_topics(self):
+        # More bytes than two bytes can say (1.5.4).
+        script = [(GETS, CONNECT), (SAYS, CONNACK), (GETS, DISCONNECT)]
+        long = "a" * 70000
+        with Broker(script) as broker, Client("127.0.0.1", broker.port, client_id="c") as client:
+            for qos in 0, 1:
+                with self.assertRaisesRegex(Fault, "the topic is over 65535 bytes"):
+                    client.publish(long, b"x", qos)
+            for asked in lambda: client.subscribe(["a", long]), lambda: client.unsubscribe(long):
+                with self.assertRaisesRegex(Fault, "the topic filter is over 65535 bytes"):
+                    asked()
+        with Broker([]) as broker:
+            with self.assertRaisesRegex(Fault, "the will's topic is over 65535 bytes"):
+                Client("127.0.0.1", broker.port, client_id="c", will=Will(long)).__enter__()
+
+    def test_given_up(self):
+        # Whoever waited for a message of QoS 2 gives up, and the session is lost: the client goes on.
+        scripts = [
+            [(GETS, CONNECT), (SAYS, CONNACK), (GETS, "34 07 0001 61 0001 00 78")],
+            [
+                (GETS, CONNECT_AGAIN), (SAYS, CONNACK), (GETS, "32 07 0001 61 0001 00 79"), (SAYS, "40 02 0001"),
+                (GETS, DISCONNECT),
+            ],
+        ]  # fmt: skip
+
+        async def use(client):
+            with self.assertRaises(asyncio.TimeoutError):
+                await asyncio.wait_for(client.publish("a", b"x", 2), 0.3)
+            self.assertEqual(await client.publish("a", b"y", 1), 0)
+
+        runs(use, *scripts)
+
+    def test_unforeseen(self):
+        # Whatever ends the client's task, all who wait are told.
+        script = [(GETS, CONNECT), (SAYS, CONNACK), (GETS, "32 07 0001 61 0001 00 78"), (SAYS, "40 02 0001")]
+
+        async def use(client):
+            with mock.patch.object(client._session, "receive", side_effect=ZeroDivisionError):
+                with self.assertRaisesRegex(ConnectionLost, "ZeroDivisionError"):
+                    await client.publish("a", b"x", 1)
+            for asked in client.publish("a", b"x", 1), client.publish("a", b"x"), client.subscribe("a"):
+                with self.assertRaises(ConnectionLost):
+                    await asked
+            with self.assertRaises(ConnectionLost):
+                await client.next_message()
+
+        runs(use, script)
+
+    def test_messages_of_a_lost_session(self):
+        # Those of QoS 1 are asked for again, as many at a time as the broker takes now.
+        scripts = [
+            [
+                (GETS, CONNECT), (SAYS, CONNACK), (GETS, "32 07 0001 61 0001 00 78"), (GETS, "32 07 0001 61 0002 00 79"),
+                (GETS, "32 07 0001 61 0003 00 7A"),
+            ],
+            [
+                (GETS, CONNECT_AGAIN), (SAYS, "20 06 00 00 03 21 0001"), (GETS, "32 07 0001 61 0001 00 78"),
+                (NOTHING, "may be asked for"), (SAYS, "40 02 0001"), (GETS, "32 07 0001 61 0001 00 79"),
+                (NOTHING, "may be asked for"), (SAYS, "40 02 0001"), (GETS, "32 07 0001 61 0001 00 7A"),
+                (SAYS, "40 02 0001"), (GETS, DISCONNECT),
+            ],
+        ]  # fmt: skip
+
+        async def use(client):
+            self.assertEqual(await asyncio.gather(*[client.publish("a", payload, 1) for payload in "xyz"]), [0, 0, 0])
+
+        runs(use, *scripts)
+
+    def test_unsubscribe_over_a_lost_session(self):
+        # Its filter isn't subscribed to again; the other one is.
+        scripts = [
+            [
+                (GETS, CONNECT), (SAYS, CONNACK), (GETS, "82 07 0001 00 0001 61 01"), (SAYS, "90 04 0001 00 01"),
+                (GETS, "82 07 0002 00 0001 62 01"), (SAYS, "90 04 0002 00 01"), (GETS, "A2 06 0003 00 0001 62"),
+            ],
+            [
+                (GETS, CONNECT_AGAIN), (SAYS, CONNACK), (GETS, "A2 06 0001 00 0001 62"), (GETS, "82 07 0002 00 0001 61 01"),
+                (NOTHING, "may be asked for"), (SAYS, "B0 04 0001 00 11"), (SAYS, "90 04 0002 00 01"), (GETS, DISCONNECT),
+            ],
+        ]  # fmt: skip
+        with Broker(*scripts) as broker, Client("127.0.0.1", broker.port, client_id="c") as client:
+            client.subscribe("a", 1)
+            client.subscribe("b", 1)
+            client.unsubscribe("b")
+
+    def test_refused_unsubscribe(self):
+        # Not authorized (3.11.3): the subscription stands, and is asked for again where the session is lost.
+        scripts = [
+            [
+                (GETS, CONNECT), (SAYS, CONNACK), (GETS, "82 07 0001 00 0001 62 01"), (SAYS, "90 04 0001 00 01"),
+                (GETS, "A2 06 0002 00 0001 62"), (SAYS, "B0 04 0002 00 87"),
+            ],
+            [
+                (GETS, CONNECT_AGAIN), (SAYS, CONNACK), (GETS, "82 07 0001 00 0001 62 01"), (SAYS, "90 04 0001 00 01"),
+                (SAYS, "30 05 0001 62 00 78"), (GETS, DISCONNECT),
+            ],
+        ]  # fmt: skip
+        with Broker(*scripts) as broker, Client("127.0.0.1", broker.port, client_id="c") as client:
+            client.subscribe("b", 1)
+            with self.assertRaises(Refused):
+                client.unsubscribe("b")
+            self.assertEqual(next(client.messages(PATIENCE)).payload, b"x")
+
+    def test_smaller_packets(self):
+        # The broker takes packets of 10 bytes now (3.2.2.3.6), so a message of 20 can't be sent again.
+        first = "32 1A 0001 61 0001 00" + 20 * "78"
+        scripts = [
+            [(GETS, CONNECT), (SAYS, CONNACK), (GETS, first)],
+            [
+                (GETS, CONNECT_AGAIN), (SAYS, "20 08 01 00 05 27 0000000A"), (GETS, "62 02 0001"), (SAYS, "70 03 0001 92"),
+                (GETS, "32 07 0001 61 0002 00 79"), (SAYS, "40 02 0002"), (GETS, DISCONNECT),
+            ],
+        ]  # fmt: skip
+        with Broker(*scripts) as broker, Client("127.0.0.1", broker.port, client_id="c") as client:
+            with self.assertRaises(Fault) as fault:
+                client.publish("a", 20 * b"x", 1)
+            self.assertEqual(fault.exception.name, "OutgoingPacketTooLarge")
+            self.assertEqual(client.publish("a", b"y", 1), 0)
+
+    def test_assigned_identifier(self):
+        # The broker assigns "x" to a client without an identifier, which goes on with the session of "x" (3.2.2.3.7).
+        scripts = [
+            [
+                (GETS, "10 12 0004 4D515454 05 02 003C 05 11 00000000 0000"), (SAYS, "20 07 00 00 04 12 0001 78"),
+                (GETS, "34 07 0001 61 0001 00 78"),
+            ],
+            [
+                (GETS, "10 13 0004 4D515454 05 00 003C 05 11 00000000 0001 78"), (SAYS, CONNACK_AGAIN),
+                (GETS, "3C 07 0001 61 0001 00 78"), (SAYS, "50 02 0001"), (GETS, "62 02 0001"), (SAYS, "70 02 0001"),
+                (GETS, DISCONNECT),
+            ],
+        ]  # fmt: skip
+        with Broker(*scripts) as broker, Client("127.0.0.1", broker.port) as client:
+            self.assertEqual(client.publish("a", b"x", 2), 0)
+
+    def test_shutting_down(self):
+        # Server shutting down, and, as it comes back, server unavailable (3.14.2.1, 3.2.2.2). What came before is shown.
+        scripts = [
+            [(GETS, CONNECT), (SAYS, CONNACK), (GETS, "30 05 0001 61 00 77"), (SAYS, "30 05 0001 61 00 78" + "E0 01 8B")],
+            [(GETS, CONNECT_AGAIN), (SAYS, "20 03 00 88 00")],
+            [(GETS, CONNECT_AGAIN), (SAYS, CONNACK_AGAIN), (SAYS, "30 05 0001 61 00 79"), (GETS, DISCONNECT)],
+        ]
+        with Broker(*scripts) as broker, Client("127.0.0.1", broker.port, client_id="c") as client:
+            client.publish("a", b"w")
+            messages = client.messages(PATIENCE)
+            self.assertEqual([next(messages).payload, next(messages).payload], [b"x", b"y"])
+
+    def test_taken_over(self):
+        # Session taken over: another connection has it, so this client ends.
+        with Broker([(GETS, CONNECT), (SAYS, CONNACK), (GETS, "30 05 0001 61 00 77"), (SAYS, "E0 01 8E")]) as broker:
+            with Client("127.0.0.1", broker.port, client_id="c") as client, self.assertRaises(Refused) as refused:
+                client.publish("a", b"w")
+                next(client.messages(PATIENCE))
+            self.assertEqual(refused.exception.name, "Session taken over")
 
     def test_refused_connection(self):
         # Bad user name or password (3.2.2.2).
@@ -192,6 +437,13 @@ class Clients(unittest.TestCase):
             with self.assertRaises(Refused) as refused:
                 Client("127.0.0.1", broker.port, client_id="c").__enter__()
             self.assertEqual(refused.exception.reason, 134)
+
+    def test_ended_at_once(self):
+        # A ConnAck and a Disconnect in one piece: its reason is told.
+        with Broker([(GETS, CONNECT), (SAYS, CONNACK + "E0 01 8E")]) as broker:
+            with self.assertRaises(Refused) as refused:
+                Client("127.0.0.1", broker.port, client_id="c").__enter__()
+            self.assertEqual(refused.exception.reason, 142)
 
     def test_other_first_packet(self):
         with Broker([(GETS, CONNECT), (SAYS, "30 05 0001 61 00 78")]) as broker:
@@ -214,16 +466,14 @@ class Clients(unittest.TestCase):
             (SAYS, "30 05 0001 61 00 7A"), (GETS, DISCONNECT),
         ]  # fmt: skip
 
-        async def run(port):
-            async with aio.Client("127.0.0.1", port, client_id="c", keep_alive=5) as client:
-                reasons = await asyncio.gather(client.publish("a", b"x", 1), client.publish("a", b"y", 1))
-                self.assertEqual(reasons, [0, 0])
-                async for message in client.messages:
-                    self.assertEqual(message.payload, b"z")
-                    break
+        async def use(client):
+            reasons = await asyncio.gather(client.publish("a", b"x", 1), client.publish("a", b"y", 1))
+            self.assertEqual(reasons, [0, 0])
+            async for message in client.messages:
+                self.assertEqual(message.payload, b"z")
+                break
 
-        with Broker(script) as broker:
-            asyncio.run(run(broker.port))
+        runs(use, script, keep_alive=5)
 
 
 if __name__ == "__main__":

@@ -14,8 +14,8 @@ SMALL_BUFFER = 203
 ABSENT = 204
 
 # The kinds of an event, and the types of packets (MQTT 5.0 section 2.1.2).
-CAME = 1
-CONNACK, PUBLISH, PUBACK, PUBREC, PUBCOMP, SUBACK, UNSUBACK, DISCONNECT = 2, 3, 4, 5, 7, 9, 11, 14
+CAME, SENT = 1, 2
+CONNACK, PUBLISH, PUBACK, PUBREC, PUBREL, PUBCOMP, SUBACK, UNSUBACK, DISCONNECT = 2, 3, 4, 5, 6, 7, 9, 11, 14
 
 
 class Handle(c.Structure):

@@ -12,6 +12,8 @@ from .values import BINARY, IDENTIFIERS, PAIRS, TEXTS, Message, Properties, Subs
 
 # How many bytes are taken out of the output at a time.
 PIECE = 65536
+# The most bytes of a text (MQTT 5.0 section 1.5.4).
+LONGEST = 65535
 SUBSCRIPTION_IDENTIFIER, USER_PROPERTY = IDENTIFIERS["subscription_identifier"], IDENTIFIERS["user_property"]
 
 
@@ -51,16 +53,17 @@ class Session:
     def _ask(self, name, *arguments):
         return self._calls[name](c.byref(self._handle), *arguments)
 
-    def _done(self, name, *arguments):
+    def _done(self, name, *arguments, texts=()):
+        """Fault where the call is refused, which says so of the first of these texts that no packet can say."""
         code = self._ask(name, *arguments)
         if code:
-            raise Fault(code)
+            raise Fault(code, next((f"{what} is over {LONGEST} bytes" for what, n in texts if n > LONGEST), None))
 
     # ---- Requests.
 
     def connect(self, settings: Settings):
         """The output becomes the Connect of these settings."""
-        self._done("forget")
+        self._begin()
         self._done("set_login", *_bytes(settings.username), *_bytes(settings.password))
         will = settings.will
         if will:
@@ -73,28 +76,33 @@ class Session:
             settings.keep_alive,
             settings.clean_start,
             settings.session_expiry_interval,
+            texts=[("the will's topic", _bytes(will.topic)[1])] if will else [],
         )
 
     def publish(self, topic, payload, qos, retain, properties, at) -> int:
         """The packet identifier, 0 at QoS 0."""
-        pkid = self._next_id() if qos else 0
+        pkid = self.next_id() if qos else 0
+        self._begin()
         self._add(properties)
-        self._done("publish", *_bytes(topic), *_bytes(payload), qos, retain, at)
+        name = _bytes(topic)
+        self._done("publish", *name, *_bytes(payload), qos, retain, at, texts=[("the topic", name[1])])
         return pkid
 
     def subscribe(self, subscriptions: list[Subscription], properties, at) -> int:
-        pkid = self._next_id()
+        pkid = self.next_id()
+        self._begin()
         for s in subscriptions:
             options = s.qos, s.no_local, s.retain_as_published, s.retain_handling
-            self._done("add_filter", *_bytes(s.filter), *options)
+            self._done("add_filter", *_bytes(s.filter), *options, texts=_filter(s.filter))
         self._add(properties)
-        self._done("subscribe_all", at)
+        self._done("subscribe_all", at, texts=[text for s in subscriptions for text in _filter(s.filter)])
         return pkid
 
     def unsubscribe(self, topic_filter, properties, at) -> int:
-        pkid = self._next_id()
+        pkid = self.next_id()
+        self._begin()
         self._add(properties)
-        self._done("unsubscribe", *_bytes(topic_filter), at)
+        self._done("unsubscribe", *_bytes(topic_filter), at, texts=_filter(topic_filter))
         return pkid
 
     def ping(self, at):
@@ -103,21 +111,34 @@ class Session:
     def disconnect(self, at):
         self._done("disconnect", at)
 
-    def take_up(self, session_present, at) -> int:
-        """How many requests were let go."""
-        count = c.c_size_t()
-        self._done("take_up", session_present, at, c.byref(count))
-        return count.value
+    def take_up(self, session_present, at) -> list[int]:
+        """The packet identifiers that are released on the new connection: those whose PubRec had come, and those whose
+        publish is over the broker's limit. The events of the ConnAck were taken out before."""
+        self._done("take_up", session_present, at, c.byref(c.c_size_t()))
+        sent = list(iter(self._next_sent, None))
+        return [info.pkid for info in sent if info.kind == library.SENT and info.packet == library.PUBREL]
+
+    def _next_sent(self):
+        """The oldest event as numbers, taken out, where no message came; None where there is none."""
+        info = library.EventInfo()
+        self._done("next_event", c.byref(info), b"", 0, b"", 0)
+        return info if info.kind else None
 
     def may_publish(self) -> bool:
         may = c.c_bool()
         self._done("may_publish", c.byref(may))
         return may.value
 
-    def _next_id(self):
+    def next_id(self) -> int:
+        """The packet identifier that the next publish of QoS 1 or 2, subscribe or unsubscribe gets."""
         pkid = c.c_uint16()
         self._done("next_id", c.byref(pkid))
         return pkid.value
+
+    def _begin(self):
+        """Empties the lists of properties and filters, in which those of a packet that was refused may stand. (The login
+        and the will go too: each Connect sets them anew.)"""
+        self._done("forget")
 
     def _add(self, properties: Properties | None):
         for name, identifier in IDENTIFIERS.items() if properties else ():
@@ -229,3 +250,7 @@ def _bytes(value) -> tuple[bytes, int]:
     """A text or bytes, with the length in bytes."""
     data = value.encode(errors="surrogateescape") if isinstance(value, str) else bytes(value)
     return data, len(data)
+
+
+def _filter(topic_filter) -> list[tuple[str, int]]:
+    return [("the topic filter", _bytes(topic_filter)[1])]

@@ -5,6 +5,7 @@ from __future__ import annotations
 import asyncio
 import ssl
 import time
+from collections import deque
 from collections.abc import AsyncIterator
 from dataclasses import replace
 
@@ -19,18 +20,29 @@ PIECE = 65536
 FIRST_PAUSE, LAST_PAUSE = 1, 60
 # How long a broker may take to answer a Connect, in seconds.
 PATIENCE = 20
+# The reason codes of what passes by itself, after which a connection is opened again (MQTT 5.0 sections 2.4, 4.13): a normal
+# end, server unavailable, server busy, server shutting down, keep alive timeout, message rate too high, connection rate
+# exceeded, maximum connect time.
+PASSING = {0, 136, 137, 139, 141, 150, 159, 160}
 # Why a client ends that was asked to.
 DISCONNECTED = ConnectionLost("disconnected")
 
 
 class _Request:
-    """What awaits an answer of the broker: how it is asked for, and the future of its answer."""
+    """What awaits an answer of the broker: how it is asked for, what is kept of a yes, and the future of the answer."""
 
-    def __init__(self, what, packet, ask, qos=0):
-        self.what, self.packet, self.ask, self.qos = what, packet, ask, qos
+    def __init__(self, what, packet, ask, qos=0, keep=lambda reasons: None):
+        self.what, self.packet, self.ask, self.qos, self.keep = what, packet, ask, qos, keep
+        # Of a message of QoS 2, whether its PubRec came.
+        self.is_received = False
         self.answer = asyncio.get_running_loop().create_future()
         # (nobody may wait for it)
         self.answer.add_done_callback(lambda answer: answer.cancelled() or answer.exception())
+
+    def fail(self, why):
+        # (whoever waited may have given up)
+        if not self.answer.done():
+            self.answer.set_exception(why)
 
 
 class Client:
@@ -70,13 +82,14 @@ class Client:
         self._settings = Settings(
             client_id, username, password, will, keep_alive, clean_start, session_expiry_interval, properties
         )
-        self._reconnect, self._most = reconnect, limit
+        self._reconnect, self._limit, self._most = reconnect, limit, limit
         self._session = Session(limit)
         self._writer: asyncio.StreamWriter | None = None
         self._connected: asyncio.Future[Properties] | None = None
         self._changed = asyncio.Event()
-        self._turn = asyncio.Lock()
-        self._awaited: dict[tuple[int, int], _Request] = {}
+        # The requests that are to be asked for, in order, and by its packet identifier each that awaits its answer.
+        self._waiting: deque[_Request] = deque()
+        self._awaited: dict[int, _Request] = {}
         self._subscribed: dict[str, tuple[Subscription, Properties | None]] = {}
         self._messages: asyncio.Queue[Message | None] = asyncio.Queue()
         self._ended: MqttError | None = None
@@ -125,16 +138,13 @@ class Client:
             return self._session.publish(topic, payload, qos, retain, properties, _now())
 
         if qos == 0:
-            await self._until(lambda: True)
+            await self._until_connected()
             ask()
             self._flush()
             await self._drain()
             return 0
-        async with self._turn:
-            await self._until(self._may_publish)
-            request = _Request(f"the message to {topic}", library.PUBACK if qos == 1 else library.PUBCOMP, ask, qos)
-            self._ask(request)
-        event = await request.answer
+        packet = library.PUBACK if qos == 1 else library.PUBCOMP
+        event = await self._answer_of(_Request(f"the message to {topic}", packet, ask, qos))
         return event.reasons[0]
 
     async def subscribe(
@@ -146,24 +156,21 @@ class Client:
         """Subscribes to topic filters, and answers the QoS that was granted for each. Refused at the first refusal."""
         filters = filters if isinstance(filters, list) else [filters]
         wanted = [f if isinstance(f, Subscription) else Subscription(f, qos) for f in filters]
-        await self._until(lambda: True)
-        request = self._subscription(wanted, properties)
-        self._ask(request)
-        event = await request.answer
-        for subscription in wanted:
-            self._subscribed[subscription.filter] = subscription, properties
+        event = await self._answer_of(self._subscription(wanted, properties))
         return event.reasons
 
     async def unsubscribe(self, topic_filter: str, properties: Properties | None = None):
         """Ends the subscription to a topic filter."""
-        await self._until(lambda: True)
+
+        def ask():
+            return self._session.unsubscribe(topic_filter, properties, _now())
+
+        def keep(reasons):
+            if all(reason < 128 for reason in reasons):
+                self._subscribed.pop(topic_filter, None)
+
         what = f"the end of the subscription to {topic_filter}"
-        request = _Request(
-            what, library.UNSUBACK, lambda: self._session.unsubscribe(topic_filter, properties, _now())
-        )
-        self._ask(request)
-        await request.answer
-        self._subscribed.pop(topic_filter, None)
+        await self._answer_of(_Request(what, library.UNSUBACK, ask, keep=keep))
 
     async def next_message(self, timeout: float | None = None) -> Message | None:
         """The next message that comes; None once the client ended by `disconnect`, ConnectionLost where it is lost.
@@ -183,25 +190,50 @@ class Client:
             yield message
 
     def _subscription(self, wanted, properties):
+        def ask():
+            return self._session.subscribe(wanted, properties, _now())
+
+        def keep(reasons):
+            granted = (s for s, reason in zip(wanted, reasons) if reason < 128)
+            self._subscribed.update((s.filter, (s, properties)) for s in granted)
+
         what = "the subscription to " + ", ".join(s.filter for s in wanted)
-        return _Request(what, library.SUBACK, lambda: self._session.subscribe(wanted, properties, _now()))
+        return _Request(what, library.SUBACK, ask, keep=keep)
 
-    def _may_publish(self):
-        in_flight = sum(1 for request in self._awaited.values() if request.qos)
-        return in_flight < self._most and self._session.may_publish()
+    async def _answer_of(self, request) -> Event:
+        """Asks for it in its turn, and waits for the answer."""
+        if self._ended:
+            raise self._ended
+        self._waiting.append(request)
+        self._ask_waiting()
+        return await request.answer
 
-    def _ask(self, request):
-        pkid = request.ask()
-        self._awaited[request.packet, pkid] = request
+    def _ask_waiting(self):
+        """Asks for what waits, in order, as far as it may be asked for."""
+        while self._writer and self._waiting:
+            request = self._waiting[0]
+            if not request.answer.done():
+                if not self._may_ask(request):
+                    break
+                try:
+                    self._awaited[request.ask()] = request
+                except Exception as error:
+                    request.fail(error)
+            self._waiting.popleft()
         self._flush()
 
-    async def _until(self, holds):
-        """Waits for a connection on which this holds."""
-        while True:
+    def _may_ask(self, request):
+        """Whether nothing else has its packet identifier (2.2.1), and the broker takes one more message (3.2.2.3.3)."""
+        if self._session.next_id() in self._awaited or not self._session.may_publish():
+            return False
+        if not request.qos or len(self._awaited) < self._most:
+            return True
+        return sum(1 for awaited in self._awaited.values() if awaited.qos) < self._most
+
+    async def _until_connected(self):
+        while self._ended or not self._writer:
             if self._ended:
                 raise self._ended
-            if self._writer and holds():
-                return
             await self._changed.wait()
 
     def _has_changed(self):
@@ -211,6 +243,17 @@ class Client:
     # ---- The connection.
 
     async def _run(self):
+        """Holds connections, until one is lost for good. However it ends, all who wait are told."""
+        why = ConnectionLost("the client stopped")
+        try:
+            why = await self._hold_connections()
+        except Exception as error:
+            why = ConnectionLost(f"the client failed: {error!r}")
+            why.__cause__ = error
+        finally:
+            self._end(why)
+
+    async def _hold_connections(self):
         while True:
             try:
                 await self._hold_connection()
@@ -220,9 +263,9 @@ class Client:
             except MqttError as error:
                 lost = error
             self._writer = None
-            if not self._reconnect or not self._connected.done() or isinstance(lost, Refused):
-                self._end(lost)
-                return
+            is_refused = isinstance(lost, Refused) and lost.reason not in PASSING
+            if not self._reconnect or not self._connected.done() or is_refused:
+                return lost
             pause, self._pause = self._pause, min(2 * self._pause, LAST_PAUSE)
             await asyncio.sleep(pause)
 
@@ -258,30 +301,44 @@ class Client:
         self._keep_alive = self._settings.keep_alive
         if connack.properties.server_keep_alive is not None:
             self._keep_alive = connack.properties.server_keep_alive
-        self._most = min(self._most, connack.properties.receive_maximum or 65535)
-        self._session.take_up(connack.session_present, _now())
-        # From now on the session is gone on with, as long as the broker keeps it.
-        self._settings = replace(self._settings, clean_start=False)
+        self._most = min(self._limit, connack.properties.receive_maximum or 65535)
+        released = self._session.take_up(connack.session_present, _now())
+        # From now on the session is gone on with, as long as the broker keeps it: under the client identifier that it
+        # assigned, where it did (3.2.2.3.7).
+        client_id = self._settings.client_id or connack.properties.assigned_client_identifier or ""
+        self._settings = replace(self._settings, client_id=client_id, clean_start=False)
         self._writer = writer
-        self._flush()
+        self._let_go(released)
         self._ask_again(connack.session_present)
         self._handle(events[1:])
         if not self._connected.done():
             self._connected.set_result(connack.properties)
 
+    def _let_go(self, released):
+        """What was released unsent is over the packet size that the broker takes now."""
+        for pkid in released:
+            request = self._awaited.get(pkid)
+            if request and not request.is_received:
+                del self._awaited[pkid]
+                request.fail(Fault(library.PACKET_TOO_LARGE))
+
     def _ask_again(self, session_present):
-        """Asks again for what the new connection doesn't send by itself."""
-        awaited, self._awaited = self._awaited, {}
-        for key, request in awaited.items():
+        """Asks again for what the new connection doesn't send by itself, before what waits."""
+        awaited, self._awaited, again = self._awaited, {}, []
+        for pkid, request in awaited.items():
             if session_present and request.qos:
-                self._awaited[key] = request
+                self._awaited[pkid] = request
             elif request.qos == 2:
-                request.answer.set_exception(SessionLost(request.what))
-            elif not request.answer.done():
-                self._ask(request)
+                request.fail(SessionLost(request.what))
+            else:
+                again.append(request)
+            if not session_present and request.packet == library.UNSUBACK:
+                # (what it was to end, ended with the session)
+                request.keep([])
         if not session_present:
-            for subscription, properties in self._subscribed.values():
-                self._ask(self._subscription([subscription], properties))
+            again += [self._subscription([s], properties) for s, properties in self._subscribed.values()]
+        self._waiting.extendleft(reversed(again))
+        self._ask_waiting()
 
     async def _read(self, reader):
         """The next bytes, with a ping where nothing was sent for the keep alive; b"" at the end."""
@@ -306,41 +363,48 @@ class Client:
     # ---- What comes.
 
     def _take(self, data) -> list[Event]:
-        """The events of these bytes. Refused where the broker refuses or ends the connection; Fault."""
+        """The events of these bytes. Refused where the broker refuses or ends the connection, and Fault: what came before
+        that is handed on."""
         try:
             self._session.receive(data, _now())
         except Fault as fault:
-            for event in self._session.events():
-                if event.packet in (library.CONNACK, library.DISCONNECT) and event.reasons:
+            events = list(self._session.events())
+            self._hand_on(events)
+            for event in events:
+                is_refusal = event.packet == library.CONNACK and event.reasons[0] >= 128
+                if is_refusal or event.packet == library.DISCONNECT:
                     raise Refused("the connection", event.reasons[0], event.properties.reason_string) from fault
             raise
         return list(self._session.events())
 
     def _handle(self, events):
+        self._hand_on(events)
+        self._ask_waiting()
+        self._has_changed()
+
+    def _hand_on(self, events):
         for event in events:
             if event.message:
                 self._messages.put_nowait(event.message)
             else:
                 self._answer(event)
-        self._flush()
-        self._has_changed()
 
     def _answer(self, event):
-        packet = event.packet
+        request = self._awaited.get(event.pkid)
         # A PubRec that says no ends a message of QoS 2 (4.3.3).
-        if packet == library.PUBREC:
-            if event.reasons[0] < 128:
-                return
-            packet = library.PUBCOMP
-        request = self._awaited.pop((packet, event.pkid), None)
-        if not request or request.answer.done():
+        packet = library.PUBCOMP if event.packet == library.PUBREC else event.packet
+        if not request or request.packet != packet:
             return
+        if event.packet == library.PUBREC and event.reasons[0] < 128:
+            request.is_received = True
+            return
+        del self._awaited[event.pkid]
+        request.keep(event.reasons)
         refusal = next((reason for reason in event.reasons if reason >= 128), None)
-        if refusal is None:
+        if refusal is not None:
+            request.fail(Refused(request.what, refusal, event.properties.reason_string))
+        elif not request.answer.done():
             request.answer.set_result(event)
-        else:
-            text = event.properties.reason_string
-            request.answer.set_exception(Refused(request.what, refusal, text))
 
     def _end(self, why):
         if self._ended:
@@ -348,9 +412,8 @@ class Client:
         self._ended = why
         self._messages.put_nowait(None)
         self._has_changed()
-        for request in self._awaited.values():
-            if not request.answer.done():
-                request.answer.set_exception(why)
+        for request in [*self._awaited.values(), *self._waiting]:
+            request.fail(why)
         if self._connected and not self._connected.done():
             self._connected.set_exception(why)
 

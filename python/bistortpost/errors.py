@@ -17,12 +17,12 @@ class Refused(MqttError):
 
 
 class Fault(MqttError):
-    """The session refused: `code` is what the library answered, `name` its name."""
+    """The session refused: `code` is what the library answered, `name` its name; `text` says of what, where that is known."""
 
-    def __init__(self, code: int):
+    def __init__(self, code: int, text: str | None = None):
         name = FAULTS.get(code, "unknown fault")
-        super().__init__(f"{name} ({code})")
-        self.code, self.name = code, name
+        super().__init__(f"{name} ({code})" + (f": {text}" if text else ""))
+        self.code, self.name, self.text = code, name, text
 
 
 class ConnectionLost(MqttError):
