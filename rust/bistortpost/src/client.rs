@@ -18,6 +18,8 @@ use std::time::{Duration, Instant};
 const PIECE: usize = 65536;
 /// How long a broker may take to answer a Connect.
 const PATIENCE: Duration = Duration::from_secs(20);
+/// The most bytes of a text (MQTT 5.0 section 1.5.4).
+const LONGEST: usize = 65535;
 
 /// Why a connection stops. The next `recv` opens it again.
 #[derive(Debug)]
@@ -25,6 +27,8 @@ pub enum ConnectionError {
     Io(io::Error),
     /// The session refuses what came, or what was asked for.
     MqttState(Fault),
+    /// The session refuses a topic or a topic filter of so many bytes, of which 65,535 are the most.
+    TopicTooLong(usize),
     /// The broker refuses the connection; the reason code of its ConnAck.
     ConnectionRefused(u8),
     /// The broker doesn't answer.
@@ -40,6 +44,9 @@ impl fmt::Display for ConnectionError {
         match self {
             ConnectionError::Io(error) => write!(f, "{error}"),
             ConnectionError::MqttState(fault) => write!(f, "{fault}"),
+            ConnectionError::TopicTooLong(count) => {
+                write!(f, "the topic or topic filter has {count} bytes, over {LONGEST}")
+            }
             ConnectionError::ConnectionRefused(code) => write!(f, "the broker refused the connection: {code}"),
             ConnectionError::NetworkTimeout => write!(f, "the broker doesn't answer"),
             ConnectionError::SessionLost(count) => {
@@ -82,6 +89,27 @@ enum Request {
     Unsubscribe(String, Option<Properties>),
     Ack(u16, QoS),
     Disconnect,
+}
+
+impl Request {
+    /// How many bytes its longest topic or topic filter has.
+    fn topic_len(&self) -> usize {
+        match self {
+            Request::Publish(publish) => publish.topic.len(),
+            Request::Subscribe(filters, _) => filters.iter().map(|filter| filter.path.len()).max().unwrap_or(0),
+            Request::Unsubscribe(filter, _) => filter.len(),
+            Request::Ack(..) | Request::Disconnect => 0,
+        }
+    }
+}
+
+/// Why the session refuses something with a topic, or a topic filter, of so many bytes.
+fn refusal_of(fault: Fault, topic_len: usize) -> ConnectionError {
+    if topic_len > LONGEST {
+        ConnectionError::TopicTooLong(topic_len)
+    } else {
+        fault.into()
+    }
 }
 
 /// Asks a connection, from any thread.
@@ -317,7 +345,10 @@ impl Connection {
             self.session = Some(Session::new(self.options.limit, self.options.manual_acks)?);
         }
         let session = self.session.as_mut().expect("it was made");
-        session.connect(&self.options, self.options.clean_start && !self.was_acked)?;
+        let will_len = self.options.last_will.as_ref().map_or(0, |will| will.topic.len());
+        session
+            .connect(&self.options, self.options.clean_start && !self.was_acked)
+            .map_err(|fault| refusal_of(fault, will_len))?;
         let (reader, writer) = (self.open)()?;
         self.writer = Some(writer);
         let stream = self.inbox.begin_stream();
@@ -356,6 +387,12 @@ impl Connection {
                 self.keep_alive = properties
                     .server_keep_alive
                     .map_or(self.options.keep_alive, |seconds| Duration::from_secs(u64::from(seconds)));
+                // The session is gone on with under the client identifier that the broker assigned (3.2.2.3.7).
+                if let (true, Some(assigned)) =
+                    (self.options.client_id.is_empty(), &properties.assigned_client_identifier)
+                {
+                    self.options.client_id = assigned.clone();
+                }
             }
             self.came.push_back(Ok(event));
         }
@@ -388,7 +425,7 @@ impl Connection {
         };
         // A request that is refused changes nothing, and the connection goes on.
         if let Err(fault) = asked {
-            self.came.push_back(Err(fault.into()));
+            self.came.push_back(Err(refusal_of(fault, request.topic_len())));
         }
         self.tell()
     }

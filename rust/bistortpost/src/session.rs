@@ -54,8 +54,8 @@ impl Session {
     /// Begins a connection: the output is the Connect of these settings alone.
     pub fn connect(&mut self, options: &MqttOptions, clean_start: bool) -> Result<(), Fault> {
         let (username, password) = options.credentials.clone().unwrap_or_default();
+        self.begin()?;
         let h = &mut *self.handle;
-        done(unsafe { mqtt5_client_forget(h) })?;
         done(unsafe {
             mqtt5_client_set_login(h, username.as_ptr(), username.len(), password.as_ptr(), password.len())
         })?;
@@ -77,6 +77,12 @@ impl Session {
         done(unsafe {
             mqtt5_client_set_will(h, topic.as_ptr(), topic.len(), message.as_ptr(), message.len(), qos, will.retain)
         })
+    }
+
+    /// Empties the lists of properties and filters, in which those of a packet that was refused may stand. (The login and
+    /// the will go too: each Connect sets them anew.)
+    fn begin(&mut self) -> Result<(), Fault> {
+        done(unsafe { mqtt5_client_forget(&mut *self.handle) })
     }
 
     /// Properties of the next packet.
@@ -102,6 +108,7 @@ impl Session {
         properties: Option<&Properties>,
         at: u64,
     ) -> Result<(), Fault> {
+        self.begin()?;
         self.add(properties)?;
         let (t, p, q) = (topic.as_bytes(), payload, qos as u8);
         let h = &mut *self.handle;
@@ -109,6 +116,7 @@ impl Session {
     }
 
     pub fn subscribe(&mut self, filters: &[Filter], properties: Option<&Properties>, at: u64) -> Result<(), Fault> {
+        self.begin()?;
         for f in filters {
             let (path, qos, rule) = (f.path.as_bytes(), f.qos as u8, f.retain_forward_rule as u8);
             let h = &mut *self.handle;
@@ -121,6 +129,7 @@ impl Session {
     }
 
     pub fn unsubscribe(&mut self, filter: &str, properties: Option<&Properties>, at: u64) -> Result<(), Fault> {
+        self.begin()?;
         self.add(properties)?;
         done(unsafe { mqtt5_client_unsubscribe(&mut *self.handle, filter.as_ptr(), filter.len(), at) })
     }

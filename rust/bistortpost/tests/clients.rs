@@ -3,9 +3,11 @@
 
 use bistortpost::mqttbytes::QoS;
 use bistortpost::{Client, ConnectionError, Event, Filter, LastWill, MqttOptions, Outgoing, Packet, Properties};
-use std::io::{Read, Write};
+use std::io::{ErrorKind, Read, Write};
 use std::net::{TcpListener, TcpStream};
+use std::sync::mpsc::{self, RecvTimeoutError, Sender};
 use std::thread::{self, JoinHandle};
+use std::time::{Duration, Instant};
 
 // A Connect (3.1): client id "c", clean start, keep alive 60, session expiry 0. The ConnAck (3.2) of a new session.
 const CONNECT: &str = "10 13 0004 4D515454 05 02 003C 05 11 00000000 0001 63";
@@ -15,6 +17,24 @@ const CONNECT_AGAIN: &str = "10 13 0004 4D515454 05 00 003C 05 11 00000000 0001 
 const CONNACK_AGAIN: &str = "20 03 01 00 00";
 // A normal Disconnect (3.14).
 const DISCONNECT: &str = "E0 00";
+
+/// How long each wait of the broker may take, and how long a test.
+const PATIENCE: Duration = Duration::from_secs(20);
+const LIMIT: Duration = Duration::from_secs(60);
+
+/// Ends all where the test, which waits on a client, takes too long.
+struct Limit(#[allow(dead_code)] Sender<()>);
+
+fn limit(test: &'static str) -> Limit {
+    let (sender, ended) = mpsc::channel();
+    thread::spawn(move || {
+        if ended.recv_timeout(LIMIT) == Err(RecvTimeoutError::Timeout) {
+            eprintln!("{test}: the client has no end within {LIMIT:?}");
+            std::process::exit(1);
+        }
+    });
+    Limit(sender)
+}
 
 enum Step {
     Gets(&'static str),
@@ -35,27 +55,52 @@ fn follow(mut stream: TcpStream, script: Vec<Step>) {
             Gets(digits) => {
                 let wanted = bytes_of(digits);
                 let mut got = vec![0; wanted.len()];
-                stream.read_exact(&mut got).unwrap();
+                stream.read_exact(&mut got).unwrap_or_else(|error| panic!("waiting for {digits}: {error}"));
                 assert_eq!(got, wanted, "{digits}");
             }
         }
     }
 }
 
+/// The next connection.
+fn next_of(listener: &TcpListener, index: usize) -> TcpStream {
+    let began = Instant::now();
+    listener.set_nonblocking(true).unwrap();
+    loop {
+        match listener.accept() {
+            Ok((stream, _)) => {
+                stream.set_nonblocking(false).unwrap();
+                stream.set_read_timeout(Some(PATIENCE)).unwrap();
+                return stream;
+            }
+            Err(error) if error.kind() == ErrorKind::WouldBlock => thread::sleep(Duration::from_millis(10)),
+            Err(error) => panic!("{error}"),
+        }
+        assert!(began.elapsed() < PATIENCE, "waiting for connection {index}");
+    }
+}
+
 /// A broker that follows one script for each connection, and ends it then.
 fn broker(scripts: Vec<Vec<Step>>) -> (MqttOptions, JoinHandle<()>) {
+    let (port, following) = broker_at(scripts);
+    (MqttOptions::new("c", "127.0.0.1", port), following)
+}
+
+/// The same, with its port.
+fn broker_at(scripts: Vec<Vec<Step>>) -> (u16, JoinHandle<()>) {
     let listener = TcpListener::bind("127.0.0.1:0").unwrap();
     let port = listener.local_addr().unwrap().port();
     let following = thread::spawn(move || {
-        for script in scripts {
-            follow(listener.accept().unwrap().0, script);
+        for (index, script) in scripts.into_iter().enumerate() {
+            follow(next_of(&listener, index), script);
         }
     });
-    (MqttOptions::new("c", "127.0.0.1", port), following)
+    (port, following)
 }
 
 #[test]
 fn settings() {
+    let _limit = limit("settings");
     // User name, password, a retained will of QoS 1 with a delay of 5 and a content type, receive maximum 20 (3.1.2, 3.1.3).
     let connect = "10 2F 0004 4D515454 05 EE 003C 08 11 0000000A 21 0014 0001 63 \
                    09 18 00000005 03 0001 74 0001 77 0004 676F6E65 0001 75 0001 70";
@@ -86,6 +131,7 @@ fn settings() {
 
 #[test]
 fn messages() {
+    let _limit = limit("messages");
     // Two filters with their options (3.8); a message of QoS 2 in its four packets, ours and theirs (4.3.3).
     let script = vec![
         Gets(CONNECT),
@@ -130,6 +176,7 @@ fn messages() {
 
 #[test]
 fn a_cut() {
+    let _limit = limit("a_cut");
     // Cut after the Publish: it is sent again where the broker has the session (4.4).
     let scripts = vec![
         vec![Gets(CONNECT), Says(CONNACK), Gets("34 07 0001 61 0001 00 78")],
@@ -159,6 +206,7 @@ fn a_cut() {
 
 #[test]
 fn refusals() {
+    let _limit = limit("refusals");
     // A login that is refused (3.2.2.2); a session that the broker lost (3.2.2.1.1).
     let scripts = vec![
         vec![Gets(CONNECT), Says("20 03 00 86 00")],
@@ -176,5 +224,131 @@ fn refusals() {
     client.publish("a", QoS::AtLeastOnce, false, "x").unwrap();
     let lost = connection.iter().find(|event| matches!(event, Err(ConnectionError::SessionLost(_))));
     assert!(matches!(lost, Some(Err(ConnectionError::SessionLost(1)))));
+    following.join().unwrap();
+}
+
+#[test]
+fn refused_lists() {
+    let _limit = limit("refused_lists");
+    // What a refused request has added isn't in the next one.
+    let script = vec![
+        Gets(CONNECT),
+        Says(CONNACK),
+        Gets("32 07 0001 61 0001 00 78"),
+        Gets("82 07 0002 00 0001 63 01"),
+        Says("40 02 0001"),
+        Says("90 04 0002 00 01"),
+        Gets(DISCONNECT),
+    ];
+    let (options, following) = broker(vec![script]);
+    let (client, mut connection) = Client::new(options, 10);
+    // (a subscription identifier is at most 268,435,455, and none is for a client to send: 3.3.2.3.8)
+    let too_large = Properties {
+        message_expiry_interval: Some(5),
+        subscription_identifiers: vec![300_000_000],
+        ..Properties::default()
+    };
+    client.publish_with_properties("a", QoS::AtLeastOnce, false, "x", too_large).unwrap();
+    client.publish("a", QoS::AtLeastOnce, false, "x").unwrap();
+    client.subscribe_many([Filter::new("a", QoS::AtLeastOnce), Filter::new("b#", QoS::AtLeastOnce)]).unwrap();
+    client.subscribe("c", QoS::AtLeastOnce).unwrap();
+    let mut refused = 0;
+    for event in connection.iter() {
+        match event {
+            Ok(Event::Incoming(Packet::SubAck { .. })) => break,
+            Err(ConnectionError::MqttState(_)) => refused += 1,
+            Err(error) => panic!("{error}"),
+            Ok(_) => {}
+        }
+    }
+    assert_eq!(refused, 2);
+    client.disconnect().unwrap();
+    drop(client);
+    while connection.recv().is_ok() {}
+    following.join().unwrap();
+}
+
+#[test]
+fn long_topics() {
+    let _limit = limit("long_topics");
+    // More bytes than two bytes can say (1.5.4).
+    let (options, following) = broker(vec![vec![Gets(CONNECT), Says(CONNACK), Gets(DISCONNECT)]]);
+    let (client, mut connection) = Client::new(options, 10);
+    let long = "a".repeat(70000);
+    client.publish(&long, QoS::AtMostOnce, false, "x").unwrap();
+    client.subscribe_many([Filter::new("a", QoS::AtMostOnce), Filter::new(&long, QoS::AtMostOnce)]).unwrap();
+    client.unsubscribe(&long).unwrap();
+    client.disconnect().unwrap();
+    let mut refused = 0;
+    for event in connection.iter() {
+        match event {
+            Ok(Event::Outgoing(Outgoing::Disconnect)) => break,
+            Err(error) => {
+                let told = error.to_string();
+                assert!(told.contains("topic") && told.contains("70000") && told.contains("65535"), "{told}");
+                refused += 1;
+            }
+            Ok(_) => {}
+        }
+    }
+    assert_eq!(refused, 3);
+    drop(client);
+    while connection.recv().is_ok() {}
+    following.join().unwrap();
+}
+
+#[test]
+fn an_assigned_identifier() {
+    let _limit = limit("an_assigned_identifier");
+    // The broker assigns "x" to a client without an identifier, which goes on with the session of "x" (3.2.2.3.7).
+    let scripts = vec![
+        vec![
+            Gets("10 12 0004 4D515454 05 02 003C 05 11 00000000 0000"),
+            Says("20 07 00 00 04 12 0001 78"),
+            Gets("34 07 0001 61 0001 00 78"),
+        ],
+        vec![
+            Gets("10 13 0004 4D515454 05 00 003C 05 11 00000000 0001 78"),
+            Says(CONNACK_AGAIN),
+            Gets("3C 07 0001 61 0001 00 78"),
+            Says("50 02 0001"),
+            Gets("62 02 0001"),
+            Says("70 02 0001"),
+        ],
+    ];
+    let (port, following) = broker_at(scripts);
+    let (client, mut connection) = Client::new(MqttOptions::new("", "127.0.0.1", port), 10);
+    client.publish("a", QoS::ExactlyOnce, false, "x").unwrap();
+    let acked = connection.iter().take(40).any(|event| matches!(event, Ok(Event::Incoming(Packet::PubComp { .. }))));
+    assert!(acked);
+    following.join().unwrap();
+}
+
+#[test]
+fn a_broker_that_shuts_down() {
+    let _limit = limit("a_broker_that_shuts_down");
+    // A Disconnect of "server shutting down" (3.14.2.1): the next `recv` opens the connection again.
+    let scripts = vec![
+        vec![Gets(CONNECT), Says(CONNACK), Gets("30 05 0001 61 00 77"), Says("30 05 0001 61 00 78 E0 01 8B")],
+        vec![Gets(CONNECT_AGAIN), Says(CONNACK_AGAIN), Says("30 05 0001 61 00 79"), Gets(DISCONNECT)],
+    ];
+    let (options, following) = broker(scripts);
+    let (client, mut connection) = Client::new(options, 10);
+    client.publish("a", QoS::AtMostOnce, false, "w").unwrap();
+    let (mut came, mut reasons) = (Vec::new(), Vec::new());
+    for event in connection.iter() {
+        match event {
+            Ok(Event::Incoming(Packet::Publish(publish))) => came.extend(publish.payload),
+            Ok(Event::Incoming(Packet::Disconnect { reason_code, .. })) => reasons.push(reason_code),
+            _other => {}
+        }
+        if came.len() == 2 {
+            break;
+        }
+    }
+    assert_eq!((came, reasons), (b"xy".to_vec(), vec![139]));
+    client.disconnect().unwrap();
+    drop(client);
+    while connection.recv().is_ok() {}
     following.join().unwrap();
 }
