@@ -292,7 +292,9 @@ uint32_t mqtt5_client_resume(mqtt5_client *h, uint64_t at);
    out yet. After a refusal the client is as before. */
 uint32_t mqtt5_client_clean(mqtt5_client *h, size_t *count);
 
-/* Whether bytes can be the topic of a publish, or a topic filter, and whether a topic matches a filter (MQTT 5.0 section 4.7). */
+/* Whether bytes can be the topic of a publish, or a topic filter, and whether a topic matches a filter (MQTT 5.0 section 4.7);
+   but a topic that begins with `$` matches no filter, `$SYS/a` not even `$SYS/#` or itself, where 4.7.2 bars filters that
+   begin with a wildcard alone. */
 bool mqtt5_valid_topic(const uint8_t *topic, size_t len);
 bool mqtt5_valid_filter(const uint8_t *filter, size_t len);
 bool mqtt5_topic_matches(const uint8_t *topic, size_t topic_len, const uint8_t *filter, size_t filter_len);

@@ -444,6 +444,9 @@ static void topics(void) {
     EXPECT(mqtt5_topic_matches(BYTES("sport/tennis/player1/ranking"), BYTES("sport/tennis/+")), false);
     EXPECT(mqtt5_topic_matches(BYTES("/finance"), BYTES("+")), false);
     EXPECT(mqtt5_topic_matches(BYTES("$SYS/"), BYTES("#")), false);
+    /* (as the header says, beside 4.7.2) */
+    EXPECT(mqtt5_topic_matches(BYTES("$SYS/a"), BYTES("$SYS/#")), false);
+    EXPECT(mqtt5_topic_matches(BYTES("$SYS/a"), BYTES("$SYS/a")), false);
     EXPECT(mqtt5_topic_matches(BYTES("\xff"), BYTES("#")), false);
 }
 
