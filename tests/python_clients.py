@@ -187,6 +187,21 @@ class Clients(unittest.TestCase):
         with Broker(*scripts) as broker, Client("127.0.0.1", broker.port, client_id="c") as client:
             self.assertEqual(client.publish("a", b"x", 2), 0)
 
+    def test_cut_before_the_end(self):
+        # The PubComp is lost, and the broker knows nothing of the release that comes again: no error (3.7.2.1).
+        scripts = [
+            [
+                (GETS, CONNECT), (SAYS, CONNACK), (GETS, "34 07 0001 61 0001 00 78"), (SAYS, "50 02 0001"),
+                (GETS, "62 02 0001"),
+            ],
+            [
+                (GETS, CONNECT_AGAIN), (SAYS, CONNACK_AGAIN), (GETS, "62 02 0001"), (SAYS, "70 03 0001 92"),
+                (GETS, DISCONNECT),
+            ],
+        ]  # fmt: skip
+        with Broker(*scripts) as broker, Client("127.0.0.1", broker.port, client_id="c") as client:
+            self.assertEqual(client.publish("a", b"x", 2), 0)
+
     def test_lost_session(self):
         # The broker comes back without the session: the subscription and a message of QoS 1 are asked for again.
         subscribe, suback = "82 07 0001 00 0001 62 01", "90 04 0001 00 01"

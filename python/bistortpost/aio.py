@@ -399,6 +399,9 @@ class Client:
             request.is_received = True
             return
         del self._awaited[event.pkid]
+        # A release that goes out again after a cut may be of a message that was done: that is no error (3.7.2.1).
+        if packet == library.PUBCOMP and request.is_received:
+            event.reasons = [0]
         request.keep(event.reasons)
         refusal = next((reason for reason in event.reasons if reason >= 128), None)
         if refusal is not None:
