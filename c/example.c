@@ -2,6 +2,7 @@
    the session up on a new one. Usage: example HOST PORT */
 #define _POSIX_C_SOURCE 200809L
 #include "mqtt5.h"
+#include "mqtt5_names.h"
 
 #include <netdb.h>
 #include <stdio.h>
@@ -24,9 +25,14 @@ static uint64_t now(void) {
 
 static void done(uint32_t code, const char *what) {
     if (code != MQTT5_DONE) {
-        fprintf(stderr, "%s: %u\n", what, code);
+        fprintf(stderr, "%s: %s (%u)\n", what, mqtt5_error_name(code), code);
         exit(1);
     }
+}
+
+static void end_refused(const char *what, uint32_t reason) {
+    fprintf(stderr, "%s: %s (%u)\n", what, mqtt5_reason_name((uint8_t)reason), reason);
+    exit(1);
 }
 
 static const uint8_t *bytes(const char *text) { return (const uint8_t *)text; }
@@ -62,7 +68,8 @@ static void flush_output(int s) {
     }
 }
 
-/* Reads once, and tells of what came. 1 and whether the broker has the session, where a ConnAck did. */
+/* Reads once, and tells of what came. 1 and whether the broker has the session, where a ConnAck did. Where the broker
+   refuses or ends the connection (11, 10), an event has its reason: so the events are told before the client stops. */
 static int take_input(int s, bool *session_present) {
     uint8_t buffer[1024], topic[256], payload[1024];
     ssize_t count = recv(s, buffer, sizeof buffer, 0);
@@ -70,35 +77,37 @@ static int take_input(int s, bool *session_present) {
         fprintf(stderr, "the broker is gone\n");
         exit(1);
     }
-    done(mqtt5_client_receive(&client, buffer, (size_t)count, now()), "receive");
+    uint32_t received = mqtt5_client_receive(&client, buffer, (size_t)count, now());
     int connected = 0;
     for (;;) {
         mqtt5_event e;
         done(mqtt5_client_next_event(&client, &e, topic, sizeof topic, payload, sizeof payload), "next_event");
-        if (e.kind == 0) return connected;
-        if (e.kind != 1) continue;
+        if (e.kind == MQTT5_NO_EVENT) break;
+        if (e.kind != MQTT5_CAME) continue;
         switch (e.packet) {
-        case 2:
-            if (e.code) {
-                fprintf(stderr, "the broker refuses: %u\n", e.code);
-                exit(1);
-            }
+        case MQTT5_CONNACK:
+            if (e.code) end_refused("the broker refuses the connection", e.code);
             connected = 1;
             *session_present = e.session_present;
             break;
-        case 3:
+        case MQTT5_DISCONNECT:
+            end_refused("the broker ends the connection", e.code);
+            break;
+        case MQTT5_PUBLISH:
             printf("came: %.*s: %.*s, QoS %u\n", (int)e.topic_len, topic, (int)e.payload_len, payload, e.qos);
             came++;
             break;
-        case 4:
-        case 7:
+        case MQTT5_PUBACK:
+        case MQTT5_PUBCOMP:
             acked++;
             break;
-        case 9:
+        case MQTT5_SUBACK:
             printf("subscribed, QoS %u\n", e.code);
             break;
         }
     }
+    done(received, "receive");
+    return connected;
 }
 
 /* Connects, and takes an old session up. */

@@ -23,6 +23,8 @@ class Event(c.Structure):
 
 BYTES = [c.c_char_p, c.c_size_t]
 TIME = [c.c_uint64]
+# What `receive` answers where the broker ends the connection, or refuses it: an event has its reason.
+SERVER_DISCONNECT, CONNECTION_REFUSED = 10, 11
 CALLS = {
     "new": [c.c_uint16, c.c_bool],
     "free": [],
@@ -36,6 +38,14 @@ CALLS = {
     "next_event": [c.POINTER(Event)] + BYTES + BYTES,
     "take_up": [c.c_bool] + TIME + [c.POINTER(c.c_size_t)],
 }
+
+
+class Refused(RuntimeError):
+    """A call that is refused, by its number."""
+
+    def __init__(self, name, code):
+        super().__init__(f"{name}: {code}")
+        self.code = code
 
 
 class Client:
@@ -53,7 +63,7 @@ class Client:
         def checked(*arguments):
             code = self.calls[name](c.byref(self.handle), *arguments)
             if code:
-                raise RuntimeError(f"{name}: {code}")
+                raise Refused(name, code)
 
         return checked
 
@@ -79,7 +89,16 @@ class Connection:
         piece = self.socket.recv(1024)
         if not piece:
             raise RuntimeError("the broker is gone")
-        self.client.receive(piece, len(piece), now())
+        try:
+            self.client.receive(piece, len(piece), now())
+        except Refused as refused:
+            if refused.code in (SERVER_DISCONNECT, CONNECTION_REFUSED):
+                self.tell()
+            raise
+        self.tell()
+
+    def tell(self):
+        """Tells of what came."""
         event, topic, payload = Event(), c.create_string_buffer(256), c.create_string_buffer(1024)
         while True:
             self.client.next_event(c.byref(event), topic, len(topic), payload, len(payload))
@@ -89,8 +108,10 @@ class Connection:
                 continue
             if event.packet == 2:
                 if event.code:
-                    raise RuntimeError(f"the broker refuses: {event.code}")
+                    sys.exit(f"the broker refuses the connection: {event.code}")
                 self.connected = event.session_present
+            elif event.packet == 14:
+                sys.exit(f"the broker ends the connection: {event.code}")
             elif event.packet == 3:
                 self.came.append((topic.raw[: event.topic_len], payload.raw[: event.payload_len], event.qos))
                 print("came:", *self.came[-1])
