@@ -1,4 +1,5 @@
-/* A client of the C library at a broker whose limits and whose end get in its way. Usage: c_cuts HOST PORT limit|lost|ten
+/* A client of the C library at a broker whose limits and whose end get in its way.
+   Usage: c_cuts HOST PORT limit|lost|ten [USER PASSWORD]
    limit: the broker takes packets of at most 1,000 bytes. A publish of 2,000 is refused and leaves nothing behind; the
    next ones come through, also over a cut.
    lost: once a publish was sent, `cut` is printed and a line awaited, and the broker is to come back meanwhile without
@@ -187,10 +188,12 @@ static void run_ten(void) {
 }
 
 int main(int argc, char **argv) {
-    if (argc != 4) return 2;
+    if (argc != 4 && argc != 6) return 2;
     host = argv[1], port = argv[2];
     /* Two ids: were one left in use, publishing would come to a stop. */
     is(mqtt5_client_new(&client, 2, false), 0, "new");
+    if (argc == 6)
+        is(mqtt5_client_set_login(&client, bytes(argv[4]), strlen(argv[4]), bytes(argv[5]), strlen(argv[5])), 0, "set_login");
     begin(true);
     if (strcmp(argv[3], "limit") == 0) run_limit();
     else if (strcmp(argv[3], "ten") == 0) run_ten();

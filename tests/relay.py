@@ -25,7 +25,11 @@ class Relay:
         there, back = await asyncio.open_connection(*self.broker)
         self.ways.add(writer)
         self.ways.add(back)
-        await asyncio.gather(self.carry(reader, back), self.carry(there, writer))
+        try:
+            await asyncio.gather(self.carry(reader, back), self.carry(there, writer))
+        except asyncio.CancelledError:
+            # (at the relay's end, of which Python would tell at length)
+            pass
 
     async def carry(self, reader, writer):
         try:

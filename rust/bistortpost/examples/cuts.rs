@@ -1,5 +1,5 @@
 //! Publishes numbers at QoS 2 to a topic that it subscribes to itself, over a connection that is cut, and says whether each
-//! came once. Usage: cuts HOST PORT CUTS
+//! came once. Usage: cuts HOST PORT CUTS [USER PASSWORD]
 
 use bistortpost::mqttbytes::QoS;
 use bistortpost::{Client, ConnectionError, Event, MqttOptions, Outgoing, Packet};
@@ -26,6 +26,9 @@ fn main() {
     let wanted: usize = words[3].parse().expect("a number of cuts");
     let mut options = MqttOptions::new("live-rust", words[1].clone(), words[2].parse().expect("a port"));
     options.set_clean_start(false).set_session_expiry_interval(Some(100)).set_outgoing_inflight_upper_limit(20);
+    if let [user, password] = &words[4..] {
+        options.set_credentials(user, password);
+    }
     let (client, mut connection) = Client::new(options, 10);
     let cuts = Arc::new(AtomicUsize::new(0));
     client.subscribe(TOPIC, QoS::ExactlyOnce).expect("the connection is there");
