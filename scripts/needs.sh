@@ -107,6 +107,18 @@ jobs_that_fit() {
     echo $((most > 1 ? most : 1))
 }
 
+# `rt ci` plans so many proofs side by side as its own guess of their memory allows, and gives one that nothing else waits for
+# several jobs. Where that guess holds processors back, this says how many there may be, each with one job, beside something
+# else that takes so many kilobytes.
+plan_jobs() {
+    local free
+    free=$(free_memory)
+    if [ -n "$free" ] && [ "$free" -lt $(($1 + 4500000 * $(processors) * 100 / 85)) ]; then
+        RT_JOBS=${RT_JOBS:-$(jobs_that_fit 3000000 "$1")}
+        export RT_JOBS
+    fi
+}
+
 free_disk() { df -Pk "$here" 2> /dev/null | sed -n '$s/.* \([0-9][0-9]*\)  *[0-9][0-9]*% .*/\1/p'; }
 
 # What the out/ folders hold already, in kilobytes.

@@ -81,9 +81,14 @@ levels() {
     done | sort -s -n -k 1,1 | awk '$1 != at { if (NR > 1) print ""; at = $1 } { printf "%s ", $2 } END { print "" }'
 }
 
-# ---- The lines of a build, which begin each crate with a line `library NAME`; of a library the last is `all is built`. ----
+# What a first build takes, which comes first, and what answers sooner.
+tell_first() {
+    tell "proving ${#order[@]} crates${1:+ takes $1 here}, once${2:+; $2 answers in a minute or two, unproved}"
+}
 
-at='' began=0 is_built=0
+# ---- The lines of `rt lib`, crate by crate, which begin each with a line `library NAME`. ----
+
+at='' began=0
 
 # "proving NAME, 1 of 14".
 place_of() {
@@ -100,28 +105,21 @@ begin() {
     tell "$at"
 }
 
-# What a first build takes, which comes first, and what answers sooner.
-tell_first() {
-    tell "proving ${#order[@]} crates${1:+ takes $1 here}, once${2:+; $2 answers in a minute or two, unproved}"
-}
-
-hear_run() {
+hear_library() {
     printf '%s\n' "$1" >&3
     case $1 in
         'library '*': modules loaded='*) ;;
         'library '*) begin "$(place_of "${1#library }")" ;;
-        'rt: running '* | 'all is built') is_built=1 ;;
         'rt: '*waiting*) tell "${1#rt: }" ;;
     esac
 }
 
-still_run() { tell "${at:-looking at what changed}: $(since "$began")"; }
+still_library() { tell "${at:-looking at what changed}: $(since "$began")"; }
 
-# Reads what a build says into a log, and answers whether it is built.
-tell_run() {
+# Reads what a build says into a log.
+tell_library() {
     exec 3> "$1"
-    follow hear_run still_run
-    [ "$is_built" = 1 ]
+    follow hear_library still_library
 }
 
 # Tells every so often that something goes on, until it is killed.
@@ -131,10 +129,10 @@ keep_telling() {
     while sleep "$quiet" > /dev/null 2>&1; do tell "$1: $(since "$began")"; done
 }
 
-# ---- The lines of `rt ci`, which proves crates side by side and tells where one is done. ----
+# ---- The lines of `rt ci`, which proves `crates` side by side and tells where one is done. ----
 
 declare -A done_with=()
-proved=0 failed=0 stage=proofs
+proved=0 failed=0 stage=proofs after_proofs='proving tests, and trying wrong bodies'
 
 # The crates whose libraries are all proved, and that aren't done.
 next_crates() {
@@ -157,7 +155,7 @@ where_ci() {
     names=$(next_crates)
     case $stage:$names in
         runs:*) echo "$count; running the programs and the tests" ;;
-        *:) echo "$count; proving tests, and trying wrong bodies" ;;
+        *:) if [ "$failed" = 0 ]; then echo "$count; $after_proofs"; else echo "$count"; fi ;;
         *) echo "proving $names; $count" ;;
     esac
 }
@@ -193,7 +191,6 @@ still_ci() { tell "$(where_ci): $(since 0)"; }
 
 # Reads what `rt ci` says into a log.
 tell_ci() {
-    read_crates
     tell "$(where_ci)"
     exec 3> "$1"
     follow hear_ci still_ci
