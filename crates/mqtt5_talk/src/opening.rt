@@ -183,9 +183,11 @@ pub fn close<W: Write>(client: &mut Client, writer: &mut W) -> Result<(), TalkEr
 /// and a socket that is closed with bytes unread may take back what was written last. The reader is called again after an
 /// interruption. `Failed` is its failure (`Read`), also (`TimedOut`) after 2^64 - 1 reads.
 pub fn await_end<R: Read>(reader: &mut R) -> Result<(), TalkError>
-    ensures came { (came : List ℕ) × Consumes (R.remaining reader.old) (R.remaining reader.new) came }
+    ensures came { (came : List ℕ)
+        × Consumes (R.remaining reader.old) (R.remaining reader.new) came }
     ensures end { OnOk result (IsAtEnd (R.remaining reader.new)) }
-    ensures fault { IfErr result (λ trouble. (error : IoError) × (trouble ≡ Failed (faults.Read error))) }
+    ensures fault { IfErr result (λ trouble.
+        (error : IoError) × (trouble ≡ Failed (faults.Read error))) }
 {
     let mut room = [0; 1024];
     for _ in 0..u64::MAX {

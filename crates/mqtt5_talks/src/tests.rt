@@ -5,7 +5,6 @@
 
 mod client;
 mod drive;
-mod first;
 mod kept;
 mod laws;
 mod pipe;

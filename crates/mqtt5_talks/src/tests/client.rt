@@ -4,8 +4,8 @@ ghost use Rattle.std.specs.Prelude.{OnOk};
 ghost use Rattle.mqtt5_client.specs.Client.{IsReady};
 
 use super::drive::drives;
-use super::first::{hear, publish_first};
 use super::{add_bytes, bytes_of, cut, number_of, publish_hi, quality_of};
+use crate::first::{hear, publish_first};
 use bytes::Bytes;
 use mqtt5_base::{Error, QoS};
 use mqtt5_client::{Client, Event, Request, StateError, error_number, state_error_number};
