@@ -1,9 +1,11 @@
 //! A client's first message.
 
-ghost use Rattle.std.specs.Prelude.{◌≡◌, [], ◌∷◌, IfOk, IfErr, OnOk, OnErr};
+ghost use Rattle.std.specs.Prelude.{◌≡◌, [], ◌∷◌, drop, length, IfOk, IfErr, OnOk, OnErr};
 ghost use Rattle.std.specs.FinMap as map;
 ghost use Rattle.mqtt5_inflight.specs.declared.event.Request.TheVariants as requests;
+ghost use Rattle.mqtt5_drive.specs.Limit.{allowed};
 ghost use Rattle.mqtt5_drive.specs.Run.{piece};
+ghost use Rattle.mqtt5_client.specs.Asked.{Declines};
 ghost use Rattle.mqtt5_client.specs.Client.{IsReady, Runs, Fails, asking};
 ghost use Rattle.mqtt5_talks.specs.First.{first_message};
 
@@ -16,7 +18,13 @@ pub fn publish_first(alloc: Global, client: &mut Client) -> Result<(), StateErro
     requires { IsReady client.old }
     ensures asked { OnOk result
         (Runs client.old (asking 1 (requests.Publish first_message) ∷ []) [] client.new) }
+    ensures err { IfErr result (λ e.
+        Declines e client.old.codec (requests.Publish first_message) 1 client.old.state
+        client.new.state) }
+    ensures unchanged { OnErr result (client.new.state ≡ client.old.state) }
     ensures unsent { OnErr result (client.new.output.items ≡ client.old.output.items) }
+    ensures kept { (client.new.input.items ≡ client.old.input.items)
+        × (client.new.codec ≡ client.old.codec) }
     ensures ready { IsReady client.new }
 {
     let payload = Bytes::from_static(b"hi");
@@ -29,6 +37,9 @@ pub fn hear(client: &mut Client, bytes: &[u8]) -> Result<u16, StateError>
     requires { IsReady client.old }
     ensures heard { OnOk result (Runs client.old (piece 2 bytes.now ∷ []) [] client.new) }
     ensures err { IfErr result (λ e. Fails e client.old (piece 2 bytes.now ∷ []) [] client.new) }
+    ensures codec { client.new.codec
+        ≡ allowed (drop (length client.old.state.events) client.new.state.events) client.old.codec }
+    ensures lost { OnErr result (client.new.input.items ≡ []) }
     ensures awaited { IfOk result (λ count. count ≡ map.len client.new.state.core.in_use) }
     ensures ready { IsReady client.new }
 {
