@@ -13,7 +13,7 @@ extern "C" {
 
 #define MQTT5_VERSION "0.1.0"
 
-/* What every call answers. 1 to 12 are the session's refusals S1 to S12, of which 7 (a frame that can't be read, a
+/* What every call answers. 1 to 13 are the refusals S1 to S13 of a session and of its client, of which 7 (a frame that can't be read, a
    packet that can't be written) is told as 100 + n of E1 to E21, which says why: docs/PROGRAM.md has
    both as tables, and mqtt5_names.h their names. */
 enum {
@@ -38,6 +38,8 @@ enum {
     MQTT5_SERVER_DISCONNECT = 10,
     MQTT5_CONNECTION_REFUSED = 11,
     MQTT5_OUT_OF_MEMORY = 12,
+    /* A request after mqtt5_client_disconnect, until the next mqtt5_client_connect. */
+    MQTT5_DISCONNECTED = 13,
     /* The handle has no client. */
     MQTT5_NO_CLIENT = 200,
     /* A text isn't UTF-8, a topic or a topic filter isn't one, a number is out of range, or a packet can't have a
@@ -207,7 +209,7 @@ uint32_t mqtt5_client_add_pair(mqtt5_client *h, const uint8_t *name, size_t name
                                size_t value_len);
 
 /* What each later connect says: a user name and a password, texts of which an empty one is left out; and a will, with
-   the properties of the list. */
+   the properties of the list, whose topic isn't empty. */
 uint32_t mqtt5_client_set_login(mqtt5_client *h, const uint8_t *user_name, size_t user_name_len,
                                 const uint8_t *password, size_t password_len);
 uint32_t mqtt5_client_set_will(mqtt5_client *h, const uint8_t *topic, size_t topic_len, const uint8_t *payload,
@@ -225,8 +227,8 @@ uint32_t mqtt5_client_output(mqtt5_client *h, uint8_t *buffer, size_t buffer_len
 /* The first `count` bytes of the output were sent; all of it where it has fewer. */
 uint32_t mqtt5_client_sent(mqtt5_client *h, size_t count);
 
-/* Asks for a publish of QoS 0, 1 or 2. After a refusal, as of one that the broker's limit doesn't let pass (9), the client
-   is as before. */
+/* Asks for a publish of QoS 0, 1 or 2. The topic is empty only where a topic alias of the list stands for it. After a
+   refusal, as of one that the broker's limit doesn't let pass (9), the client is as before. */
 uint32_t mqtt5_client_publish(mqtt5_client *h, const uint8_t *topic, size_t topic_len, const uint8_t *payload,
                               size_t payload_len, uint8_t qos, bool retain, uint64_t at);
 
@@ -257,7 +259,8 @@ uint32_t mqtt5_client_pubrec(mqtt5_client *h, uint16_t pkid, uint64_t at);
    is gone. */
 uint32_t mqtt5_client_ping(mqtt5_client *h, uint64_t at);
 
-/* Asks for a Disconnect, which ends the connection. */
+/* Asks for a Disconnect, which ends the connection. Nothing is sent behind it (MQTT 5.0 section 3.14.4): each later request
+   is answered by 13, until the next connect. */
 uint32_t mqtt5_client_disconnect(mqtt5_client *h, uint64_t at);
 
 /* Tells of the oldest event, copies topic and payload of a Publish that came, and takes the event out. */

@@ -8,7 +8,7 @@
 extern "C" {
 #endif
 
-/* The name of what a call answers: of 1 to 12 and of 100 + n those of docs/PROGRAM.md. */
+/* The name of what a call answers: of 1 to 13 and of 100 + n those of docs/PROGRAM.md. */
 static inline const char *mqtt5_error_name(uint32_t code) {
     switch (code) {
         case 0: return "Done";
@@ -24,6 +24,7 @@ static inline const char *mqtt5_error_name(uint32_t code) {
         case 10: return "ServerDisconnect";
         case 11: return "ConnFail";
         case 12: return "OutOfMemory";
+        case 13: return "Disconnected";
         case 101: return "InvalidConnectReturnCode";
         case 102: return "InvalidProtocol";
         case 103: return "InvalidProtocolLevel";

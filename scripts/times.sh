@@ -93,11 +93,11 @@ functions_in() {
 }
 
 # "some 20 minutes" or "10 to 40 minutes": what a program takes that is built of nothing by so many jobs, where scripts/first_builds
-# has it timed whole; timed more than once, from the least to the most. What wasn't timed as this is built is a wider range:
-# another program, by how many functions it has beside the one that was timed, other jobs, another processor, and a checkout
-# in which something was built, of which rt may have kept much.
+# has it timed whole on this processor, or else on any; timed more than once, from the least to the most. What wasn't timed as
+# this is built is a wider range: another program, by how many functions it has beside the one that was timed, other jobs,
+# another processor, and a checkout in which something was built, of which rt may have kept much.
 first_build_time() {
-    local program=$1 jobs=$2 tree=$3 timed its_jobs=0 processor='' low=0 high=0 minutes found on ours theirs name
+    local program=$1 jobs=$2 tree=$3 timed its_jobs=0 processor low=0 high=0 minutes found on ours theirs name
     local -a wanted
     order=()
     put_in_order "$program"
@@ -105,8 +105,11 @@ first_build_time() {
     timed=$(grep -o "^$program " "$here/scripts/first_builds" || grep -v -e '^#' "$here/scripts/first_builds")
     timed=${timed%% *}
     [ -n "$timed" ] || return 0
+    processor=$(processor_name)
+    grep -q "^$timed .* $processor\$" "$here/scripts/first_builds" || processor=''
     while read -r _ found minutes on; do
-        its_jobs=$found processor=$on
+        [ "${processor:-$on}" = "$on" ] || continue
+        its_jobs=$found
         [ "$low" != 0 ] && [ "$low" -le $((minutes * 60)) ] || low=$((minutes * 60))
         [ "$high" -ge $((minutes * 60)) ] || high=$((minutes * 60))
     done < <(grep "^$timed " "$here/scripts/first_builds")
@@ -120,7 +123,7 @@ first_build_time() {
         low=$((low * ours * 2 / theirs / 3)) high=$((high * ours * 4 / theirs / 3))
     fi
     if [ "$jobs" -lt "$its_jobs" ]; then high=$((high * its_jobs / jobs)); else low=$((low * its_jobs / jobs)); fi
-    if [ "$processor" != "$(processor_name)" ]; then low=$((low / 2)) high=$((high * 2)); fi
+    if [ -z "$processor" ]; then low=$((low / 2)) high=$((high * 2)); fi
     for name in "$tree"/crates/*/out; do
         [ ! -d "$name" ] || low=0
     done

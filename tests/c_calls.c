@@ -55,6 +55,7 @@ static int failures;
 #define CONNECT "\x10\x13\0\x04MQTT\x05\x02\0\x3c\x05\x11\0\0\x0e\x10\0\x01" "c"
 #define CONNACK "\x20\x03\0\0\0"
 #define CONNACK_WITH_SESSION "\x20\x03\x01\0\0"
+#define CONNACK_OF_FIVE_ALIASES "\x20\x06\0\0\x03\x22\0\x05"
 #define CONNACK_OF_EIGHT "\x20\x08\x01\0\x05\x27\0\0\0\x08"
 /* Server keep alive 10, client identifier z, reason r, user property k vw, maximum QoS 1. */
 #define CONNACK_WITH_PROPERTIES \
@@ -246,6 +247,21 @@ static void each_call(void) {
     EXPECT(mqtt5_client_disconnect(&h, 7), MQTT5_DONE);
     OUTPUT(&h, DISCONNECT);
     EVENT(&h, 2, 14, 0);
+
+    /* Nothing goes behind it (3.14.4), until the next connect. */
+    EXPECT(mqtt5_client_publish(&h, BYTES("a"), BYTES("x"), 0, false, 7), MQTT5_DISCONNECTED);
+    EXPECT(mqtt5_client_publish(&h, BYTES("a"), BYTES("x"), 1, false, 7), MQTT5_DISCONNECTED);
+    EXPECT(mqtt5_client_subscribe(&h, BYTES("a"), 0, 7), MQTT5_DISCONNECTED);
+    EXPECT(mqtt5_client_unsubscribe(&h, BYTES("a"), 7), MQTT5_DISCONNECTED);
+    EXPECT(mqtt5_client_ping(&h, 7), MQTT5_DISCONNECTED);
+    EXPECT(mqtt5_client_disconnect(&h, 7), MQTT5_DISCONNECTED);
+    OUTPUT(&h, "");
+    EVENT(&h, 0, 0, 0);
+    EXPECT(mqtt5_client_connect(&h, BYTES("c"), 60, true, 3600), MQTT5_DONE);
+    OUTPUT(&h, CONNECT);
+    EXPECT(mqtt5_client_publish(&h, BYTES("a"), BYTES("x"), 0, false, 8), MQTT5_DONE);
+    OUTPUT(&h, "\x30\x05\0\x01" "a" "\0" "x");
+    EVENT(&h, 2, 3, 0);
     EVENT(&h, 0, 0, 0);
     EXPECT(mqtt5_client_free(&h), MQTT5_DONE);
     EXPECT(blocks, 0);
@@ -374,6 +390,27 @@ static void properties_to_send(void) {
     EXPECT(mqtt5_client_forget(&h), MQTT5_DONE);
     EXPECT(mqtt5_client_connect(&h, BYTES("c"), 60, true, 3600), MQTT5_DONE);
     OUTPUT(&h, CONNECT);
+    EXPECT(mqtt5_client_free(&h), MQTT5_DONE);
+    EXPECT(blocks, 0);
+}
+
+/* An empty topic stands where a topic alias does (3.3.2.1, 3.3.2.3.4), and never in a will (4.7.3). */
+static void empty_topics(void) {
+    mqtt5_client h = {0};
+    EXPECT(mqtt5_client_new(&h, 10, false), MQTT5_DONE);
+    EXPECT(mqtt5_client_receive(&h, BYTES(CONNACK_OF_FIVE_ALIASES), 1), MQTT5_DONE);
+    EVENT(&h, 1, 2, 0);
+    EXPECT(mqtt5_client_publish(&h, BYTES(""), BYTES("x"), 0, false, 2), MQTT5_BAD_ARGUMENT);
+    EXPECT(mqtt5_client_add_number(&h, MQTT5_MESSAGE_EXPIRY_INTERVAL, 60), MQTT5_DONE);
+    EXPECT(mqtt5_client_publish(&h, BYTES(""), BYTES("x"), 1, false, 2), MQTT5_BAD_ARGUMENT);
+    EXPECT(mqtt5_client_set_will(&h, BYTES(""), BYTES("y"), 1, true), MQTT5_BAD_ARGUMENT);
+    OUTPUT(&h, "");
+    EXPECT(mqtt5_client_add_number(&h, MQTT5_TOPIC_ALIAS, 5), MQTT5_DONE);
+    EXPECT(mqtt5_client_publish(&h, BYTES("a"), BYTES("x"), 0, false, 2), MQTT5_DONE);
+    OUTPUT(&h, "\x30\x08\0\x01" "a" "\x03\x23\0\x05" "x");
+    EXPECT(mqtt5_client_add_number(&h, MQTT5_TOPIC_ALIAS, 5), MQTT5_DONE);
+    EXPECT(mqtt5_client_publish(&h, BYTES(""), BYTES("x"), 0, false, 2), MQTT5_DONE);
+    OUTPUT(&h, "\x30\x07\0\0\x03\x23\0\x05" "x");
     EXPECT(mqtt5_client_free(&h), MQTT5_DONE);
     EXPECT(blocks, 0);
 }
@@ -700,6 +737,7 @@ int main(void) {
     each_call();
     properties_that_came();
     properties_to_send();
+    empty_topics();
     several_filters();
     names_of_the_header();
     next_ids();

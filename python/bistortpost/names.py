@@ -50,7 +50,7 @@ REASONS = {
 # What the library answers (docs/C.md).
 _SESSION = (
     "InvalidState Unsolicited AwaitPingResp WrongPacket CollisionTimeout EmptySubscription Deserialization InvalidAlias "
-    "OutgoingPacketTooLarge ServerDisconnect ConnFail OutOfMemory"
+    "OutgoingPacketTooLarge ServerDisconnect ConnFail OutOfMemory Disconnected"
 )
 _PACKETS = (
     "InvalidConnectReturnCode InvalidProtocol InvalidProtocolLevel IncorrectPacketFormat InvalidPacketType "

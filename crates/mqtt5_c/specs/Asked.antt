@@ -1,5 +1,5 @@
 -- The requests of C's arguments, and what a call leaves that makes one.
-use Rattle.std.specs.Prelude.{◌≡◌, ◌<◌, ◌⊎◌, ℕ, Bool, false, List, [], ◌∷◌, Option, None}
+use Rattle.std.specs.Prelude.{◌≡◌, ◌<◌, ◌⊎◌, ℕ, ◌==◌, Bool, true, false, ◌&&◌, List, [], ◌∷◌, length, Option, None, is_none}
 use Rattle.mqtt5_base.specs.Texts.{Utf8}
 use Rattle.mqtt5_base.specs.Views.{qos_number}
 use Rattle.mqtt5_base.specs.declared.quality.QoS.{QoS}
@@ -20,6 +20,7 @@ use Rattle.mqtt5_subscribe.specs.declared.unsubscribe.UnsubscribeProperties.{Uns
 use Rattle.mqtt5_subscribe.specs.Unsubscribes.{unsubscribe_found}
 use Rattle.mqtt5_subscribe.specs.Rows.{subscribe_table, unsubscribe_table}
 use Rattle.mqtt5_properties.specs.Gathering.{gathered, IsSet}
+use Rattle.mqtt5_inflight.specs.Aliases.{alias_in}
 use Rattle.mqtt5_inflight.specs.declared.event.Request.{Request}
 use Rattle.mqtt5_inflight.specs.declared.event.Request.TheVariants as requests
 use Rattle.mqtt5_holder.specs.declared.holder.Holder.{Holder}
@@ -30,6 +31,15 @@ use Rattle.mqtt5_c.specs.Numbers.{bad_argument, out_of_memory}
 -- a topic that no publish has (MQTT 5.0 section 4.7), or a QoS above 2 (3.3.1.2)
 abbrev pub IsBadTopic : List ℕ → ℕ → Type 0
 IsBadTopic topic quality = ¬ (IsTopicName topic) ⊎ (2 < quality)
+
+-- whether a topic is empty, and no topic alias of these properties stands for it (3.3.2.1, 3.3.2.3.4)
+abbrev pub lacks_topic : List ℕ → Option PublishProperties → Bool
+lacks_topic topic set = is_none (alias_in set) && (length topic == 0)
+
+-- the same of the set that these properties give
+abbrev pub LacksTopic : List ℕ → List Property → Type 0
+LacksTopic topic properties =
+    (set : Option PublishProperties) × IsSet publish_found publish_table properties set × (lacks_topic topic set ≡ true)
 
 -- what is no topic filter (4.7), or a QoS above 2 (3.8.3.1)
 abbrev pub IsBadFilter : List ℕ → ℕ → Type 0
@@ -45,7 +55,7 @@ IsPlainPublish topic payload quality retain p =
 abbrev pub IsPublish : List ℕ → List ℕ → ℕ → Bool → List Property → Request → Type 0
 IsPublish topic payload quality retain properties request =
     IsTopicName topic × (p : Publish) × (set : Option PublishProperties) × IsPlainPublish topic payload quality retain p
-    × IsSet publish_found publish_table properties set × (request ≡ requests.Publish (record p { properties = set }))
+    × IsSet publish_found publish_table properties set × (lacks_topic topic set ≡ false) × (request ≡ requests.Publish (record p { properties = set }))
 
 -- a topic filter whose options but the QoS are 0 (3.8.3.1)
 abbrev pub plain_filter : Utf8 → QoS → Filter

@@ -1,5 +1,5 @@
 -- What a Connect of C's arguments leaves (MQTT 5.0 section 3.1).
-use Rattle.std.specs.Prelude.{◌≡◌, ◌<◌, ◌⊎◌, ℕ, Bool, List, [], Option, Some, None, Ok, IfErr, OnOk, OnErr, unwrap_or}
+use Rattle.std.specs.Prelude.{◌≡◌, ◌<◌, ◌≤◌, ◌⊎◌, ℕ, Bool, false, List, [], Option, Some, None, Ok, IfErr, OnOk, OnErr, unwrap_or}
 use Rattle.std.specs.Str.{IsUtf8}
 use Rattle.mqtt5_base.specs.Texts.{Utf8, text_of}
 use Rattle.mqtt5_base.specs.declared.property.Property.{Property}
@@ -29,12 +29,13 @@ settled client_id keep_alive clean_start session_expiry p settings = record sett
   connect_properties = Some (record p { session_expiry_interval = Some session_expiry });
 }
 
--- the output is the Connect, and the input is empty; or all is as before
+-- the output is the Connect, the input is empty, and no Disconnect was asked for yet; or all is as before
 abbrev pub Connects : Settings → Client → Outcome → Client → Type 0
 Connects settings old outcome new =
     OnOk outcome (packet_writing (connect_packet settings) ≡ Ok new.output.items)
     × OnOk outcome (new.input.items ≡ [])
     × OnOk outcome (new.codec ≡ opened settings old.codec)
+    × OnOk outcome (new.disconnected ≡ false)
     × (new.state ≡ old.state)
     × IfErr outcome (IsRefused (connect_packet settings))
     × OnErr outcome (new ≡ old)
@@ -46,9 +47,10 @@ pub record Begins (settles : Settings → Settings) (before : Option Holder) (co
       → (new : Client) × (outcome : Outcome) × (after ≡ Some (record old { client = new; settings = settles old.settings })) × (code ≡ code_of outcome)
       × Connects (settles old.settings) old.client outcome new
 
--- A call is declined, and the handle is as before; or the Connect has these properties, and it is begun.
+-- A call is declined, and the handle is as before; or its arguments are none of the bad ones, the Connect has these properties, and it
+-- is begun.
 pub data Connected (Bad : Type 0) (client_id : List ℕ) (keep_alive : ℕ) (clean_start : Bool) (session_expiry : ℕ) (properties : List Property) (before : Option Holder) (code : ℕ) (after : Option Holder) : Type 0 where
   Declined : IsDeclined Bad code → after ≡ before → Connected Bad client_id keep_alive clean_start session_expiry properties before code after
-  Put : (set : Option ConnectProperties) → IsSet connect_found connect_table properties set
+  Put : IsUtf8 client_id → 5 ≤ keep_alive → (set : Option ConnectProperties) → IsSet connect_found connect_table properties set
       → Begins (settled (text_of client_id) keep_alive clean_start session_expiry (unwrap_or set no_properties)) before code after
       → Connected Bad client_id keep_alive clean_start session_expiry properties before code after

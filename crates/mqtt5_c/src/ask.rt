@@ -2,7 +2,7 @@
 
 ghost use Rattle.std.specs.Prelude.{◌≡◌, ◌⊎◌, IsOk, IfOk, IfErr};
 ghost use Rattle.mqtt5_inflight.specs.declared.event.Request.TheVariants as requests;
-ghost use Rattle.mqtt5_c.specs.Asked.{IsBadTopic, IsBadFilter, IsPlainPublish, IsPublish, IsPlainSubscribe, IsSubscribe, IsPlainUnsubscribe, IsUnsubscribe, CantHave, puback_of, pubrec_of, Asked, IsDeclined};
+ghost use Rattle.mqtt5_c.specs.Asked.{IsBadTopic, lacks_topic, LacksTopic, IsBadFilter, IsPlainPublish, IsPublish, IsPlainSubscribe, IsSubscribe, IsPlainUnsubscribe, IsUnsubscribe, CantHave, puback_of, pubrec_of, Asked, IsDeclined};
 ghost use Rattle.mqtt5_c.specs.Calls.{Called, Asks};
 ghost use Rattle.mqtt5_c.specs.Handles.{IsKept};
 ghost use Rattle.mqtt5_c.specs.Properties.{properties_in, emptied};
@@ -65,6 +65,16 @@ fn publish_of(
     Ok(publish)
 }
 
+/// Whether a topic is empty, and no topic alias of these properties stands for it.
+fn lacks_topic(topic: &[u8], set: &Option<PublishProperties>) -> bool
+    ensures { result ≡ lacks_topic topic.now set.now }
+{
+    match set {
+        Some(set) => set.topic_alias.is_none() && topic.is_empty(),
+        None => topic.is_empty(),
+    }
+}
+
 /// The request of a Publish with these properties.
 fn publish_request(mut publish: Publish, set: Option<PublishProperties>) -> Request
     ensures { result ≡ Request.Publish (record publish { properties = set }) }
@@ -83,13 +93,17 @@ fn publish_with(
     properties: Sequence<Property>,
 ) -> Result<Request, u32>
     ensures ok { IfOk result (IsPublish topic.now payload.now quality retain properties) }
-    ensures err { IfErr result (IsDeclined (IsBadTopic topic.now quality ⊎ CantHave publish_table
-        properties)) }
+    ensures err { IfErr result (IsDeclined (IsBadTopic topic.now quality
+        ⊎ (CantHave publish_table properties ⊎ LacksTopic topic.now properties))) }
 {
     let set = match gather(alloc, properties) {
         Ok(set) => set,
         Err(code) => return Err(code),
     };
+    if lacks_topic(topic, &set) {
+        drop(set);
+        return Err(BAD_ARGUMENT);
+    }
     match publish_of(alloc, topic, payload, quality, retain) {
         Ok(publish) => Ok(publish_request(publish, set)),
         Err(code) => Err(code),
@@ -190,8 +204,8 @@ fn unsubscribe_with(
 }
 
 /// Asks for a publish under the next packet identifier, at a moment. 0; 1, 7 and so on as of `Client::request`; 201 of
-/// a topic that isn't UTF-8 or a QoS above 2, and 12 where memory is refused before the client is asked: the handle is
-/// then as before.
+/// what is no topic, of an empty one without a topic alias in the list, of a QoS above 2 and of a property that a publish
+/// can't have, and 12 where memory is refused before the client is asked: the handle is then as before.
 #[unsafe(no_mangle)]
 pub extern "C" fn mqtt5_client_publish(
     alloc: Global,
@@ -205,7 +219,8 @@ pub extern "C" fn mqtt5_client_publish(
     requires { IsKept h.old }
     ensures kept { IsKept h.new }
     ensures answer { Asked (IsBadTopic topic.now qos
-        ⊎ CantHave publish_table (properties_in h.old.client_ptr.value))
+        ⊎ (CantHave publish_table (properties_in h.old.client_ptr.value)
+        ⊎ LacksTopic topic.now (properties_in h.old.client_ptr.value)))
         (IsPublish topic.now payload.now qos retain (properties_in h.old.client_ptr.value)) at
         (emptied h.old.client_ptr.value) result h.new.client_ptr.value }
 {
@@ -294,7 +309,8 @@ pub extern "C" fn mqtt5_client_ping(alloc: Global, h: &mut Handle, at: u64) -> u
     ask(alloc, h, Request::PingReq, at)
 }
 
-/// Asks for a Disconnect, which ends the connection, at a moment.
+/// Asks for a Disconnect, which ends the connection, at a moment. Each later request is answered by 13 until
+/// `mqtt5_client_connect`.
 #[unsafe(no_mangle)]
 pub extern "C" fn mqtt5_client_disconnect(alloc: Global, h: &mut Handle, at: u64) -> u32
     requires { IsKept h.old }

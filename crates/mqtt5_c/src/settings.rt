@@ -2,15 +2,15 @@
 
 ghost use Rattle.std.specs.Prelude.{◌≡◌, ◌⊎◌, IfOk, IfErr};
 ghost use Rattle.mqtt5_connect.specs.Rows.{will_table};
-ghost use Rattle.mqtt5_c.specs.Asked.{CantHave, IsBadTopic, IsDeclined};
+ghost use Rattle.mqtt5_c.specs.Asked.{CantHave, IsDeclined};
 ghost use Rattle.mqtt5_c.specs.Handles.{IsKept};
 ghost use Rattle.mqtt5_c.specs.Properties.{properties_in, emptied};
-ghost use Rattle.mqtt5_c.specs.Settings.{Sets, with_login, with_will, IsWill, LoginSet, WillSet, Forgot, Forgets};
+ghost use Rattle.mqtt5_c.specs.Settings.{Sets, with_login, with_will, IsBadWill, IsWill, LoginSet, WillSet, Forgot, Forgets};
 
 use crate::handle::{Handle, put, take};
 use crate::number::{BAD_ARGUMENT, NO_CLIENT, OUT_OF_MEMORY};
 use crate::properties::{gather, take_properties};
-use crate::topic::topic_name;
+use crate::topic::nonempty_topic;
 use bytes::Bytes;
 use mqtt5_base::{Sequence, qos};
 use mqtt5_connect::{LastWill, LastWillProperties};
@@ -68,9 +68,9 @@ fn will_of(
     retain: bool,
 ) -> Result<LastWill, u32>
     ensures ok { IfOk result (IsWill topic.now payload.now quality retain) }
-    ensures err { IfErr result (IsDeclined (IsBadTopic topic.now quality)) }
+    ensures err { IfErr result (IsDeclined (IsBadWill topic.now quality)) }
 {
-    let Some(topic) = topic_name(topic) else {
+    let Some(topic) = nonempty_topic(topic) else {
         return Err(BAD_ARGUMENT);
     };
     let Some(qos) = qos(quality) else {
@@ -114,8 +114,8 @@ fn keep_will(alloc: Global, h: &mut Handle, will: LastWill) -> u32
     0
 }
 
-/// Sets the will of each later Connect, with the properties of the list, which is emptied. 0; 201 of a topic that isn't
-/// UTF-8, a QoS above 2 or a property that a will can't have, and 12: the will is then as before.
+/// Sets the will of each later Connect, with the properties of the list, which is emptied. 0; 201 of what is no topic or is
+/// empty, of a QoS above 2 and of a property that a will can't have, and 12: the will is then as before.
 #[unsafe(no_mangle)]
 pub extern "C" fn mqtt5_client_set_will(
     alloc: Global,
@@ -127,7 +127,7 @@ pub extern "C" fn mqtt5_client_set_will(
 ) -> u32
     requires { IsKept h.old }
     ensures kept { IsKept h.new }
-    ensures answer { WillSet (IsBadTopic topic.now qos
+    ensures answer { WillSet (IsBadWill topic.now qos
         ⊎ CantHave will_table (properties_in h.old.client_ptr.value))
         (IsWill topic.now payload.now qos retain) (properties_in h.old.client_ptr.value)
         (emptied h.old.client_ptr.value) result h.new.client_ptr.value }

@@ -28,6 +28,17 @@ pub(crate) fn topic_name(bytes: &[u8]) -> Option<&str>
     }
 }
 
+/// A topic without wildcards that isn't empty.
+pub(crate) fn nonempty_topic(bytes: &[u8]) -> Option<&str>
+    ensures some { IfSome result (λ t. (t.now ≡ bytes.now) × IsTopic bytes.now) }
+    ensures none { IsNone result → ¬ (IsTopic bytes.now) }
+{
+    let Some(text) = topic_name(bytes) else {
+        return None;
+    };
+    if text.is_empty() { None } else { Some(text) }
+}
+
 /// A topic filter.
 pub(crate) fn topic_filter(bytes: &[u8]) -> Option<&str>
     ensures some { IfSome result (λ t. (t.now ≡ bytes.now) × IsTopicFilter bytes.now) }
@@ -50,8 +61,8 @@ pub extern "C" fn mqtt5_valid_topic(topic: &[u8]) -> bool
     ensures yes { result ≡ true → IsTopic topic.now }
     ensures no { result ≡ false → ¬ (IsTopic topic.now) }
 {
-    match topic_name(topic) {
-        Some(topic) => !topic.is_empty(),
+    match nonempty_topic(topic) {
+        Some(_topic) => true,
         None => false,
     }
 }

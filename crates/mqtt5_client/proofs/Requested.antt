@@ -1,7 +1,8 @@
 -- A request is sent as the packet that was judged; and what a request leaves of a client.
 use Rattle.std.proofs.Common.{◌≡◌, ◌≢◌, ℕ, Bool, true, false, cond, ◌==◌, List, [], ◌∷◌, ◌++◌, length, take, Option, Some, None, Result, Ok, Err, refl, sym, ap, subst, ◌∙◌, inl, inr, ◌⊎◌, append-nil, nat_lt}
+use Rattle.std.proofs.Math.Bool.{or-false}
 use Rattle.std.proofs.Math.Seq.{take-append_seam}
-use Rattle.std.specs.Prelude.{OnOk, OnErr, IfErr, IsOk, T}
+use Rattle.std.specs.Prelude.{OnOk, OnErr, IfErr, IsOk, T, ◌||◌}
 use Rattle.std.specs.FinMap.{get}
 use Rattle.mqtt5_base.specs.declared.error.Error.{Error}
 use Rattle.mqtt5_base.specs.declared.error.Error.TheVariants as errors
@@ -22,10 +23,11 @@ use Rattle.mqtt5_inflight.specs.declared.error.StateError.TheVariants as faults
 use Rattle.mqtt5_session.specs.Session.{Session, Answer, Sends}
 use Rattle.mqtt5_session.specs.Requests.{on_request, unless, over_maximum, judged, Verdict, Refuse, Wait, Store, out_acked, out_publish, out_release, out_known, release_of, id_for, last_after, counts_ping, ping_fault}
 use Rattle.mqtt5_session.proofs.Owed.{choose}
+use Rattle.mqtt5_drive.specs.declared.run.Input.TheVariants as inputs
 use Rattle.mqtt5_drive.specs.Trace.{Waits, Holds, finish}
 use Rattle.mqtt5_drive.specs.Run.{reply_bytes, on_answer, on_written, run}
 use Rattle.mqtt5_client.specs.declared.client.Client.{Client}
-use Rattle.mqtt5_client.specs.Client.{IsReady, asking, Runs}
+use Rattle.mqtt5_client.specs.Client.{IsReady, asking, disconnects, is_disconnected, Runs}
 use Rattle.mqtt5_client.specs.Asked.{id_asked, packet_asked, bytes_asked, Declines, Takes}
 use Rattle.mqtt5_client.specs.Handed.{HandsOn}
 
@@ -165,20 +167,28 @@ refused_takes f codec request at s o u w = (w.0, inl (refl, by w.1))
     by (inl memory) = inl (ap state_error memory.0)
     by (inr refused) = inr (f, refused, refl)
 
+-- where no Disconnect was asked for before, the request alone says whether one is
+pub over_by : (before now : Bool) (request : Request) → now ≡ disconnects (inputs.Request request) → before ≡ false
+    → now ≡ (disconnects (inputs.Request request) || before)
+over_by before now request is none =
+    is ∙ sym (ap (λ (b : Bool). disconnects (inputs.Request request) || b) none ∙ or-false (disconnects (inputs.Request request)))
+
 -- one that is taken is one move of the run
 pub taken_runs : (result : Result Unit StateError) (old new : Client) (request : Request) (at : ℕ)
-    → Takes result old.codec request at old.state old.output.items new.state new.output.items → new.input.items ≡ old.input.items → IsReady new
+    → Takes result old.codec request at old.state old.output.items new.state new.output.items → new.input.items ≡ old.input.items
+    → new.disconnected ≡ is_disconnected old.disconnected (asking at request ∷ []) → IsReady new
     → OnOk result (Runs old (asking at request ∷ []) [] new)
 unfolding run
-taken_runs (Ok done) old new request at h input ready = record {
+taken_runs (Ok done) old new request at h input over ready = record {
   all =
       ap (λ (a : Answer). finish old.state old.output.items (on_answer old.codec a (λ t. Waits old.input.items))) h.2
       ∙ ap (λ (b : Result (List ℕ) Error). finish old.state old.output.items (on_written new.state b (λ t. Waits old.input.items))) h.3
       ∙ ap (λ (u : List ℕ). record { session = new.state; output = u; ending = Holds old.input.items }) (sym h.4)
       ∙ ap (λ (held : List ℕ). record { session = new.state; output = new.output.items; ending = Holds held }) (sym input);
   ready = ready;
+  over = over;
 }
-taken_runs (Err e) old new request at h input ready = tt
+taken_runs (Err e) old new request at h input over ready = tt
 
 pub taken_writable : (result : Result Unit StateError) (codec : Codec) (request : Request) (at : ℕ) (s t : Session) (o u : List ℕ) → Takes result codec request at s o t u → IsOk result → IsOk (bytes_asked codec s.core request)
 taken_writable (Ok done) codec request at s t o u h = λ _. h.5

@@ -1,5 +1,5 @@
 -- Bytes that stand in the input are taken as a piece is.
-use Rattle.std.proofs.Common.{◌≡◌, ℕ, List, [], ◌∷◌, ◌++◌, sym, subst}
+use Rattle.std.proofs.Common.{◌≡◌, ℕ, List, [], ◌∷◌, ◌++◌, sym, ap, ◌∙◌, subst}
 use Rattle.mqtt5_base.specs.Front.{NeedsMore}
 use Rattle.mqtt5_base.specs.FrontAt.{front}
 use Rattle.mqtt5_inflight.specs.declared.error.StateError.{StateError}
@@ -14,10 +14,11 @@ module _ (before fed new : Client) (at : ℕ) (came : List ℕ) (put : Fed befor
 
   pub taken_as_piece : ((held bytes : List ℕ) → fed.input.items ≡ held ++ bytes → NeedsMore (front fed.codec.max_incoming_size held)
       → finish fed.state fed.output.items (run fed.codec (turns (piece at bytes ∷ [])) fed.state held) ≡ record { session = new.state; output = new.output.items; ending = Holds new.input.items })
-      → IsReady new → Runs before (piece at came ∷ []) [] new
-  taken_as_piece h more = record {
+      → IsReady new → new.disconnected ≡ fed.disconnected → Runs before (piece at came ∷ []) [] new
+  taken_as_piece h more over = record {
     all = subst (λ (c : Client). finish c.state c.output.items (run c.codec (turns (piece at came ∷ [])) c.state before.input.items) ≡ record { session = new.state; output = new.output.items; ending = Holds new.input.items }) put.same (h before.input.items came put.grown ready);
     ready = more;
+    over = over ∙ ap (λ (c : Client). c.disconnected) put.same;
   }
 
   pub stopped_as_piece : (e : StateError) → ((held bytes : List ℕ) → fed.input.items ≡ held ++ bytes → NeedsMore (front fed.codec.max_incoming_size held)

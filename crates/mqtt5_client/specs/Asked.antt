@@ -1,6 +1,6 @@
 -- What a request is sent as, and what becomes of it: its packet is judged before the session takes it, so that what can't be
 -- written takes no packet identifier (MQTT 5.0 sections 2.2.1, 3.2.2.3.6 and 4.13).
-use Rattle.std.specs.Prelude.{◌≡◌, ℕ, ◌==◌, ◌⊎◌, List, ◌++◌, length, Option, Some, None, Result, Ok, Err, IsOk, if◌then◌else◌}
+use Rattle.std.specs.Prelude.{◌≡◌, ℕ, Bool, true, false, ◌==◌, ◌⊎◌, List, ◌++◌, length, Option, Some, None, Result, Ok, Err, IsOk, if◌then◌else◌}
 use Rattle.mqtt5_base.specs.declared.error.Error.{Error}
 use Rattle.mqtt5_base.specs.declared.quality.QoS.{QoS}
 use Rattle.mqtt5_base.specs.declared.quality.QoS.TheVariants.{AtMostOnce}
@@ -49,6 +49,12 @@ abbrev pub Declines : StateError → Codec → Request → ℕ → Session → S
 Declines e codec request at old new =
     ((new ≡ old) × ((e ≡ faults.OutOfMemory) ⊎ ((f : Error) × (bytes_asked codec old.core request ≡ Err f) × (e ≡ state_error f))))
     ⊎ (IsOk (bytes_asked codec old.core request) × (on_request old request at ≡ (Err e, new)))
+
+-- Why a client doesn't take a request, and its session then: a Disconnect was asked for before, behind which nothing may be sent
+-- (3.14.4), or the request is declined.
+abbrev pub NotAsked : Bool → StateError → Codec → Request → ℕ → Session → Session → Type 0
+NotAsked over e codec request at old new =
+    ((over ≡ true) × (e ≡ faults.Disconnected) × (new ≡ old)) ⊎ ((over ≡ false) × Declines e codec request at old new)
 
 -- A request is taken, and the bytes of the session's reply are put at the output's end; its packet can be written, also where
 -- it has to wait. Or it is declined, and the output is unchanged.

@@ -1,18 +1,19 @@
 //! A client between the bytes that come in and those that go out.
 
 ghost use Rattle.std.specs.Bool.{Decides};
-ghost use Rattle.std.specs.Prelude.{◌≡◌, ◌≢◌, ◌<◌, ◌⊎◌, ℕ, List, [], ◌∷◌, ◌++◌, length, take, drop, slice_get, Some, Ok, IsOk, IfOk, IfErr, OnOk, OnErr};
+ghost use Rattle.std.specs.Prelude.{◌≡◌, ◌≢◌, ◌<◌, ◌⊎◌, ℕ, true, false, List, [], ◌∷◌, ◌++◌, length, take, drop, slice_get, Some, Ok, IsOk, IfOk, IfErr, OnOk, OnErr};
 ghost use Rattle.mqtt5_base.specs.declared.error.Error.{Error};
 ghost use Rattle.mqtt5_codec.specs.Packets.{packet_writing};
 ghost use Rattle.mqtt5_inflight.specs.Errors.{state_error};
 ghost use Rattle.mqtt5_inflight.specs.declared.error.StateError.{StateError as Fault};
 ghost use Rattle.mqtt5_inflight.specs.declared.error.StateError.TheVariants as faults;
 ghost use Rattle.mqtt5_session.specs.Session.{fresh};
+ghost use Rattle.mqtt5_drive.specs.declared.run.Input.TheVariants as inputs;
 ghost use Rattle.mqtt5_drive.specs.declared.run.Step.{Step};
 ghost use Rattle.mqtt5_drive.specs.Run.{piece};
 ghost use Rattle.mqtt5_client.specs.declared.client.Client.{Client};
-ghost use Rattle.mqtt5_client.specs.Client.{IsReady, asking, Fed, Runs, Fails, no_limits, given_back};
-ghost use Rattle.mqtt5_client.specs.Asked.{bytes_asked, Declines};
+ghost use Rattle.mqtt5_client.specs.Client.{IsReady, asking, disconnects, Fed, Runs, Fails, no_limits, given_back};
+ghost use Rattle.mqtt5_client.specs.Asked.{bytes_asked, Declines, NotAsked};
 ghost use Rattle.mqtt5_drive.specs.Limit.{allowed};
 ghost use Rattle.mqtt5_client.specs.Connecting.{connect_packet, opened, IsRefused};
 ghost use Rattle.mqtt5_client.specs.Again.{SendsAgain, Refuses};
@@ -41,6 +42,8 @@ pub struct Client {
     pub input: BytesMut,
     /// What isn't sent yet.
     pub output: BytesMut,
+    /// Whether a Disconnect was asked for on this connection, behind which nothing is (3.14.4).
+    pub disconnected: bool,
 }
 
 impl Client {
@@ -52,6 +55,7 @@ impl Client {
         ensures state { IfOk result (λ c. c.state ≡ fresh limit manual_acks) }
         ensures codec { IfOk result (λ c. c.codec ≡ no_limits) }
         ensures empty { IfOk result (λ c. (c.input.items ≡ []) × (c.output.items ≡ [])) }
+        ensures over { IfOk result (λ c. c.disconnected ≡ false) }
         ensures ready { IfOk result IsReady }
     {
         let state = MqttState::new(alloc, limit, manual_acks)?;
@@ -61,11 +65,12 @@ impl Client {
             codec: Codec::new(),
             input: BytesMut::new(alloc),
             output: BytesMut::new(alloc),
+            disconnected: false,
         })
     }
 
     /// Begins a connection: the input is emptied, the output is the Connect of these settings, with will and login,
-    /// and nothing of an earlier connection; no limit on what is sent holds until the ConnAck says one, and what
+    /// and nothing of an earlier connection, nor a Disconnect of it is remembered; no limit on what is sent holds until the ConnAck says one, and what
     /// comes in is limited by the settings' `max_packet_size`, where it is set. S7 where the Connect can't be
     /// written (E11); S12. After an Err the client is unchanged.
     pub fn connect(&mut self, options: &MqttOptions) -> Result<(), StateError>
@@ -74,6 +79,7 @@ impl Client {
         ensures input { OnOk result (self.new.input.items ≡ []) }
         ensures codec { OnOk result (self.new.codec ≡ opened options.now self.old.codec) }
         ensures state { self.new.state ≡ self.old.state }
+        ensures over { OnOk result (self.new.disconnected ≡ false) }
         // So bytes may be received.
         ensures ready { OnOk result (IsReady self.new) }
         ensures err { IfErr result (λ e. IsRefused (connect_packet options.now) e) }
@@ -86,6 +92,7 @@ impl Client {
             max_outgoing_size: None,
         };
         self.output = frame;
+        self.disconnected = false;
         self.input.clear();
         empty_needs_more();
         Ok(())
@@ -104,6 +111,7 @@ impl Client {
         ensures codec { self.new.codec
             ≡ allowed (drop (length self.old.state.events) self.new.state.events) self.old.codec }
         ensures lost { OnErr result (self.new.input.items ≡ []) }
+        ensures over { self.new.disconnected ≡ self.old.disconnected }
         // So another call may follow.
         ensures ready { IsReady self.new }
     {
@@ -125,6 +133,7 @@ impl Client {
             → Fails e before (piece at came ∷ []) [] self.new) }
         ensures codec { self.new.codec ≡ self.old.codec }
         ensures lost { OnErr result (self.new.input.items ≡ []) }
+        ensures over { self.new.disconnected ≡ self.old.disconnected }
         // So another call may follow.
         ensures ready { IsReady self.new }
     {
@@ -165,8 +174,8 @@ impl Client {
 
     /// Takes a request at a moment: what is to be sent goes to the end of the output. S7 where its packet can't be
     /// written and S9 where that is over the broker's limit, also of a publish that would have to wait; S1 to S3, S5,
-    /// S6 and S8 as of the session; S12. After each of them the client is unchanged, but that a refused ping is
-    /// counted while a publish waits, and the connection goes on.
+    /// S6 and S8 as of the session; S12; S13 once a Disconnect was asked for, until `connect`. After each of them the
+    /// client is unchanged, but that a refused ping is counted while a publish waits, and the connection goes on.
     pub fn request(&mut self, request: Request, at: u64) -> Result<(), StateError>
         requires { IsReady self.old }
         // Session and output are the run's.
@@ -174,17 +183,25 @@ impl Client {
         // What is taken can be written, also where it has to wait for its id.
         ensures writable { IsOk result
             → IsOk (bytes_asked self.old.codec self.old.state.core request) }
+        // Nothing goes behind a Disconnect.
+        ensures connected { IsOk result → self.old.disconnected ≡ false }
         ensures err { IfErr result (λ e.
-            Declines e self.old.codec request at self.old.state self.new.state) }
+            NotAsked self.old.disconnected e self.old.codec request at self.old.state
+            self.new.state) }
         ensures unchanged { OnErr result
             (request ≢ Request.PingReq → self.new.state ≡ self.old.state) }
         ensures unsent { OnErr result (self.new.output.items ≡ self.old.output.items) }
+        ensures over { OnErr result (self.new.disconnected ≡ self.old.disconnected) }
         ensures kept { (self.new.input.items ≡ self.old.input.items)
             × (self.new.codec ≡ self.old.codec) }
         // So another call may follow.
         ensures ready { IsReady self.new }
     {
-        send_request(&mut self.state, &self.codec, &mut self.output, request, at)
+        if self.disconnected {
+            drop(request);
+            return Err(StateError::Disconnected);
+        }
+        self.ask(request, at)
     }
 
     /// What is to be sent, the oldest byte first. Takes no memory.
@@ -200,6 +217,7 @@ impl Client {
         ensures left { self.new.output.items ≡ drop count self.old.output.items }
         ensures kept { (self.new.state ≡ self.old.state) × (self.new.codec ≡ self.old.codec)
             × (self.new.input.items ≡ self.old.input.items) }
+        ensures over { self.new.disconnected ≡ self.old.disconnected }
         // What was sent and what is left are the run's output.
         ensures run { IsReady self.old
             → Runs self.old [] (take count self.old.output.items) self.new }
@@ -230,6 +248,7 @@ impl Client {
         ensures unsent { OnErr result (self.new.output.items ≡ self.old.output.items) }
         ensures kept { (self.new.input.items ≡ self.old.input.items)
             × (self.new.codec ≡ self.old.codec) }
+        ensures over { self.new.disconnected ≡ self.old.disconnected }
         ensures ready { IsReady self.old → IsReady self.new }
     {
         let alloc = *self.input.allocator();
@@ -241,14 +260,15 @@ impl Client {
 
     /// Ends the session, for a connection with clean start: answers what awaits an ack, publishes with `dup` and
     /// then releases, each by rising id, and the publish that waits for its id; the client is as a new one of its
-    /// limit on ids, with its limits on packets. S1 where an event isn't taken out; S12. After an Err the client
-    /// is unchanged.
+    /// limit on ids, with its limits on packets, and where it was asked for a Disconnect it waits for `connect` as before.
+    /// S1 where an event isn't taken out; S12. After an Err the client is unchanged.
     pub fn clean(&mut self) -> Result<Vec<Request>, StateError>
         ensures ok { IfOk result (λ v. v.items ≡ given_back self.old.state.core) }
         ensures state { OnOk result (self.new.state
             ≡ fresh self.old.state.core.limit self.old.state.core.manual_acks) }
         ensures empty { OnOk result ((self.new.input.items ≡ []) × (self.new.output.items ≡ [])) }
         ensures codec { self.new.codec ≡ self.old.codec }
+        ensures over { self.new.disconnected ≡ self.old.disconnected }
         // So bytes may be received.
         ensures ready { OnOk result (IsReady self.new) }
         ensures err { IfErr result (λ e. (e ≡ faults.OutOfMemory) ⊎ (e ≡ faults.InvalidState)) }
@@ -267,6 +287,33 @@ impl Client {
         Ok(requests)
     }
 
+    /// Takes a request where nothing was asked for that ends the connection.
+    fn ask(&mut self, request: Request, at: u64) -> Result<(), StateError>
+        requires ready { IsReady self.old }
+        requires over { self.old.disconnected ≡ false }
+        ensures ok { OnOk result (Runs self.old (asking at request ∷ []) [] self.new) }
+        ensures writable { IsOk result
+            → IsOk (bytes_asked self.old.codec self.old.state.core request) }
+        ensures err { IfErr result (λ e.
+            Declines e self.old.codec request at self.old.state self.new.state) }
+        ensures unchanged { OnErr result
+            (request ≢ Request.PingReq → self.new.state ≡ self.old.state) }
+        ensures unsent { OnErr result (self.new.output.items ≡ self.old.output.items) }
+        ensures over { OnErr result (self.new.disconnected ≡ self.old.disconnected) }
+        ensures kept { (self.new.input.items ≡ self.old.input.items)
+            × (self.new.codec ≡ self.old.codec) }
+        ensures ready { IsReady self.new }
+    {
+        let disconnects = is_disconnect(&request);
+        match send_request(&mut self.state, &self.codec, &mut self.output, request, at) {
+            Ok(()) => {
+                self.disconnected = disconnects;
+                Ok(())
+            }
+            Err(refused) => Err(refused),
+        }
+    }
+
     /// Runs one piece. After a fault the input is empty.
     fn receive_bytes(&mut self, bytes: &[u8], at: u64) -> Result<(), StateError>
         requires { IsReady self.old }
@@ -274,6 +321,7 @@ impl Client {
         ensures err { IfErr result (λ e. Fails e self.old (piece at bytes.now ∷ []) [] self.new) }
         ensures codec { self.new.codec ≡ self.old.codec }
         ensures lost { OnErr result (self.new.input.items ≡ []) }
+        ensures over { self.new.disconnected ≡ self.old.disconnected }
         ensures ready { IsReady self.new }
     {
         match self.run(bytes, at) {
@@ -291,6 +339,7 @@ impl Client {
         ensures ok { OnOk result (Runs self.old (piece at bytes.now ∷ []) [] self.new) }
         ensures err { IfErr result (λ e. Fails e self.old (piece at bytes.now ∷ []) [] self.new) }
         ensures codec { self.new.codec ≡ self.old.codec }
+        ensures over { self.new.disconnected ≡ self.old.disconnected }
     {
         let alloc = *self.input.allocator();
         take_piece(
@@ -303,6 +352,13 @@ impl Client {
             at,
         )
     }
+}
+
+/// Whether a request is a Disconnect.
+fn is_disconnect(request: &Request) -> bool
+    ensures { result ≡ disconnects (inputs.Request request.now) }
+{
+    matches!(request, Request::Disconnect)
 }
 
 /// A new session with an old one's limit on ids.

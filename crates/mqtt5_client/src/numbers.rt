@@ -14,7 +14,7 @@ pub fn error_number(error: &Error) -> u8
     error.number()
 }
 
-/// The number of a fault of a session, n of Sn: 1 to 12; 0 of one that is never answered. Why a frame can't be
+/// The number of a fault of a session, n of Sn: 1 to 13; 0 of one that is never answered. Why a frame can't be
 /// read or a packet can't be written (7) has a number of its own, of `error_number`. Takes no memory.
 pub fn state_error_number(fault: &StateError) -> u8
     ensures { result ≡ state_error_number fault.now }

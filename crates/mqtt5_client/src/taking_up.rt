@@ -200,6 +200,7 @@ impl Client {
         ensures unsent { OnErr result (self.new.output.items ≡ self.old.output.items) }
         ensures input { self.new.input.items ≡ self.old.input.items }
         ensures codec { self.new.codec ≡ self.old.codec }
+        ensures over { self.new.disconnected ≡ self.old.disconnected }
         // So bytes may be received.
         ensures ready { IsReady self.old → IsReady self.new }
     {
@@ -218,6 +219,7 @@ impl Client {
         ensures unchanged { OnErr result (self.new.state ≡ self.old.state) }
         ensures unsent { OnErr result (self.new.output.items ≡ self.old.output.items) }
         ensures kept { (self.new.input ≡ self.old.input) × (self.new.codec ≡ self.old.codec) }
+        ensures over { self.new.disconnected ≡ self.old.disconnected }
     {
         let alloc = *self.input.allocator();
         let requests = self.state.unacked()?;
@@ -237,6 +239,7 @@ impl Client {
         ensures unchanged { OnErr result (self.new.state ≡ self.old.state) }
         ensures unsent { OnErr result (self.new.output.items ≡ self.old.output.items) }
         ensures kept { (self.new.input ≡ self.old.input) × (self.new.codec ≡ self.old.codec) }
+        ensures over { self.new.disconnected ≡ self.old.disconnected }
     {
         if !self.state.events().is_empty() {
             return Err(StateError::InvalidState);

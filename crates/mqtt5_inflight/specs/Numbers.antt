@@ -17,4 +17,5 @@ state_error_number (faults.OutgoingPacketTooLarge pkt_size max) = 9
 state_error_number (faults.ServerDisconnect code reason) = 10
 state_error_number (faults.ConnFail code) = 11
 state_error_number faults.OutOfMemory = 12
+state_error_number faults.Disconnected = 13
 state_error_number other = 0

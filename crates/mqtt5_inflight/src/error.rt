@@ -74,12 +74,15 @@ pub enum StateError {
     /// S12: memory that was asked for was refused.
     #[error("Out of memory")]
     OutOfMemory,
+    /// S13: a request behind a Disconnect, which ends what a client sends on a connection.
+    #[error("Disconnect was sent")]
+    Disconnected,
 }
 
 impl StateError {
     ghost use Rattle.mqtt5_inflight.specs.Numbers.{state_error_number};
 
-    /// Its number, n of Sn: 1 to 12; 0 of one that is never answered. Why a frame can't be read or a packet can't
+    /// Its number, n of Sn: 1 to 13; 0 of one that is never answered. Why a frame can't be read or a packet can't
     /// be written (7) has a number of its own. Takes no memory.
     pub fn number(&self) -> u8
         ensures { result ≡ state_error_number self.now }
@@ -97,6 +100,7 @@ impl StateError {
             StateError::ServerDisconnect { .. } => 10,
             StateError::ConnFail { .. } => 11,
             StateError::OutOfMemory => 12,
+            StateError::Disconnected => 13,
             StateError::Io
             | StateError::Coversion
             | StateError::IncomingPacketTooLarge { .. }

@@ -25,6 +25,7 @@ module _ (p r : Client) (at : ℕ) (a b : List ℕ) (sent : List ℕ) where
   as_one_runs h = record {
     all = ap (λ (ts : List Turn). finish p.state p.output.items (run p.codec ts p.state p.input.items)) (sym (two_pieces at a b)) ∙ h.all;
     ready = h.ready;
+    over = h.over;
   }
 
   as_one_fails : (e : StateError) → Fails e p (piece at a ∷ piece at b ∷ []) sent r → Fails e p (piece at (a ++ b) ∷ []) sent r
@@ -47,13 +48,13 @@ module _ (p q r : Client) (at : ℕ) (a b : List ℕ) (sent more : List ℕ) (ra
 -- nothing came, and at most room was made for it
 pub at_start : (p : Client) (at : ℕ) (input : Filled) → input.items ≡ p.input.items → IsReady p → Runs p (piece at [] ∷ []) [] (record p { input = input })
 unfolding run
-at_start p at input same ready = record { all = rw same refl; ready = rw same ready }
+at_start p at input same ready = record { all = rw same refl; ready = rw same ready; over = refl }
 
 -- a limit that is taken after a call
 pub limited : {T : Type 0} (result : Result T PipeError) (p q : Client) (events : List Event) (steps : List Step) (sent : List ℕ) → Leaves result p steps sent q
     → Leaves result p steps sent (record q { codec = allowed events q.codec })
-limited (Ok x) p q events steps sent h = (record { all = h.0.all; ready = h.0.ready }, h.1)
-limited (Err (Read error)) p q events steps sent h = record { all = h.all; ready = h.ready }
-limited (Err (Write error)) p q events steps sent h = record { all = h.all; ready = h.ready }
+limited (Ok x) p q events steps sent h = (record { all = h.0.all; ready = h.0.ready; over = h.0.over }, h.1)
+limited (Err (Read error)) p q events steps sent h = record { all = h.all; ready = h.ready; over = h.over }
+limited (Err (Write error)) p q events steps sent h = record { all = h.all; ready = h.ready; over = h.over }
 limited (Err (OfSession e)) p q events steps sent h = h
 limited (Err (Unanswered e error)) p q events steps sent h = h

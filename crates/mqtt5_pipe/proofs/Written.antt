@@ -12,11 +12,12 @@ use Rattle.mqtt5_pipe.specs.Pipe.{Leaves}
 use Rattle.mqtt5_pipe.specs.Ends.{ends}
 
 -- what is written goes from the output to sent
-module _ (old mid new : Client) (steps : List Step) (sent : List ℕ) (state : new.state ≡ mid.state) (codec : new.codec ≡ mid.codec) (input : new.input ≡ mid.input) (output : mid.output.items ≡ sent ++ new.output.items) where
+module _ (old mid new : Client) (steps : List Step) (sent : List ℕ) (state : new.state ≡ mid.state) (codec : new.codec ≡ mid.codec) (input : new.input ≡ mid.input) (over : new.disconnected ≡ mid.disconnected) (output : mid.output.items ≡ sent ++ new.output.items) where
   wrote_runs : Runs old steps [] mid → Runs old steps sent new
   wrote_runs h = record {
     all = rw (state, input, ← output) h.all;
     ready = rw (codec, input) h.ready;
+    over = over ∙ h.over;
   }
 
   wrote_fails : (e : StateError) → Fails e old steps [] mid → Fails e old steps sent new

@@ -1,6 +1,6 @@
 -- A talk with a broker: turns and requests of a client, one after another, between which the user takes events out (MQTT 5.0
 -- section 4.2).
-use Rattle.std.specs.Prelude.{◌≡◌, ◌⊎◌, ℕ, List, [], ◌∷◌, ◌++◌, length, drop, Option, Ok}
+use Rattle.std.specs.Prelude.{◌≡◌, ◌⊎◌, ℕ, false, List, [], ◌∷◌, ◌++◌, length, drop, Option, Ok}
 use Rattle.std.specs.Io.KnownBytes.{Appends, Consumes}
 use Rattle.mqtt5_codec.specs.declared.packet.Packet.{Packet}
 use Rattle.mqtt5_codec.specs.Packets.{writing_under}
@@ -10,7 +10,7 @@ use Rattle.mqtt5_drive.specs.Run.{piece}
 use Rattle.mqtt5_drive.specs.Limit.{allowed}
 use Rattle.mqtt5_client.specs.declared.client.Client.{Client}
 use Rattle.mqtt5_client.specs.Client.{asking, Runs}
-use Rattle.mqtt5_client.specs.Asked.{Declines}
+use Rattle.mqtt5_client.specs.Asked.{NotAsked}
 use Rattle.mqtt5_pipe.specs.declared.error.PipeError.{PipeError}
 use Rattle.mqtt5_pipe.specs.Pipe.{StopsBy}
 
@@ -26,10 +26,10 @@ Heard p at bytes sent q =
     (Runs p (piece at bytes ∷ []) sent q ⊎ ((fault : PipeError) × StopsBy fault p (piece at bytes ∷ []) sent q))
     × (q.codec ≡ allowed (drop (length p.state.events) q.state.events) p.codec)
 
--- what a request leaves: a run of the client, or it is declined, and nothing is to be sent for it
+-- what a request leaves: a run of the client, or it isn't taken, and nothing is to be sent for it
 abbrev pub Requested : Client → ℕ → Request → Client → Type 0
 Requested p at request q =
-    (Runs p (asking at request ∷ []) [] q ⊎ ((e : StateError) × Declines e p.codec request at p.state q.state × (q.output.items ≡ p.output.items)))
+    (Runs p (asking at request ∷ []) [] q ⊎ ((e : StateError) × NotAsked p.disconnected e p.codec request at p.state q.state × (q.output.items ≡ p.output.items) × (q.disconnected ≡ p.disconnected)))
     × (q.input.items ≡ p.input.items) × (q.codec ≡ p.codec)
 
 -- From the client p: this was said, these bytes came and these were sent, and a client is left. All that is sent is what the
@@ -47,10 +47,10 @@ pub data Conversation (p : Client) : List Saying → List ℕ → List ℕ → C
   Writes : (said : List Saying) (came sent more : List ℕ) (q r : Client)
       → Conversation p said came sent q → q.output.items ≡ more ++ r.output.items → r ≡ record q { output = r.output }
       → Conversation p said came (sent ++ more) r
-  -- the Connect's bytes are put at the end of the output
+  -- the Connect's bytes are put at the end of the output; a Disconnect of a connection before is no longer remembered
   Puts : (said : List Saying) (came sent bytes : List ℕ) (q r : Client) (connect : Packet)
       → Conversation p said came sent q → writing_under q.codec.max_outgoing_size connect ≡ Ok bytes
-      → r.output.items ≡ q.output.items ++ bytes → r ≡ record q { output = r.output }
+      → r.output.items ≡ q.output.items ++ bytes → r ≡ record q { output = r.output; disconnected = false }
       → Conversation p (said ++ Opens connect ∷ []) came sent r
   -- the oldest event is taken out
   Takes : (said : List Saying) (came sent : List ℕ) (q : Client)

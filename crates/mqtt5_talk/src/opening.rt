@@ -42,6 +42,7 @@ pub fn open<R: Read, W: Write>(
         return Err(TalkError::OutOfTurn);
     }
     client.codec.write(connect, &mut client.output)?;
+    client.disconnected = false;
     start(client, reader, writer)
 }
 

@@ -5,7 +5,7 @@ ghost use Rattle.std.specs.FinMap as map;
 ghost use Rattle.mqtt5_inflight.specs.declared.event.Request.TheVariants as requests;
 ghost use Rattle.mqtt5_drive.specs.Limit.{allowed};
 ghost use Rattle.mqtt5_drive.specs.Run.{piece};
-ghost use Rattle.mqtt5_client.specs.Asked.{Declines};
+ghost use Rattle.mqtt5_client.specs.Asked.{NotAsked};
 ghost use Rattle.mqtt5_client.specs.Client.{IsReady, Runs, Fails, asking};
 ghost use Rattle.mqtt5_talks.specs.First.{first_message};
 
@@ -19,8 +19,8 @@ pub fn publish_first(alloc: Global, client: &mut Client) -> Result<(), StateErro
     ensures asked { OnOk result
         (Runs client.old (asking 1 (requests.Publish first_message) ∷ []) [] client.new) }
     ensures err { IfErr result (λ e.
-        Declines e client.old.codec (requests.Publish first_message) 1 client.old.state
-        client.new.state) }
+        NotAsked client.old.disconnected e client.old.codec (requests.Publish first_message) 1
+        client.old.state client.new.state) }
     ensures unchanged { OnErr result (client.new.state ≡ client.old.state) }
     ensures unsent { OnErr result (client.new.output.items ≡ client.old.output.items) }
     ensures kept { (client.new.input.items ≡ client.old.input.items)

@@ -6,14 +6,14 @@ use crate::packets::{Event, Filter, Outgoing, Packet, Publish, QoS};
 use crate::properties::{Place, Properties, Value};
 use std::fmt;
 
-/// What a call of the library answers that isn't done (docs/C.md has the numbers): 1 to 12 are S1 to S12, 100 + n is En.
+/// What a call of the library answers that isn't done (docs/C.md has the numbers): 1 to 13 are S1 to S13, 100 + n is En.
 #[derive(Clone, Copy, Debug, PartialEq, Eq)]
 pub struct Fault(pub u32);
 
 impl fmt::Display for Fault {
     fn fmt(&self, f: &mut fmt::Formatter<'_>) -> fmt::Result {
         match self.0 {
-            session @ 1..=12 => write!(f, "S{session}"),
+            session @ 1..=13 => write!(f, "S{session}"),
             packet @ 101..=121 => write!(f, "S7 E{}", packet - 100),
             other => write!(f, "refused by {other}"),
         }

@@ -20,7 +20,7 @@ use std::time::Duration;
 /// "w", QoS 1, retain, and the login "u", "p"; `again` has no clean start, a keep alive of 70,000 seconds and a maximum
 /// packet size of 100 (3.1.2.11.4). `ask` is a publish of "hi" to "a/b" at a quality of service (3.3), `hear` a piece that
 /// comes in, `fill` one that is put at the end of the input, and `limit` takes the limit of the ConnAcks that were told;
-/// `clean` asks again for what is given back last. `limits` are those of what comes in and what is sent,
+/// `clean` asks again for what is given back last, and `end` asks for a Disconnect (3.14.4). `limits` are those of what comes in and what is sent,
 /// `maxima` those of publishes in flight and of topic aliases.
 const CALLS: &str = "connect; output=100E00044D5154540502003C00000163; limits=None/None
 connect:parts; output=101B00044D51545405EE003C000001630000017700016D000175000170; limits=None/None
@@ -41,6 +41,7 @@ ask:1; sent:5; output=2F620001006869
 ask:1; sent:12; output=-
 ask:1; sent:100; output=-
 ask:1; sent:5; hear:4002; connect:again; output=101300044D5154540500FFFF052700000064000163; sent:21; hear:2003010000; resume; output=3A0A0003612F620001006869; ids=1; hear:40020001; ids=0
+end; ask:0=S13; ask:1=S13; end=S13; event=Disconnect; event=; ids=0; hear:3207000161; hear:00070078; output=E00040020007; connect:again; sent:21; ask:0; output=30080003612F62006869
 ask:1; clean=S1; event=Publish(1); clean; output=3A0A0003612F620001006869; ids=1
 out:1000; big:1=S9(2011,1000); ids=0; event=; output=-; ask:1; event=Publish(1); output=320A0003612F620001006869; hear:40020001; ids=0
 out:1000; big:0=S9(2009,1000); event=; output=-; ask:0; output=30080003612F62006869
@@ -170,6 +171,7 @@ fn calls(alloc: Global, client: &mut Client, name: &str, argument: &str) -> Resu
         "fill" => fills(alloc, client, argument),
         "resume" => client.resume(4),
         "clean" => cleans(client),
+        "end" => client.request(Request::Disconnect, 3),
         _drive => drives(alloc, client, argument),
     }
 }

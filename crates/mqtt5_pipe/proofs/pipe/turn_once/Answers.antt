@@ -28,7 +28,7 @@ returns-in_err-join_faults-clause-carried g c =
       consumed,
       appended,
       rw (p.1, p.2) (subst (λ (r : Result Unit PipeError). Leaves r old (piece c.args.at came ∷ []) sent new) (sym c.join_faults.ensures ∙ c.in_err-join_faults.was)
-          (wrote old mid new (piece c.args.at came ∷ []) sent refl refl refl split c.take_input-taken.result c.write_out-written.result (on_ok_weaker c.take_input-taken.result (λ h. h old came fed) c.take_input-taken.ensures.ok)
+          (wrote old mid new (piece c.args.at came ∷ []) sent refl refl refl refl split c.take_input-taken.result c.write_out-written.result (on_ok_weaker c.take_input-taken.result (λ h. h old came fed) c.take_input-taken.ensures.ok)
           (IfErr-weaker c.take_input-taken.result _ _ (λ e h. h old came fed) c.take_input-taken.ensures.err) c.write_out-written.ensures.whole)),
       rw p.1 tt,
     )
@@ -46,7 +46,7 @@ returns-clause-carried g c =
       consumed,
       appended,
       subst (λ (r : Result Unit PipeError). Leaves r old (piece c.args.at came ∷ []) sent new) (sym c.join_faults.ensures ∙ c.in_ok-join_faults.was)
-          (wrote old mid new (piece c.args.at came ∷ []) sent refl refl refl split c.take_input-taken.result c.write_out-written.result (on_ok_weaker c.take_input-taken.result (λ h. h old came fed) c.take_input-taken.ensures.ok)
+          (wrote old mid new (piece c.args.at came ∷ []) sent refl refl refl refl split c.take_input-taken.result c.write_out-written.result (on_ok_weaker c.take_input-taken.result (λ h. h old came fed) c.take_input-taken.ensures.ok)
           (IfErr-weaker c.take_input-taken.result _ _ (λ e h. h old came fed) c.take_input-taken.ensures.err) c.write_out-written.ensures.whole),
       count,
     )
