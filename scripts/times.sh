@@ -106,7 +106,7 @@ first_build_time() {
     timed=${timed%% *}
     [ -n "$timed" ] || return 0
     processor=$(processor_name)
-    grep -q "^$timed .* $processor\$" "$here/scripts/first_builds" || processor=''
+    grep -q "^$timed [0-9]* [0-9]* $processor\$" "$here/scripts/first_builds" || processor=''
     while read -r _ found minutes on; do
         [ "${processor:-$on}" = "$on" ] || continue
         its_jobs=$found
