@@ -1,13 +1,13 @@
 """Tries many wrong bodies of a crate at once, for ./strength. A function is proved by its own body and by the contracts of those that
 it calls, so bodies of several functions may be wrong in one copy: each is refused, or not, as if it stood there alone.
 
-together.py put CRATE PUT EDIT..    changes a copy of a crate by as many of the edits as fit, at most one in each function, and writes
-                                    which it put to the file PUT; the text of a function may not change outside its body
+together.py put CRATE PUT EDIT..    changes a copy of a crate by as many of the edits as fit, at most one in each function, prints them and
+                                    writes them to the file PUT; one that changes more than the bodies of functions isn't put
 together.py judge CRATE PUT LOG     prints those of them that the prover refused, by what `rt ci` said of the copy, which `rt fmt` had laid out
 
-An edit is refused where rt names a place in a function that it bends at which a clause isn't proved, or an answer of that function's
-proof that doesn't prove its goal. Not where a function that is called isn't proved either, where a limit of the prover was met, or where
-a proof names what isn't there: such an edit has to be tried alone."""
+An edit is refused where rt names a place in a function that it bends at which a clause isn't proved, an answer of that function's
+proof that doesn't prove its goal, or a measure that a call of itself lacks. Not where a function that is called isn't proved either,
+where a limit of the prover was met, or where a proof names what isn't there: such an edit has to be tried alone."""
 
 import json
 import re
@@ -92,6 +92,7 @@ def put(crate, note, edits):
         if bodies and not bodies.keys() & files.get(file, {}).keys():
             files.setdefault(file, {}).update(bodies)
             taken[edit] = (file, sorted(bodies))
+            print(edit)
     for file, bodies in files.items():
         lines, found = functions((crate / file).read_text(encoding="utf-8"))
         for place in sorted(bodies, reverse=True):
@@ -107,6 +108,7 @@ def judge(crate, note, log):
         return
     unproved = re.findall(r"^note: (src/\S+):(\d+):\d+: it is not proved (?!.* gave up at )", said, re.MULTILINE)
     answers = re.findall(r"^\./proofs/(\S+)/\w+\.antt:\d+:\d+: error: `.*`: (?!.* has no )", said, re.MULTILINE)
+    answers += re.findall(r"^fn \S+: no proof: expected a measure in \./proofs/(\S+)/\w+\.antt", said, re.MULTILINE)
     taken = json.loads(Path(note).read_text(encoding="utf-8"))
     bent = {}
     for edit, (file, places) in taken.items():
@@ -115,7 +117,7 @@ def judge(crate, note, log):
 
     def is_proof_of(path, function):
         _file, owner, name, *_ = function
-        *above, last = path.split("/")
+        *above, last = path.replace("+", "").split("/")
         return last == name and (not owner or bool(above) and re.search(rf"\b{above[-1]}\b", owner))
 
     for edit, its in bent.items():
