@@ -1,6 +1,6 @@
 //! A client's first message.
 
-ghost use Rattle.std.specs.Prelude.{◌≡◌, [], ◌∷◌, drop, length, IfOk, IfErr, OnOk, OnErr};
+ghost use Rattle.std.specs.Prelude.{◌≡◌, ◌⊎◌, [], ◌∷◌, drop, length, IfOk, IfErr, OnOk, OnErr};
 ghost use Rattle.std.specs.FinMap as map;
 ghost use Rattle.mqtt5_inflight.specs.declared.event.Request.TheVariants as requests;
 ghost use Rattle.mqtt5_drive.specs.Limit.{allowed};
@@ -18,8 +18,8 @@ pub fn publish_first(alloc: Global, client: &mut Client) -> Result<(), StateErro
     requires { IsReady client.old }
     ensures asked { OnOk result
         (Runs client.old (asking 1 (requests.Publish first_message) ∷ []) [] client.new) }
-    ensures err { IfErr result (λ e.
-        NotAsked client.old.disconnected e client.old.codec (requests.Publish first_message) 1
+    ensures err { IfErr result (λ e. (e ≡ StateError.OutOfMemory)
+        ⊎ NotAsked client.old.disconnected e client.old.codec (requests.Publish first_message) 1
         client.old.state client.new.state) }
     ensures unchanged { OnErr result (client.new.state ≡ client.old.state) }
     ensures unsent { OnErr result (client.new.output.items ≡ client.old.output.items) }
