@@ -1,4 +1,3 @@
-use Rattle.std.proofs.lemmas.Bool.{ltb-false}
 use Rattle.mqtt5_c.specs.Connected.{Put}
 use Rattle.mqtt5_c.proofs.connect.mqtt5_client_connect.Goals as goal
 
@@ -8,4 +7,4 @@ returns-clause-answer c =
     let begun = rw taken.left at c.begin.ensures.answer in
     let filled = rw c.or_empty-set.ensures at begun in
     let copied = rw c.in-Some.ensures at filled in
-    Put c.in-Ok-from_utf8.ensures.cases.1 (ltb-false c.args.keep_alive 5 c.if-keep_alive-lt5.false) c.in-Ok.set (rw taken.taken at c.in-Ok.ensures.ok) (rw c.in-Ok-from_utf8.ensures.cases.0 at copied)
+    Put c.in-Ok-from_utf8.ensures.cases.1 c.if-keep_alive-lt5.false c.in-Ok.set (rw taken.taken at c.in-Ok.ensures.ok) (rw c.in-Ok-from_utf8.ensures.cases.0 at copied)
