@@ -4,10 +4,11 @@ it calls, so bodies of several functions may be wrong in one copy: each is refus
 together.py put CRATE PUT EDIT..    changes a copy of a crate by as many of the edits as fit, at most one in each function, prints them and
                                     writes them to the file PUT; one that changes more than the bodies of functions isn't put
 together.py judge CRATE PUT LOG     prints those of them that the prover refused, by what `rt ci` said of the copy, which `rt fmt` had laid out
+together.py limit CRATE PUT LOG     prints those that it refused by one of its limits alone
 
 An edit is refused where rt names a place in a function that it bends at which a clause isn't proved, an answer of that function's
-proof that doesn't prove its goal, or a measure that a call of itself lacks. Not where a function that is called isn't proved either,
-where a limit of the prover was met, or where a proof names what isn't there: such an edit has to be tried alone."""
+proof that doesn't prove its goal, or a measure that a call of itself lacks. Not where a function that is called isn't proved either, or
+where a proof names what isn't there: such an edit has to be tried alone."""
 
 import json
 import re
@@ -103,10 +104,12 @@ def put(crate, note, edits):
 
 
 def judge(crate, note, log):
+    """The edits that are refused, and those that are by a limit alone."""
     said = Path(log).read_text(encoding="utf-8", errors="replace")
-    if not re.search(r"^rt: \w+ NOT PROVED$", said, re.MULTILINE):
-        return
+    if f"rt: {crate.name} NOT PROVED\n" not in said:
+        return [], []
     unproved = re.findall(r"^note: (src/\S+):(\d+):\d+: it is not proved (?!.* gave up at )", said, re.MULTILINE)
+    given_up = re.findall(r"^note: (src/\S+):(\d+):\d+: it is not proved .* gave up at ", said, re.MULTILINE)
     answers = re.findall(r"^\./proofs/(\S+)/\w+\.antt:\d+:\d+: error: `.*`: (?!.* has no )", said, re.MULTILINE)
     answers += re.findall(r"^fn \S+: no proof: expected a measure in \./proofs/(\S+)/\w+\.antt", said, re.MULTILINE)
     taken = json.loads(Path(note).read_text(encoding="utf-8"))
@@ -120,15 +123,25 @@ def judge(crate, note, log):
         *above, last = path.replace("+", "").split("/")
         return last == name and (not owner or bool(above) and re.search(rf"\b{above[-1]}\b", owner))
 
+    def has_one_of(its, lines):
+        return any(file == f and first < int(line) <= end + 1 for f, _o, _n, first, _b, end in its for file, line in lines)
+
+    refused, by_limit = [], []
     for edit, its in bent.items():
-        at_a_line = any(file == f and first < int(line) <= end + 1 for f, _o, _n, first, _b, end in its for file, line in unproved)
         proofs = [path for path in answers if any(is_proof_of(path, function) for function in its)]
         # (a name that two changed functions share says nothing)
         alone = [path for path in proofs if sum(any(is_proof_of(path, f) for f in fs) for fs in bent.values()) == 1]
-        if at_a_line or alone:
-            print(edit)
+        if alone or has_one_of(its, unproved):
+            refused.append(edit)
+        elif has_one_of(its, given_up):
+            by_limit.append(edit)
+    return refused, by_limit
 
 
 if __name__ == "__main__":
     step, folder, *rest = sys.argv[1:]
-    {"put": lambda: put(Path(folder), rest[0], rest[1:]), "judge": lambda: judge(Path(folder), *rest)}[step]()
+    if step == "put":
+        put(Path(folder), rest[0], rest[1:])
+    else:
+        for edit in judge(Path(folder), *rest)[step == "limit"]:
+            print(edit)
