@@ -52,21 +52,23 @@ def functions(text):
 def changed(crate, edit):
     """The file that an edit changes, and the bodies of its functions that it makes others, by their places among the file's
     functions; none where it changes more than that, or doesn't fit."""
-    file, old, text = None, None, ""
+    file, old, texts = None, None, {}
     for line in Path(edit).read_text(encoding="utf-8").splitlines():
         if line.startswith("file: "):
             file = line[6:]
-            text = was = (crate / file).read_text(encoding="utf-8")
+            if file not in texts:
+                texts[file] = (crate / file).read_text(encoding="utf-8")
         elif line.startswith("old: "):
             old = line[5:]
         elif line.startswith("new:"):
-            if text.count(old) != 1:
+            if texts[file].count(old) != 1:
                 return file, {}
-            text = text.replace(old, line[4:].removeprefix(" "))
-    if not file.startswith("src/"):
+            texts[file] = texts[file].replace(old, line[4:].removeprefix(" "))
+    if len(texts) != 1 or not file.startswith("src/"):
         return file, {}
     try:
-        (lines, before), (others, after) = functions(was), functions(text)
+        lines, before = functions((crate / file).read_text(encoding="utf-8"))
+        others, after = functions(texts[file])
     except (IndexError, ValueError):
         return file, {}
     if without_bodies(lines, before) != without_bodies(others, after):
