@@ -23,6 +23,7 @@ pub fn publish_first(alloc: Global, client: &mut Client) -> Result<(), StateErro
         client.old.state client.new.state) }
     ensures unchanged { OnErr result (client.new.state ≡ client.old.state) }
     ensures unsent { OnErr result (client.new.output.items ≡ client.old.output.items) }
+    ensures over { OnErr result (client.new.disconnected ≡ client.old.disconnected) }
     ensures kept { (client.new.input.items ≡ client.old.input.items)
         × (client.new.codec ≡ client.old.codec) }
     ensures ready { IsReady client.new }
@@ -40,6 +41,7 @@ pub fn hear(client: &mut Client, bytes: &[u8]) -> Result<u16, StateError>
     ensures codec { client.new.codec
         ≡ allowed (drop (length client.old.state.events) client.new.state.events) client.old.codec }
     ensures lost { OnErr result (client.new.input.items ≡ []) }
+    ensures over { client.new.disconnected ≡ client.old.disconnected }
     ensures awaited { IfOk result (λ count. count ≡ map.len client.new.state.core.in_use) }
     ensures ready { IsReady client.new }
 {

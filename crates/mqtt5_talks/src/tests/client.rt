@@ -20,8 +20,8 @@ use std::time::Duration;
 /// "w", QoS 1, retain, and the login "u", "p"; `again` has no clean start, a keep alive of 70,000 seconds and a maximum
 /// packet size of 100 (3.1.2.11.4). `ask` is a publish of "hi" to "a/b" at a quality of service (3.3), `hear` a piece that
 /// comes in, `fill` one that is put at the end of the input, and `limit` takes the limit of the ConnAcks that were told;
-/// `clean` asks again for what is given back last, and `end` asks for a Disconnect (3.14.4). `limits` are those of what comes in and what is sent,
-/// `maxima` those of publishes in flight and of topic aliases.
+/// `clean` asks again for what is given back last, and `end` asks for a Disconnect (3.14.4). `limits` are those of what comes
+/// in and what is sent, `maxima` those of publishes in flight and of topic aliases.
 const CALLS: &str = "connect; output=100E00044D5154540502003C00000163; limits=None/None
 connect:parts; output=101B00044D51545405EE003C000001630000017700016D000175000170; limits=None/None
 connect:again; output=101300044D5154540500FFFF052700000064000163; limits=Some(100)/None
