@@ -1,5 +1,7 @@
 -- Clients of a broker of QoS 0, and its answers to their packets (MQTT 5.0 sections 3.1 to 3.14).
-use Rattle.std.specs.Prelude.{◌≡◌, ℕ, ◌==◌, nat_lt, nat_eq, Bool, true, false, not, ◌&&◌, List, [], ◌∷◌, ◌++◌, length, map, filter, Option, Some, None, is_none, Result, Ok, Err, slice_index_or, slice_set, if◌then◌else◌}
+use Rattle.std.specs.Prelude.{◌≡◌, ℕ, ◌==◌, nat_lt, nat_eq, Bool, true, false, not, ◌&&◌, List, []}
+use Rattle.std.specs.Prelude.{◌∷◌, ◌++◌, length, map, filter, Option, Some, None, is_none, Result}
+use Rattle.std.specs.Prelude.{Ok, Err, slice_index_or, slice_set, if◌then◌else◌}
 use Rattle.std.specs.List.{list_any}
 use Rattle.std.specs.Str.{is_utf8}
 use Rattle.std.specs.Cmp.Lexicographic.{pointwise}
@@ -19,6 +21,7 @@ use Rattle.mqtt5_subscribe.specs.declared.unsuback.UnsubAckReason.TheVariants as
 use Rattle.mqtt5_subscribe.specs.declared.unsubscribe.Unsubscribe.{Unsubscribe}
 use Rattle.mqtt5_control.specs.declared.connack.ConnectReturnCode.TheVariants as return_codes
 use Rattle.mqtt5_control.specs.declared.connack.ConnAckProperties.{ConnAckProperties}
+use Rattle.mqtt5_control.specs.ConnAcks.{no_connack_properties}
 use Rattle.mqtt5_codec.specs.declared.packet.Packet.{Packet}
 use Rattle.mqtt5_codec.specs.declared.packet.Packet.TheVariants as packets
 use Rattle.mqtt5_codec.specs.Packets.{packet_writing, IsFrameOf}
@@ -53,15 +56,22 @@ sent p c = record c { output = c.output ++ frame p }
 
 -- ---- answers
 
--- what a ConnAck offers: no session, retained message or publish above QoS 0, and no identifier of a subscription or shared
--- subscription (3.2.2.3)
+-- what a ConnAck offers: no session, retained message or publish above QoS 0, and no identifier of
+-- a subscription or shared subscription (3.2.2.3)
 abbrev pub offers : ConnAckProperties
-offers =
-    record { session_expiry_interval = Some 0; receive_max = None; max_qos = Some 0; retain_available = Some 0; max_packet_size = None; assigned_client_identifier = None; topic_alias_max = None; reason_string = None; user_properties = []; wildcard_subscription_available = None; subscription_identifiers_available = Some 0; shared_subscription_available = Some 0; server_keep_alive = None; response_information = None; server_reference = None; authentication_method = None; authentication_data = None }
+offers = record no_connack_properties {
+  session_expiry_interval = Some 0;
+  max_qos = Some 0;
+  retain_available = Some 0;
+  subscription_identifiers_available = Some 0;
+  shared_subscription_available = Some 0;
+}
 
 -- the answer to a Connect (3.2)
 abbrev pub connack : Packet
-connack = packets.ConnAck (record { session_present = false; code = return_codes.Success; properties = Some offers })
+connack =
+    packets.ConnAck
+    (record { session_present = false; code = return_codes.Success; properties = Some offers })
 
 -- the filters that are kept: valid ones without no local (3.8.3)
 abbrev pub is_kept : Filter → Bool
@@ -76,7 +86,9 @@ reason_of f =
 
 -- the answer to a Subscribe, with a reason for each filter (3.9)
 abbrev pub suback : Subscribe → Packet
-suback s = packets.SubAck (record { pkid = s.pkid; return_codes = map reason_of s.filters; properties = None })
+suback s =
+    packets.SubAck
+    (record { pkid = s.pkid; return_codes = map reason_of s.filters; properties = None })
 
 -- the filters of a Subscribe that are kept
 abbrev pub kept_filters : List Filter → List Utf8
@@ -91,7 +103,9 @@ abbrev pub without : Utf8 → List Utf8 → List Utf8
 without f fs = filter (λ g. not (is_same f g)) fs
 
 abbrev pub had : Utf8 → List Utf8 → UnsubAckReason
-had f fs = if list_any (is_same f) fs then unsuback_reasons.Success else unsuback_reasons.NoSubscriptionExisted
+had f fs =
+    if list_any (is_same f) fs then unsuback_reasons.Success
+    else unsuback_reasons.NoSubscriptionExisted
 
 -- filters without some, one after the other, and what became of each (3.10.4)
 abbrev pub without_all : List Utf8 → List Utf8 → List Utf8
@@ -104,7 +118,8 @@ had_all (g ∷ gs) fs = had g fs ∷ had_all gs (without g fs)
 
 -- the answer to an Unsubscribe, with a reason for each filter (3.11)
 abbrev pub unsuback : Unsubscribe → List Utf8 → Packet
-unsuback u fs = packets.UnsubAck (record { pkid = u.pkid; reasons = had_all u.filters fs; properties = None })
+unsuback u fs =
+    packets.UnsubAck (record { pkid = u.pkid; reasons = had_all u.filters fs; properties = None })
 
 -- a client that has ended: a publish reaches it no longer (3.14.4)
 abbrev pub ended : Client → Client
@@ -113,8 +128,10 @@ ended c = record c { is_connected = false; filters = [] }
 -- a client after its own packet, which isn't a publish
 abbrev pub answered : Packet → Client → Client
 answered (packets.Connect p will login) c = sent connack (record c { is_connected = true })
-answered (packets.Subscribe s) c = sent (suback s) (record c { filters = c.filters ++ kept_filters s.filters })
-answered (packets.Unsubscribe u) c = sent (unsuback u c.filters) (record c { filters = without_all u.filters c.filters })
+answered (packets.Subscribe s) c =
+    sent (suback s) (record c { filters = c.filters ++ kept_filters s.filters })
+answered (packets.Unsubscribe u) c =
+    sent (unsuback u c.filters) (record c { filters = without_all u.filters c.filters })
 answered (packets.PingReq p) c = sent (packets.PingResp (record {})) c
 answered (packets.Disconnect p) c = ended c
 answered other c = c
@@ -143,7 +160,9 @@ is_topic t = is_utf8 t && is_topic_text t
 
 -- why a publish is refused
 abbrev pub publish_refusal : Publish → Option BrokerError
-publish_refusal p = if not (is_offered p) then Some errors.NotOffered else if is_topic p.topic then None else Some errors.InvalidTopic
+publish_refusal p =
+    if not (is_offered p) then Some errors.NotOffered else if is_topic p.topic then None
+    else Some errors.InvalidTopic
 
 -- why a packet that isn't a publish is refused from a client that is connected
 abbrev pub connected_refusal : Packet → Option BrokerError
@@ -165,7 +184,8 @@ answer_refusal p c = if c.is_connected then connected_refusal p else first_refus
 
 -- why any packet of a client is refused
 abbrev pub refusal : Packet → Client → Option BrokerError
-refusal (packets.Publish p) c = if c.is_connected then publish_refusal p else Some errors.NotConnected
+refusal (packets.Publish p) c =
+    if c.is_connected then publish_refusal p else Some errors.NotConnected
 refusal p c = answer_refusal p c
 
 -- a fault of reading or writing
@@ -198,14 +218,17 @@ served id p cs = with_client id (answered p) cs
 
 -- why a packet of one of them is refused
 abbrev pub refusal_of : ℕ → Packet → List Client → Option BrokerError
-refusal_of id p cs = if nat_lt id (length cs) then refusal p (client_of id cs) else Some (errors.UnknownClient id)
+refusal_of id p cs =
+    if nat_lt id (length cs) then refusal p (client_of id cs) else Some (errors.UnknownClient id)
 
 -- ---- streams
 
 -- packets are taken from the front of a stream, one after the other, and this is left (2.1)
 abbrev pub AreTaken : Option ℕ → List Packet → List ℕ → List ℕ → Type 0
 AreTaken limit [] old new = new ≡ old
-AreTaken limit (p ∷ ps) old new = (between : List ℕ) × TakesFrame (λ frame. IsFrameOf frame p) limit old between × AreTaken limit ps between new
+AreTaken limit (p ∷ ps) old new =
+    (between : List ℕ) × TakesFrame (λ frame. IsFrameOf frame p) limit old between
+    × AreTaken limit ps between new
 
 -- packets of a client are served, one after the other, and none is refused
 abbrev pub AreServed : ℕ → List Packet → List Client → List Client → Type 0

@@ -7,4 +7,5 @@ use Rattle.broker_core.specs.contracts.error.BrokerError.{enum}
 use Rattle.broker_core.specs.contracts.error.BrokerErrorPartialEq.TheImpl as error
 
 pub broker_error_sound : Sound error.eq-value.it
-broker_error_sound = enum_sound enum _ (search (rules, no_field, one_field number_sound, one_field error_sound))
+broker_error_sound =
+    enum_sound enum _ (search (rules, no_field, one_field number_sound, one_field error_sound))

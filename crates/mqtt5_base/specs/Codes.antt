@@ -7,7 +7,8 @@ use Rattle.std.proofs.Math.Bool.{Bool-set}
 use Rattle.std.proofs.lemmas.Bool.{false≢true}
 use Rattle.mqtt5_base.specs.Texts.{Utf8, text_by, text_of}
 
-same_by : (bs : List ℕ) (b : Bool) (e : is_utf8 bs ≡ b) (h : is_utf8 bs ≡ true) → text_by bs b e ≡ record { bytes = bs; is_text = h }
+same_by : (bs : List ℕ) (b : Bool) (e : is_utf8 bs ≡ b) (h : is_utf8 bs ≡ true)
+    → text_by bs b e ≡ record { bytes = bs; is_text = h }
 unfolding text_by
 same_by bs true e h = λ i. record { bytes = bs; is_text = Bool-set (is_utf8 bs) true e h i }
 same_by bs false e h = absurd (false≢true (sym e ∙ h))

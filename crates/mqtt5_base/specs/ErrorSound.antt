@@ -6,4 +6,6 @@ use Rattle.mqtt5_base.specs.contracts.error.Error.{enum}
 use Rattle.mqtt5_base.specs.contracts.error.ErrorPartialEq.TheImpl as error
 
 pub error_sound : Sound error.eq-value.it
-error_sound = enum_sound enum _ (search (rules, no_field, one_field number_sound, two_fields number_sound number_sound))
+error_sound =
+    enum_sound enum _
+    (search (rules, no_field, one_field number_sound, two_fields number_sound number_sound))

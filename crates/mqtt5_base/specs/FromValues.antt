@@ -1,10 +1,13 @@
--- This file serves the logic alone: fields of packets from the grammar's values (MQTT 5.0 sections 1.5, 2.2.2 and 4.3).
-use Rattle.std.specs.Prelude.{ℕ, zero, suc, List, [], ◌∷◌, Option, Some, None, map, ◌==◌, if◌then◌else◌}
+-- This file serves the logic alone: fields of packets from the grammar's values (MQTT 5.0 sections
+-- 1.5, 2.2.2 and 4.3).
+use Rattle.std.specs.Prelude.{ℕ, zero, suc, List, [], ◌∷◌, Option, Some, None, map, ◌==◌}
+use Rattle.std.specs.Prelude.{if◌then◌else◌}
 use Rattle.mqtt5_base.specs.declared.ack_properties.AckProperties.{AckProperties}
 use Rattle.mqtt5_base.specs.declared.quality.QoS.{QoS}
 use Rattle.mqtt5_base.specs.declared.quality.QoS.TheVariants.{AtMostOnce, AtLeastOnce, ExactlyOnce}
 use Rattle.mqtt5_base.specs.Texts.{Utf8, text_of}
-use Rattle.mqtt5_base.specs.Grammar.{Atom, number, content, couple, number_of, content_of, Found, Value, plain, properties, atom_in}
+use Rattle.mqtt5_base.specs.Grammar.{Atom, number, content, couple, number_of, content_of, Found}
+use Rattle.mqtt5_base.specs.Grammar.{Value, plain, properties, atom_in}
 
 -- the QoS of a number; 0 of one that is none (4.3)
 abbrev pub qos_of : ℕ → QoS
@@ -58,4 +61,7 @@ found_in (v ∷ vs) (suc k) = found_in vs k
 
 -- the properties of an ack from their values
 abbrev pub ack_set : Found → AckProperties
-ack_set f = record { reason_string = one_text (here_in f 0); user_properties = all_pairs (here_in f 1) }
+ack_set f = record {
+  reason_string = one_text (here_in f 0);
+  user_properties = all_pairs (here_in f 1);
+}

@@ -1,12 +1,14 @@
 -- What packets are made of, as data (MQTT 5.0 sections 1.5, 2 and 3).
-use Rattle.std.specs.Prelude.{ℕ, zero, suc, ◌/◌, ◌%◌, Bool, true, false, List, [], ◌∷◌, ◌++◌, length, Option, Some, None, nat_lt, ◌==◌, if◌then◌else◌}
+use Rattle.std.specs.Prelude.{ℕ, zero, suc, ◌/◌, ◌%◌, Bool, true, false, List, [], ◌∷◌, ◌++◌}
+use Rattle.std.specs.Prelude.{length, Option, Some, None, nat_lt, ◌==◌, if◌then◌else◌}
 use Rattle.std.specs.List.{list_all, list_any}
 use Rattle.std.specs.Str.{bytes_eq}
 use Rattle.mqtt5_base.specs.declared.error.Error.{Error}
 
 -- ---- one value (1.5)
 
--- one, two and four byte integers, variable byte integers, binary data, UTF-8 strings and pairs of them
+-- one, two and four byte integers, variable byte integers, binary data, UTF-8 strings and pairs of
+-- them
 pub data Kind : Type 0 where
   u8 : Kind
   u16 : Kind
@@ -60,8 +62,10 @@ allows table id = list_any (λ e. id == e.id) table
 -- each identifier's kind (2.2.2.2)
 abbrev pub kinds : List (ℕ × Kind)
 kinds =
-    (1, u8) ∷ (2, u32) ∷ (3, text) ∷ (8, text) ∷ (9, bytes) ∷ (11, varint) ∷ (17, u32) ∷ (18, text) ∷ (19, u16) ∷ (21, text) ∷ (22, bytes) ∷ (23, u8)
-    ∷ (24, u32) ∷ (25, u8) ∷ (26, text) ∷ (28, text) ∷ (31, text) ∷ (33, u16) ∷ (34, u16) ∷ (35, u16) ∷ (36, u8) ∷ (37, u8) ∷ (38, pair) ∷ (39, u32)
+    (1, u8) ∷ (2, u32) ∷ (3, text) ∷ (8, text) ∷ (9, bytes) ∷ (11, varint) ∷ (17, u32) ∷ (18, text)
+    ∷ (19, u16) ∷ (21, text) ∷ (22, bytes) ∷ (23, u8)
+    ∷ (24, u32) ∷ (25, u8) ∷ (26, text) ∷ (28, text) ∷ (31, text) ∷ (33, u16) ∷ (34, u16)
+    ∷ (35, u16) ∷ (36, u8) ∷ (37, u8) ∷ (38, pair) ∷ (39, u32)
     ∷ (40, u8) ∷ (41, u8) ∷ (42, u8) ∷ []
 
 -- what a table has for a number, if it has the number
@@ -108,13 +112,14 @@ pub data Field : Type 0 where
   -- all bytes that are left
   remainder : Field
 
--- where a value is found: given with the row (the frame's first byte, or the flags of a Connect), or read before,
--- as which of the values from 0 on
+-- where a value is found: given with the row (the frame's first byte, or the flags of a Connect),
+-- or read before, as which of the values from 0 on
 pub data Source : Type 0 where
   given : Source
   read : ℕ → Source
 
--- a whole value; or of its number divided by the first the remainder by the second, which are some of its bits
+-- a whole value; or of its number divided by the first the remainder by the second, which are some
+-- of its bits
 pub data Cut : Type 0 where
   whole : Source → Cut
   bits : Source → ℕ → ℕ → Cut
@@ -140,9 +145,10 @@ pub data Step : Type 0 where
   -- bytes must be left, or else the fault
   more : Error → Step
 
--- Steps of their own, after a packet's: under a value that was read, either the second steps, where the condition
--- holds, or else the first, of which nothing is kept; under a value, steps that stand for nothing where each of their
--- values is empty; a field and steps again and again to the end of the body.
+-- Steps of their own, after a packet's: under a value that was read, either the second steps, where
+-- the condition holds, or else the first, of which nothing is kept; under a value, steps that stand
+-- for nothing where each of their values is empty; a field and steps again and again to the end of
+-- the body.
 pub data Part : Type 0 where
   choice : ℕ → Condition → List Step → List Step → Part
   filled : ℕ → List Step → Part
@@ -154,7 +160,8 @@ pub record Row : Type 0 where
   pub parts : List Part
   -- whether a body may have no bytes
   pub bare : Bool
-  -- whether fields that a short body leaves out are left out in writing, where they have the values that then stand
+  -- whether fields that a short body leaves out are left out in writing, where they have the values
+  -- that then stand
   pub brief : Bool
 
 -- what a part gives
@@ -184,11 +191,21 @@ under n len = record { first = n; length = len; values = []; kept = [] }
 
 -- with a value more, which is kept
 abbrev pub with_value : Known → Value → Known
-with_value known v = record { first = known.first; length = known.length; values = known.values ++ v ∷ []; kept = known.kept ++ v ∷ [] }
+with_value known v = record {
+  first = known.first;
+  length = known.length;
+  values = known.values ++ v ∷ [];
+  kept = known.kept ++ v ∷ [];
+}
 
 -- with a value more, which isn't kept
 abbrev pub with_raw : Known → Value → Known
-with_raw known v = record { first = known.first; length = known.length; values = known.values ++ v ∷ []; kept = known.kept }
+with_raw known v = record {
+  first = known.first;
+  length = known.length;
+  values = known.values ++ v ∷ [];
+  kept = known.kept;
+}
 
 -- the value at a place, from 0 on; past the end 0
 abbrev pub atom_in : List Value → ℕ → Atom

@@ -43,5 +43,7 @@ pub record IsHeader (h : FixedHeader) (frame : List ℕ) : Type 0 where
 
 -- the frame's header, or the error of a front without one
 abbrev pub Checks : Result FixedHeader Error → List ℕ → Front → Type 0
-Checks (Ok h) stream f = (f ≡ Whole (take (frame_len h) stream) (drop (frame_len h) stream)) × IsHeader h (take (frame_len h) stream)
+Checks (Ok h) stream f =
+    (f ≡ Whole (take (frame_len h) stream) (drop (frame_len h) stream))
+    × IsHeader h (take (frame_len h) stream)
 Checks (Err e) stream f = f ≡ front_of_error e

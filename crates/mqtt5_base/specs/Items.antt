@@ -1,8 +1,30 @@
--- This file serves the logic alone: a property as its identifier and its value (MQTT 5.0 section 2.2.2.2).
+-- This file serves the logic alone: a property as its identifier and its value (MQTT 5.0 section
+-- 2.2.2.2).
 use Rattle.std.specs.Prelude.{ℕ}
 use Rattle.mqtt5_base.specs.Grammar.{Atom, number, content, couple}
 use Rattle.mqtt5_base.specs.declared.property.Property.{Property}
-use Rattle.mqtt5_base.specs.declared.property.Property.TheVariants.{PayloadFormatIndicator, MessageExpiryInterval, ContentType, ResponseTopic, CorrelationData, SubscriptionIdentifier, SessionExpiryInterval, AssignedClientIdentifier, ServerKeepAlive, AuthenticationMethod, AuthenticationData, RequestProblemInformation, WillDelayInterval, RequestResponseInformation, ResponseInformation, ServerReference, ReasonString, ReceiveMaximum, TopicAliasMaximum, TopicAlias, MaximumQos, RetainAvailable, UserProperty, MaximumPacketSize, WildcardSubscriptionAvailable, SubscriptionIdentifierAvailable, SharedSubscriptionAvailable}
+use Rattle.mqtt5_base.specs.declared.property.Property.TheVariants.{PayloadFormatIndicator}
+use Rattle.mqtt5_base.specs.declared.property.Property.TheVariants.{MessageExpiryInterval}
+use Rattle.mqtt5_base.specs.declared.property.Property.TheVariants.{ContentType, ResponseTopic}
+use Rattle.mqtt5_base.specs.declared.property.Property.TheVariants.{CorrelationData}
+use Rattle.mqtt5_base.specs.declared.property.Property.TheVariants.{SubscriptionIdentifier}
+use Rattle.mqtt5_base.specs.declared.property.Property.TheVariants.{SessionExpiryInterval}
+use Rattle.mqtt5_base.specs.declared.property.Property.TheVariants.{AssignedClientIdentifier}
+use Rattle.mqtt5_base.specs.declared.property.Property.TheVariants.{ServerKeepAlive}
+use Rattle.mqtt5_base.specs.declared.property.Property.TheVariants.{AuthenticationMethod}
+use Rattle.mqtt5_base.specs.declared.property.Property.TheVariants.{AuthenticationData}
+use Rattle.mqtt5_base.specs.declared.property.Property.TheVariants.{RequestProblemInformation}
+use Rattle.mqtt5_base.specs.declared.property.Property.TheVariants.{WillDelayInterval}
+use Rattle.mqtt5_base.specs.declared.property.Property.TheVariants.{RequestResponseInformation}
+use Rattle.mqtt5_base.specs.declared.property.Property.TheVariants.{ResponseInformation}
+use Rattle.mqtt5_base.specs.declared.property.Property.TheVariants.{ServerReference, ReasonString}
+use Rattle.mqtt5_base.specs.declared.property.Property.TheVariants.{ReceiveMaximum}
+use Rattle.mqtt5_base.specs.declared.property.Property.TheVariants.{TopicAliasMaximum, TopicAlias}
+use Rattle.mqtt5_base.specs.declared.property.Property.TheVariants.{MaximumQos, RetainAvailable}
+use Rattle.mqtt5_base.specs.declared.property.Property.TheVariants.{UserProperty, MaximumPacketSize}
+use Rattle.mqtt5_base.specs.declared.property.Property.TheVariants.{WildcardSubscriptionAvailable}
+use Rattle.mqtt5_base.specs.declared.property.Property.TheVariants.{SubscriptionIdentifierAvailable}
+use Rattle.mqtt5_base.specs.declared.property.Property.TheVariants.{SharedSubscriptionAvailable}
 
 -- a property's identifier, and its value
 abbrev pub item_of : Property → ℕ × Atom

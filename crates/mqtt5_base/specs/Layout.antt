@@ -1,11 +1,20 @@
--- What is written for a packet, by the same rows, and why nothing is (MQTT 5.0 sections 1.5, 2.2.2 and 3).
-use Rattle.std.specs.Prelude.{ℕ, ◌==◌, ◌&&◌, Bool, true, false, not, List, [], ◌∷◌, ◌++◌, length, map, option_map, Option, Some, None, is_none, Result, Ok, Err, nat_lt, if◌then◌else◌}
+-- What is written for a packet, by the same rows, and why nothing is (MQTT 5.0 sections 1.5, 2.2.2
+-- and 3).
+use Rattle.std.specs.Prelude.{ℕ, ◌==◌, ◌&&◌, Bool, true, false, not, List, [], ◌∷◌, ◌++◌, length}
+use Rattle.std.specs.Prelude.{map, option_map, Option, Some, None, is_none, Result, Ok, Err, nat_lt}
+use Rattle.std.specs.Prelude.{if◌then◌else◌}
 use Rattle.std.specs.Int.{w16, w32, to_be_bytes}
 use Rattle.std.specs.List.{flat_map, list_all}
 use Rattle.mqtt5_base.specs.declared.error.Error.{Error}
 use Rattle.mqtt5_base.specs.declared.error.Error.TheVariants.{PayloadTooLong}
 use Rattle.mqtt5_base.specs.VarInt.{var_int}
-use Rattle.mqtt5_base.specs.Grammar.{Kind, u8, u16, u32, varint, Atom, number, content, couple, number_of, content_of, Entry, Found, kinds, entry_of, passes, Value, plain, properties, atom_of, Field, one, checked, block, remainder, Condition, always, longer, set, Step, field, raw, note, judge, more, Part, choice, filled, each, Row, Group, optional, several, Content, Known, under, with_value, with_raw, cut_in, number_in}
+use Rattle.mqtt5_base.specs.Grammar.{Kind, u8, u16, u32, varint, Atom, number, content, couple}
+use Rattle.mqtt5_base.specs.Grammar.{number_of, content_of, Entry, Found, kinds, entry_of, passes}
+use Rattle.mqtt5_base.specs.Grammar.{Value, plain, properties, atom_of, Field, one, checked, block}
+use Rattle.mqtt5_base.specs.Grammar.{remainder, Condition, always, longer, set, Step, field, raw}
+use Rattle.mqtt5_base.specs.Grammar.{note, judge, more, Part, choice, filled, each, Row, Group}
+use Rattle.mqtt5_base.specs.Grammar.{optional, several, Content, Known, under, with_value, with_raw}
+use Rattle.mqtt5_base.specs.Grammar.{cut_in, number_in}
 use Rattle.mqtt5_base.specs.Fields.{repeated}
 
 -- ---- a packet as it is written (3)
@@ -76,12 +85,14 @@ tagged_by id (Some k) here = tagged id k here
 abbrev pub items_bytes : List Entry → Found → List ℕ
 items_bytes [] found = []
 items_bytes (e ∷ es) [] = []
-items_bytes (e ∷ es) (here ∷ found) = tagged_by e.id (entry_of kinds e.id) here ++ items_bytes es found
+items_bytes (e ∷ es) (here ∷ found) =
+    tagged_by e.id (entry_of kinds e.id) here ++ items_bytes es found
 
 -- the length of the items, and the items; of an absent set the length 0 (2.2.2.1)
 abbrev pub block_bytes : List Entry → Option Found → List ℕ
 block_bytes table None = 0 ∷ []
-block_bytes table (Some found) = var_int (length (items_bytes table found)) ++ items_bytes table found
+block_bytes table (Some found) =
+    var_int (length (items_bytes table found)) ++ items_bytes table found
 
 -- the property set of a value, if it has one
 abbrev pub found_of : Value → Option Found
@@ -107,11 +118,15 @@ is_written short known (set c) = nat_lt 0 (number_of (cut_in known c))
 abbrev pub steps_bytes : Bool → List Step → Known → List Value → List Value → List ℕ
 steps_bytes short [] known raws kept = []
 steps_bytes short (field c f d ∷ steps) known raws [] = []
-steps_bytes short (field c f d ∷ steps) known raws (v ∷ kept) = (if is_written short known c then field_bytes f v else []) ++ steps_bytes short steps (with_value known v) raws kept
+steps_bytes short (field c f d ∷ steps) known raws (v ∷ kept) =
+    (if is_written short known c then field_bytes f v else [])
+    ++ steps_bytes short steps (with_value known v) raws kept
 steps_bytes short (raw k ∷ steps) known [] kept = []
-steps_bytes short (raw k ∷ steps) known (v ∷ raws) kept = atom_bytes k (atom_of v) ++ steps_bytes short steps (with_raw known v) raws kept
+steps_bytes short (raw k ∷ steps) known (v ∷ raws) kept =
+    atom_bytes k (atom_of v) ++ steps_bytes short steps (with_raw known v) raws kept
 steps_bytes short (note c ∷ steps) known raws [] = []
-steps_bytes short (note c ∷ steps) known raws (v ∷ kept) = steps_bytes short steps (with_value known v) raws kept
+steps_bytes short (note c ∷ steps) known raws (v ∷ kept) =
+    steps_bytes short steps (with_value known v) raws kept
 steps_bytes short (judge c s t w ∷ steps) known raws kept = steps_bytes short steps known raws kept
 steps_bytes short (more w ∷ steps) known raws kept = steps_bytes short steps known raws kept
 
@@ -177,13 +192,15 @@ is_short row p = row.brief && is_spare row.steps p.head.raws p.head.kept
 -- the bytes of a packet's steps and parts (3)
 abbrev pub body_bytes : Row → WrittenPacket → List ℕ
 body_bytes row p =
-    steps_bytes (is_short row p) row.steps (under p.first 0) p.head.raws p.head.kept ++ parts_bytes row.parts (in_order row.steps p.head.raws p.head.kept) p.groups
+    steps_bytes (is_short row p) row.steps (under p.first 0) p.head.raws p.head.kept
+    ++ parts_bytes row.parts (in_order row.steps p.head.raws p.head.kept) p.groups
 
 -- the first byte, the remaining length and the body (2.1)
 abbrev pub frame_of : ℕ → List ℕ → List ℕ
 frame_of first body = first ∷ var_int (length body) ++ body
 
--- The first byte, the remaining length and the body; its length is what `size` answers, also where nothing can be written.
+-- The first byte, the remaining length and the body; its length is what `size` answers, also where
+-- nothing can be written.
 abbrev pub layout : Row → WrittenPacket → List ℕ
 layout row p = frame_of p.first (body_bytes row p)
 
@@ -197,7 +214,8 @@ fits_two_bytes bs = nat_lt (length bs) 65536
 abbrev pub fits_var_int : ℕ → Bool
 fits_var_int n = nat_lt n 268435456
 
--- no text or bytes of over 65,535 bytes, no number over 268,435,455 as a variable byte integer (1.5)
+-- no text or bytes of over 65,535 bytes, no number over 268,435,455 as a variable byte integer
+-- (1.5)
 abbrev pub atom_fits : Kind → Atom → Bool
 atom_fits varint a = fits_var_int (number_of a)
 atom_fits k (number n) = true
@@ -222,7 +240,8 @@ items_fit (e ∷ es) (here ∷ found) = all_fit_by (entry_of kinds e.id) here &&
 -- whether each property fits, and the length of the items (2.2.2.1)
 abbrev pub block_fits : List Entry → Option Found → Bool
 block_fits table None = true
-block_fits table (Some found) = items_fit table found && fits_var_int (length (items_bytes table found))
+block_fits table (Some found) =
+    items_fit table found && fits_var_int (length (items_bytes table found))
 
 -- a block's bytes, or why it isn't writable (2.2.2)
 abbrev pub block_writing : List Entry → Option Found → Result (List ℕ) Error
@@ -250,7 +269,8 @@ written_fits steps w = steps_fit steps w.raws w.kept
 
 -- the bytes of steps by themselves, or why they aren't writable
 abbrev pub steps_writing : List Step → ℕ → Written → Result (List ℕ) Error
-steps_writing steps n w = if written_fits steps w then Ok (written_bytes steps n w) else Err PayloadTooLong
+steps_writing steps n w =
+    if written_fits steps w then Ok (written_bytes steps n w) else Err PayloadTooLong
 
 -- whether the values of a part that may be absent fit
 abbrev pub optional_fits : List Step → Option Written → Bool
@@ -275,7 +295,9 @@ parts_fit ps gs = true
 
 -- each value fits, and so does the remaining length (2.1.4)
 abbrev pub fits : Row → WrittenPacket → Bool
-fits row p = steps_fit row.steps p.head.raws p.head.kept && (parts_fit row.parts p.groups && fits_var_int (length (body_bytes row p)))
+fits row p =
+    steps_fit row.steps p.head.raws p.head.kept
+    && (parts_fit row.parts p.groups && fits_var_int (length (body_bytes row p)))
 
 -- whether a list has an item
 abbrev pub is_listed : List WrittenGroup → Bool
@@ -283,18 +305,33 @@ is_listed (listed (w ∷ ws) ∷ gs) = true
 is_listed gs = false
 
 -- why the values of steps aren't written: the first judgement that they fail, with what follows
-abbrev pub unless_wrong : List Step → Known → List Value → List Value → List WrittenGroup → Result (List ℕ) Error → Result (List ℕ) Error
+abbrev pub unless_wrong : List Step → Known → List Value → List Value → List WrittenGroup
+    → Result (List ℕ) Error → Result (List ℕ) Error
 unless_wrong (field c (checked k t w) d ∷ steps) known raws (v ∷ kept) gs next =
-    if is_written false known c then (if passes t (atom_of v) then unless_wrong steps (with_value known v) raws kept gs next else Err (w (number_of (atom_of v)))) else unless_wrong steps (with_value known v) raws kept gs next
-unless_wrong (field c f d ∷ steps) known raws (v ∷ kept) gs next = unless_wrong steps (with_value known v) raws kept gs next
-unless_wrong (raw k ∷ steps) known (v ∷ raws) kept gs next = unless_wrong steps (with_raw known v) raws kept gs next
-unless_wrong (note c ∷ steps) known raws (v ∷ kept) gs next = unless_wrong steps (with_value known v) raws kept gs next
+    if is_written false known c
+    then (if passes t (atom_of v) then unless_wrong steps (with_value known v) raws kept gs next
+    else Err (w (number_of (atom_of v))))
+    else unless_wrong steps (with_value known v) raws kept gs next
+unless_wrong (field c f d ∷ steps) known raws (v ∷ kept) gs next =
+    unless_wrong steps (with_value known v) raws kept gs next
+unless_wrong (raw k ∷ steps) known (v ∷ raws) kept gs next =
+    unless_wrong steps (with_raw known v) raws kept gs next
+unless_wrong (note c ∷ steps) known raws (v ∷ kept) gs next =
+    unless_wrong steps (with_value known v) raws kept gs next
 unless_wrong (judge c s t w ∷ steps) known raws kept gs next =
-    if is_written false known c then (if passes t (cut_in known s) then unless_wrong steps known raws kept gs next else Err (w (number_of (cut_in known s)))) else unless_wrong steps known raws kept gs next
-unless_wrong (more w ∷ steps) known raws kept gs next = if is_listed gs then unless_wrong steps known raws kept gs next else Err w
+    if is_written false known c
+    then (if passes t (cut_in known s) then unless_wrong steps known raws kept gs next
+    else Err (w (number_of (cut_in known s))))
+    else unless_wrong steps known raws kept gs next
+unless_wrong (more w ∷ steps) known raws kept gs next =
+    if is_listed gs then unless_wrong steps known raws kept gs next else Err w
 unless_wrong steps known raws kept gs next = next
 
--- The packet's bytes, or why it isn't writable: what is too long first, then the first judgement of its row.
+-- The packet's bytes, or why it isn't writable: what is too long first, then the first judgement of
+-- its row.
 abbrev pub writing : Row → WrittenPacket → Result (List ℕ) Error
 writing row p =
-    if fits row p then unless_wrong row.steps (under p.first 0) p.head.raws p.head.kept p.groups (Ok (layout row p)) else Err PayloadTooLong
+    if fits row p
+    then unless_wrong row.steps (under p.first 0) p.head.raws p.head.kept p.groups
+    (Ok (layout row p))
+    else Err PayloadTooLong

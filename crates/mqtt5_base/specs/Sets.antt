@@ -1,7 +1,9 @@
 -- This file serves the logic alone: what the types of a set's fields say of its values.
-use Rattle.std.specs.Prelude.{◌≡◌, ◌<◌, ◌++◌, Bool, true, false, not, ◌&&◌, List, [], ◌∷◌, Option, Some, None}
+use Rattle.std.specs.Prelude.{◌≡◌, ◌<◌, ◌++◌, Bool, true, false, not, ◌&&◌, List, [], ◌∷◌, Option}
+use Rattle.std.specs.Prelude.{Some, None}
 use Rattle.std.specs.Str.{is_utf8}
-use Rattle.mqtt5_base.specs.Grammar.{Kind, u8, u16, u32, varint, bytes, text, pair, Atom, number, content, couple, Entry, Found, allows, kinds, entry_of}
+use Rattle.mqtt5_base.specs.Grammar.{Kind, u8, u16, u32, varint, bytes, text, pair, Atom, number}
+use Rattle.mqtt5_base.specs.Grammar.{content, couple, Entry, Found, allows, kinds, entry_of}
 
 -- what the type of a field says of its value
 abbrev pub AtomIs : Kind → Atom → Type 0

@@ -1,4 +1,5 @@
--- A property set that is read again after it was written: one without properties is absent (MQTT 5.0 section 2.2.2.1).
+-- A property set that is read again after it was written: one without properties is absent (MQTT
+-- 5.0 section 2.2.2.1).
 use Rattle.std.specs.Prelude.{Bool, true, false, [], ◌∷◌, Option, Some, None, if◌then◌else◌}
 use Rattle.mqtt5_base.specs.Grammar.{Found}
 

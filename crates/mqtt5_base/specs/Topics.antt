@@ -1,5 +1,6 @@
 -- Topic names and topic filters (MQTT 5.0 section 4.7).
-use Rattle.std.specs.Prelude.{◌≡◌, ℕ, Bool, true, false, not, ◌||◌, ◌&&◌, List, [], ◌∷◌, length, ◌==◌, if◌then◌else◌}
+use Rattle.std.specs.Prelude.{◌≡◌, ℕ, Bool, true, false, not, ◌||◌, ◌&&◌, List, [], ◌∷◌, length}
+use Rattle.std.specs.Prelude.{◌==◌, if◌then◌else◌}
 use Rattle.std.specs.List.{slice_split}
 use Rattle.std.specs.Str.{bytes_eq}
 use Rattle.mqtt5_base.specs.Grammar.{is_among}
@@ -40,10 +41,11 @@ abbrev pub is_reserved : List ℕ → Bool
 is_reserved [] = false
 is_reserved (b ∷ bs) = b == 36
 
--- A reserved topic matches no filter, where 4.7.2 keeps it from those alone that start with a wildcard; another one
--- matches where its levels do (4.7.1).
+-- A reserved topic matches no filter, where 4.7.2 keeps it from those alone that start with a
+-- wildcard; another one matches where its levels do (4.7.1).
 abbrev pub topic_matches : List ℕ → List ℕ → Bool
-topic_matches topic filter = if is_reserved topic then false else match_levels (levels topic) (levels filter)
+topic_matches topic filter =
+    if is_reserved topic then false else match_levels (levels topic) (levels filter)
 
 -- a wildcard, if there is one, is all of the level (4.7.1.2, 4.7.1.3)
 abbrev pub stands_alone : List ℕ → Bool
@@ -63,8 +65,9 @@ are_valid (l ∷ m ∷ ls) = is_inner l && are_valid (m ∷ ls)
 abbrev pub is_valid_filter : List ℕ → Bool
 is_valid_filter f = not (length f == 0) && are_valid (levels f)
 
--- What matching promises: of a topic that matches a filter, and that filter, which matches another, the topic matches the
--- other too; and a topic that isn't reserved matches itself.
+-- What matching promises: of a topic that matches a filter, and that filter, which matches another,
+-- the topic matches the other too; and a topic that isn't reserved matches itself.
 pub record IsMatching : Type 0 where
-  pub transitive : (a b c : List ℕ) → topic_matches a b ≡ true → topic_matches b c ≡ true → topic_matches a c ≡ true
+  pub transitive : (a b c : List ℕ) → topic_matches a b ≡ true → topic_matches b c ≡ true
+      → topic_matches a c ≡ true
   pub reflexive : (t : List ℕ) → is_reserved t ≡ false → topic_matches t t ≡ true

@@ -1,5 +1,6 @@
 -- Variable byte integers (MQTT 5.0 section 1.5.5).
-use Rattle.std.specs.Prelude.{◌≡◌, ℕ, zero, suc, ◌+◌, ◌*◌, ◌/◌, ◌%◌, ◌<◌, ◌≤◌, List, [], ◌∷◌, length, nat_lt, if◌then◌else◌}
+use Rattle.std.specs.Prelude.{◌≡◌, ℕ, zero, suc, ◌+◌, ◌*◌, ◌/◌, ◌%◌, ◌<◌, ◌≤◌, List, [], ◌∷◌}
+use Rattle.std.specs.Prelude.{length, nat_lt, if◌then◌else◌}
 
 -- the highest bit of each byte but the last says that another follows
 abbrev pub IsEnded : List ℕ → Type 0

@@ -1,7 +1,7 @@
 //! The properties of an ack, which are the same for every packet that acknowledges another.
 
-ghost use Rattle.std.specs.Prelude.{◌≡◌, [], None};
-ghost use Rattle.mqtt5_base.specs.AckSets.{ack_table, ack_found};
+ghost use Rattle.std.specs.Prelude.{◌≡◌};
+ghost use Rattle.mqtt5_base.specs.AckSets.{ack_table, ack_found, no_ack_properties};
 
 use crate::exact::Exact;
 use crate::property::{Property, PropertyBlock, PropertySet};
@@ -24,7 +24,7 @@ pub struct AckProperties {
 impl AckProperties {
     /// The set without values. Takes no memory.
     pub fn new(alloc: Global) -> AckProperties
-        ensures { result ≡ record { reason_string = None; user_properties = [] } }
+        ensures { result ≡ no_ack_properties }
     {
         AckProperties {
             reason_string: None,

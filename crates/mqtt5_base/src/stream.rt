@@ -36,6 +36,7 @@ pub fn check(stream: &[u8], max_packet_size: Option<u32>) -> Result<FixedHeader,
 
 /// Which front each stream has; and what is decided of a stream stays so when bytes come, and a frame is
 /// whole with its last byte.
+#[inline(always)]
 pub fn front_laws()
     ensures found { (limit : Option ℕ) → IsFound limit (front limit) }
     ensures stays { (limit : Option ℕ) → IsFront (front limit) }

@@ -17,9 +17,9 @@ use Rattle.mqtt5_inflight.specs.declared.event.Request.TheVariants as requests
 use Rattle.mqtt5_inflight.specs.declared.error.StateError.{StateError}
 use Rattle.mqtt5_inflight.specs.declared.error.StateError.TheVariants as faults
 use Rattle.mqtt5_session.specs.Session.{Session, Answer}
-use Rattle.mqtt5_session.specs.Requests.{on_request, unless, alias_fault, over_maximum, judged, by_alias, by_use, Verdict, Refuse, Wait, Store, out_acked, out_publish, out_known, id_for, last_after, counts_ping, ping_fault, unanswered}
+use Rattle.mqtt5_session.specs.Requests.{on_request, unless, alias_fault, over_maximum, verdict_of, by_alias, by_use, Verdict, Refuse, Wait, Store, out_acked, out_publish, out_known, id_for, last_after, counts_ping, ping_fault, pending_fault}
 use Rattle.mqtt5_session.specs.Resuming.{with_reply, send_all, Sendings}
-use Rattle.mqtt5_session.proofs.Owed.{choose}
+use Rattle.mqtt5_session.proofs.Exports.{choose}
 use Rattle.mqtt5_client.specs.declared.client.Client.{Client}
 use Rattle.mqtt5_client.specs.TakingUp.{NotTakenUp}
 use Rattle.mqtt5_c.specs.Numbers.{fault_code}
@@ -70,9 +70,9 @@ acked_tells (Refuse e) s p last at h = h
 acked_tells Wait s p last at h = tt {0}
 acked_tells Store s p last at h = tt {0}
 
-identified_tells : (s : Session) (p : Publish) (last at : ℕ) → Tells (out_acked (judged s.core p) s p last at)
+identified_tells : (s : Session) (p : Publish) (last at : ℕ) → Tells (out_acked (verdict_of s.core p) s p last at)
 identified_tells s p last at =
-    acked_tells (judged s.core p) s p last at
+    acked_tells (verdict_of s.core p) s p last at
     (pick (nat_lt s.core.limit p.pkid) _ _ (λ e. absurd (omega (arith, e)))
     (alias_judged (over_maximum s.core p) _ (alias_told s.core.alias_max (alias_over s.core.alias_max (alias_of p))) (use_judged (get s.core.in_use p.pkid) s.core.waiting)))
 
@@ -86,7 +86,7 @@ known_tells (Some (Sent p)) s id last at = λ e. absurd (omega (arith, e))
 known_tells (Some Released) s id last at = tt {0}
 known_tells None s id last at = tt {0}
 
-unanswered_may : (b : Bool) → May (unanswered b)
+unanswered_may : (b : Bool) → May (pending_fault b)
 unanswered_may true = λ e. absurd (omega (arith, e))
 unanswered_may false = tt {0}
 
@@ -96,7 +96,7 @@ second_may false o h = h
 
 ping_may : (w : Option Publish) (count : ℕ) (awaits : Bool) → May (ping_fault w count awaits)
 ping_may None count awaits = unanswered_may awaits
-ping_may (Some p) count awaits = second_may (nat_le 2 count) (unanswered awaits) (unanswered_may awaits)
+ping_may (Some p) count awaits = second_may (nat_le 2 count) (pending_fault awaits) (unanswered_may awaits)
 
 out_tells : (s : Session) (request : Request) (at : ℕ) → Tells (on_request s request at)
 unfolding on_request

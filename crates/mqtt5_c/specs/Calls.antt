@@ -1,16 +1,18 @@
 -- What a call leaves of a handle's client, and the number that it answers.
-use Rattle.std.specs.Prelude.{◌≡◌, ◌≢◌, ◌⊎◌, ℕ, List, [], ◌∷◌, Option, None, Some, IsOk, IfErr, OnOk, OnErr, drop, length, Bool, false}
+use Rattle.std.specs.Prelude.{◌≡◌, ◌≢◌, ◌⊎◌, ℕ, List, [], ◌∷◌, Option, None, Some, IsOk, IfErr}
+use Rattle.std.specs.Prelude.{OnOk, OnErr, drop, length, Bool, false}
 use Rattle.mqtt5_base.specs.Texts.{text_of}
 use Rattle.mqtt5_options.specs.Options.{defaults}
 use Rattle.mqtt5_inflight.specs.declared.event.Request.{Request}
 use Rattle.mqtt5_inflight.specs.declared.event.Request.TheVariants as requests
 use Rattle.mqtt5_inflight.specs.declared.error.StateError.TheVariants as faults
 use Rattle.mqtt5_drive.specs.Run.{piece}
+use Rattle.mqtt5_codec.specs.Codecs.{no_limits}
 use Rattle.mqtt5_client.specs.declared.client.Client.{Client}
 use Rattle.mqtt5_holder.specs.declared.holder.Holder.{Holder}
 use Rattle.mqtt5_session.specs.Session.{fresh}
-use Rattle.mqtt5_client.specs.Client.{asking, Runs, Fails, no_limits}
-use Rattle.mqtt5_drive.specs.Limit.{allowed}
+use Rattle.mqtt5_client.specs.Client.{asking, Runs, Fails}
+use Rattle.mqtt5_drive.specs.Limit.{codec_after}
 use Rattle.mqtt5_client.specs.Again.{SendsAgain, Refuses}
 use Rattle.mqtt5_client.specs.Asked.{NotAsked}
 use Rattle.mqtt5_client.specs.TakingUp.{NotTakenUp}
@@ -21,25 +23,29 @@ use Rattle.mqtt5_c.specs.Numbers.{Outcome, code_of, no_client}
 abbrev pub with_client : Holder → Client → Holder
 with_client h c = record h { client = c }
 
--- Without a client a call is answered by 200, and there is still none. Else there is one after it too, what its packets have is as
--- before, and the number is that of an outcome of which Does holds: of the client before, the outcome and the client after.
-pub record Called (Does : Client → Outcome → Client → Type 0) (before : Option Holder) (code : ℕ) (after : Option Holder) : Type 0 where
+-- Without a client a call is answered by 200, and there is still none. Else there is one after it
+-- too, what its packets have is as before, and the number is that of an outcome of which Does
+-- holds: of the client before, the outcome and the client after.
+pub record Called (Does : Client → Outcome → Client → Type 0) (before : Option Holder) (code : ℕ)
+    (after : Option Holder) : Type 0 where
   pub none : before ≡ None → (code ≡ no_client) × (after ≡ None)
   pub one : (old : Holder) → before ≡ Some old
-      → (new : Client) × (outcome : Outcome) × (after ≡ Some (with_client old new)) × (code ≡ code_of outcome) × Does old.client outcome new
+      → (new : Client) × (outcome : Outcome) × (after ≡ Some (with_client old new))
+      × (code ≡ code_of outcome) × Does old.client outcome new
 
--- Bytes came in: session, input and output are the run's (MQTT 5.0 section 4.2). After a fault no input is left. The limit on what is
--- sent is that of the ConnAcks among the new events (3.2.2.3.6). A Disconnect that was asked for is remembered.
+-- Bytes came in: session, input and output are the run's (MQTT 5.0 section 4.2). After a fault no
+-- input is left. The limit on what is sent is that of the ConnAcks among the new events
+-- (3.2.2.3.6). A Disconnect that was asked for is remembered.
 abbrev pub Receives : List ℕ → ℕ → Client → Outcome → Client → Type 0
 Receives bytes at old outcome new =
     OnOk outcome (Runs old (piece at bytes ∷ []) [] new)
     × IfErr outcome (λ e. Fails e old (piece at bytes ∷ []) [] new)
     × OnErr outcome (new.input.items ≡ [])
-    × (new.codec ≡ allowed (drop (length old.state.events) new.state.events) old.codec)
+    × (new.codec ≡ codec_after (drop (length old.state.events) new.state.events) old.codec)
     × (new.disconnected ≡ old.disconnected)
 
--- a request, before which no Disconnect was asked for (3.14.4): session and output are the run's; or all is as before, but that a
--- refused ping is counted. The input waits as before.
+-- a request, before which no Disconnect was asked for (3.14.4): session and output are the run's;
+-- or all is as before, but that a refused ping is counted. The input waits as before.
 abbrev pub Asks : Request → ℕ → Client → Outcome → Client → Type 0
 Asks request at old outcome new =
     OnOk outcome (Runs old (asking at request ∷ []) [] new)
@@ -57,7 +63,8 @@ Sends count old outcome new =
     × ((new.state ≡ old.state) × (new.codec ≡ old.codec) × (new.input.items ≡ old.input.items))
     × (new.disconnected ≡ old.disconnected)
 
--- the session is taken up on a new connection (4.4): all that awaits an ack is sent again, or nothing is
+-- the session is taken up on a new connection (4.4): all that awaits an ack is sent again, or
+-- nothing is
 abbrev pub Resumes : ℕ → Client → Outcome → Client → Type 0
 Resumes at old outcome new =
     OnOk outcome (SendsAgain old at new)
@@ -73,15 +80,18 @@ Looks old outcome new = IsOk outcome × (new ≡ old)
 -- a client in which nothing happened
 abbrev pub IsNewClient : ℕ → Bool → Client → Type 0
 IsNewClient limit manual_acks c =
-    (c.state ≡ fresh limit manual_acks) × (c.codec ≡ no_limits) × (c.input.items ≡ []) × (c.output.items ≡ []) × (c.disconnected ≡ false)
+    (c.state ≡ fresh limit manual_acks) × (c.codec ≡ no_limits) × (c.input.items ≡ [])
+    × (c.output.items ≡ []) × (c.disconnected ≡ false)
 
 -- one without login and will, and with nothing for its next packets
 abbrev pub IsNew : ℕ → Bool → Holder → Type 0
 IsNew limit manual_acks h =
-    IsNewClient limit manual_acks h.client × (h.settings ≡ defaults (text_of []) (text_of []) 0) × (h.properties ≡ []) × (h.filters ≡ [])
+    IsNewClient limit manual_acks h.client × (h.settings ≡ defaults (text_of []) (text_of []) 0)
+    × (h.properties ≡ []) × (h.filters ≡ [])
 
--- The session ends, where no event waits: the client is as a new one, with its limits on packets, and a Disconnect that was asked for
--- is remembered. Or an event waits, or memory is refused, and it is as before.
+-- The session ends, where no event waits: the client is as a new one, with its limits on packets,
+-- and a Disconnect that was asked for is remembered. Or an event waits, or memory is refused, and
+-- it is as before.
 abbrev pub Cleans : Client → Outcome → Client → Type 0
 Cleans old outcome new =
     OnOk outcome (new.state ≡ fresh old.state.core.limit old.state.core.manual_acks)
@@ -92,7 +102,8 @@ Cleans old outcome new =
     × IfErr outcome (λ e. (e ≡ faults.OutOfMemory) ⊎ (e ≡ faults.InvalidState))
     × OnErr outcome (new ≡ old)
 
--- the session is taken up on a new connection, or it ends, as the ConnAck says (3.2.2.1.1); or it is as before
+-- the session is taken up on a new connection, or it ends, as the ConnAck says (3.2.2.1.1); or it
+-- is as before
 abbrev pub TakesUp : Bool → ℕ → Client → Outcome → Client → Type 0
 TakesUp session_present at old outcome new =
     OnOk outcome (taking_up.TakesUp session_present old at new)

@@ -1,5 +1,6 @@
 -- Events as numbers; what an event hasn't is 0.
-use Rattle.std.specs.Prelude.{◌≡◌, ℕ, Bool, true, false, ◌&&◌, nat_le, List, [], ◌∷◌, ◌++◌, length, Option, None, Some, IsSome, IfSome, drop}
+use Rattle.std.specs.Prelude.{◌≡◌, ℕ, Bool, true, false, ◌&&◌, nat_le, List, [], ◌∷◌, ◌++◌, length}
+use Rattle.std.specs.Prelude.{Option, None, Some, IsSome, IfSome, drop}
 use Rattle.mqtt5_base.specs.Views.{qos_number}
 use Rattle.mqtt5_publish.specs.declared.publish.Publish.{Publish}
 use Rattle.mqtt5_publish.specs.Acks.{puback_code}
@@ -23,9 +24,21 @@ use Rattle.mqtt5_c.specs.Numbers.{small_buffer}
 
 -- no event
 abbrev pub nothing_told : EventInfo
-nothing_told = record { kind = 0; packet = 0; pkid = 0; code = 0; qos = 0; dup = false; retain = false; session_present = false; topic_len = 0; payload_len = 0 }
+nothing_told = record {
+  kind = 0;
+  packet = 0;
+  pkid = 0;
+  code = 0;
+  qos = 0;
+  dup = false;
+  retain = false;
+  session_present = false;
+  topic_len = 0;
+  payload_len = 0;
+}
 
--- a packet of a type (MQTT 5.0 section 2.1.2) that came, with its packet identifier and its reason code
+-- a packet of a type (MQTT 5.0 section 2.1.2) that came, with its packet identifier and its reason
+-- code
 abbrev pub came : ℕ → ℕ → ℕ → EventInfo
 came packet pkid code = record nothing_told { kind = 1; packet = packet; pkid = pkid; code = code }
 
@@ -35,7 +48,13 @@ sent packet pkid = record (came packet pkid 0) { kind = 2 }
 
 -- a Publish that came (3.3)
 abbrev pub publish_told : Publish → EventInfo
-publish_told p = record (came 3 p.pkid 0) { qos = qos_number p.qos; dup = p.dup; retain = p.retain; topic_len = length p.topic; payload_len = length p.payload }
+publish_told p = record (came 3 p.pkid 0) {
+  qos = qos_number p.qos;
+  dup = p.dup;
+  retain = p.retain;
+  topic_len = length p.topic;
+  payload_len = length p.payload;
+}
 
 -- a ConnAck that came (3.2)
 abbrev pub connack_told : ConnAck → EventInfo
@@ -113,7 +132,9 @@ first_payload (Some event) = payload_in event
 
 -- whether its topic and payload fit into buffers of these lengths
 abbrev pub has_room : Option Event → ℕ → ℕ → Bool
-has_room first topic_len payload_len = nat_le (length (first_topic first)) topic_len && nat_le (length (first_payload first)) payload_len
+has_room first topic_len payload_len =
+    nat_le (length (first_topic first)) topic_len
+    && nat_le (length (first_payload first)) payload_len
 
 -- a buffer whose beginning is these bytes
 abbrev pub over : List ℕ → List ℕ → List ℕ
@@ -121,9 +142,14 @@ over bytes buffer = bytes ++ drop (length bytes) buffer
 
 -- with room the oldest event is taken out, and nothing else is; without it the client is as before
 abbrev pub Pops : Bool → Client → ℕ → Client → Type 0
-Pops true old code new = (code ≡ 0) × (new ≡ record old { state = record old.state { events = drop 1 old.state.events } })
+Pops true old code new =
+    (code ≡ 0)
+    × (new ≡ record old { state = record old.state { events = drop 1 old.state.events } })
 Pops false old code new = (code ≡ small_buffer) × (new ≡ old)
 
 -- the same in a holder, of which the rest is as before
 abbrev pub PopsIn : Bool → Holder → ℕ → Option Holder → Type 0
-PopsIn room old code after = IsSome after × IfSome after (λ new. (new ≡ record old { client = new.client }) × Pops room old.client code new.client)
+PopsIn room old code after =
+    IsSome after
+    × IfSome after
+    (λ new. (new ≡ record old { client = new.client }) × Pops room old.client code new.client)

@@ -27,7 +27,8 @@ cleared (Some h) = Some (record h { filters = [] })
 -- a topic filter with these options (3.8.3.1)
 abbrev pub IsFilter : List ℕ → ℕ → Bool → Bool → ℕ → Filter → Type 0
 IsFilter path quality no_local retain_as_published handling f =
-    IsTopicFilter path × (f.path.bytes ≡ path) × (qos_number f.qos ≡ quality) × (f.nolocal ≡ no_local) × (f.preserve_retain ≡ retain_as_published)
+    IsTopicFilter path × (f.path.bytes ≡ path) × (qos_number f.qos ≡ quality)
+    × (f.nolocal ≡ no_local) × (f.preserve_retain ≡ retain_as_published)
     × (rule_number f.retain_forward_rule ≡ handling)
 
 -- a Subscribe to these filters, with these properties (3.8)
@@ -36,14 +37,16 @@ IsSubscribeTo filters properties request =
     (set : Option SubscribeProperties) × IsSet subscribe_found subscribe_table properties set
     × (request ≡ requests.Subscribe (record { pkid = 0; filters = filters; properties = set }))
 
--- without a client nothing is added, and the answer is 200; else it is at the end of the list, or memory is refused, and all is as
--- before
+-- without a client nothing is added, and the answer is 200; else it is at the end of the list, or
+-- memory is refused, and all is as before
 abbrev pub AddedFilter : Filter → Option Holder → ℕ → Option Holder → Type 0
 AddedFilter f None code after = (code ≡ no_client) × (after ≡ None)
 AddedFilter f (Some old) code after =
-    ((code ≡ 0) × (after ≡ Some (record old { filters = old.filters ++ f ∷ [] }))) ⊎ ((code ≡ out_of_memory) × (after ≡ Some old))
+    ((code ≡ 0) × (after ≡ Some (record old { filters = old.filters ++ f ∷ [] })))
+    ⊎ ((code ≡ out_of_memory) × (after ≡ Some old))
 
 -- A call is declined, and the handle is as before; or such a filter is added.
-pub data FilterAdded (Bad : Type 0) (Is : Filter → Type 0) (before : Option Holder) (code : ℕ) (after : Option Holder) : Type 0 where
+pub data FilterAdded (Bad : Type 0) (Is : Filter → Type 0) (before : Option Holder) (code : ℕ)
+    (after : Option Holder) : Type 0 where
   Declined : IsDeclined Bad code → after ≡ before → FilterAdded Bad Is before code after
   Put : (f : Filter) → Is f → AddedFilter f before code after → FilterAdded Bad Is before code after

@@ -4,7 +4,8 @@ use Rattle.mqtt5_inflight.specs.declared.error.StateError.{StateError}
 use Rattle.mqtt5_inflight.specs.declared.error.StateError.TheVariants as faults
 use Rattle.mqtt5_client.specs.Numbers.{error_number, state_error_number}
 
--- n of Sn; where a frame can't be read or a packet can't be written (S7), 100 + n of En, which says why
+-- n of Sn; where a frame can't be read or a packet can't be written (S7), 100 + n of En, which says
+-- why
 abbrev pub fault_code : StateError → ℕ
 fault_code (faults.Deserialization e) = 100 + error_number e
 fault_code fault = state_error_number fault

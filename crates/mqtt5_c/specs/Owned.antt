@@ -8,7 +8,8 @@ use Rattle.mqtt5_holder.specs.contracts.holder.Holder as holder
 
 -- the heap frees the block that the pointer leads to
 abbrev pub in_heap : Ptr → holder.the_row.Denot → Fml
-in_heap p x = box_owns (ghosts.dealloc_token (record { memory = record { seal = tt } })) holder.the_row p x
+in_heap p x =
+    box_owns (ghosts.dealloc_token (record { memory = record { seal = tt } })) holder.the_row p x
 
 abbrev pub owned_if_some : Ptr → Option holder.the_row.Denot → Fml
 owned_if_some p None = ftrue

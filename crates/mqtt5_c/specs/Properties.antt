@@ -27,14 +27,16 @@ HasContent id bytes p = item_of p ≡ (id, content bytes)
 abbrev pub HasPair : List ℕ → List ℕ → Property → Type 0
 HasPair name value p = item_of p ≡ (38, couple name value)
 
--- without a client nothing is added, and the answer is 200; else it is at the end of the list, or memory is refused, and all is as
--- before
+-- without a client nothing is added, and the answer is 200; else it is at the end of the list, or
+-- memory is refused, and all is as before
 abbrev pub AddedOne : Property → Option Holder → ℕ → Option Holder → Type 0
 AddedOne p None code after = (code ≡ no_client) × (after ≡ None)
 AddedOne p (Some old) code after =
-    ((code ≡ 0) × (after ≡ Some (record old { properties = old.properties ++ p ∷ [] }))) ⊎ ((code ≡ out_of_memory) × (after ≡ Some old))
+    ((code ≡ 0) × (after ≡ Some (record old { properties = old.properties ++ p ∷ [] })))
+    ⊎ ((code ≡ out_of_memory) × (after ≡ Some old))
 
 -- A call is declined, and the handle is as before; or such a property is added.
-pub data Added (Bad : Type 0) (Is : Property → Type 0) (before : Option Holder) (code : ℕ) (after : Option Holder) : Type 0 where
+pub data Added (Bad : Type 0) (Is : Property → Type 0) (before : Option Holder) (code : ℕ)
+    (after : Option Holder) : Type 0 where
   Declined : IsDeclined Bad code → after ≡ before → Added Bad Is before code after
   Put : (p : Property) → Is p → AddedOne p before code after → Added Bad Is before code after

@@ -31,29 +31,48 @@ IsBadWill topic quality = ¬ (IsTopic topic) ⊎ (2 < quality)
 -- a will of this topic, payload, QoS and retain, without properties (3.1.3.3, 3.1.3.4)
 abbrev pub IsWill : List ℕ → List ℕ → ℕ → Bool → LastWill → Type 0
 IsWill topic payload quality retain will =
-    IsTopic topic × (q : QoS) × (qos_number q ≡ quality) × (will ≡ record { topic = topic; message = payload; qos = q; retain = retain; properties = None })
+    IsTopic topic × (q : QoS) × (qos_number q ≡ quality)
+    × (will
+    ≡ record { topic = topic; message = payload; qos = q; retain = retain; properties = None })
 
--- without a client nothing is set, and the answer is 200; else it is set, or memory is refused, and all is as before
+-- without a client nothing is set, and the answer is 200; else it is set, or memory is refused, and
+-- all is as before
 abbrev pub Sets : (Settings → Settings) → Option Holder → ℕ → Option Holder → Type 0
 Sets settles None code after = (code ≡ no_client) × (after ≡ None)
 Sets settles (Some old) code after =
-    ((code ≡ 0) × (after ≡ Some (record old { settings = settles old.settings }))) ⊎ ((code ≡ out_of_memory) × (after ≡ Some old))
+    ((code ≡ 0) × (after ≡ Some (record old { settings = settles old.settings })))
+    ⊎ ((code ≡ out_of_memory) × (after ≡ Some old))
 
--- A call is declined, and the handle is as before; or name and password are UTF-8, and the login is set.
-pub data LoginSet (user_name password : List ℕ) (before : Option Holder) (code : ℕ) (after : Option Holder) : Type 0 where
-  Declined : IsDeclined (¬ (IsUtf8 user_name) ⊎ ¬ (IsUtf8 password)) code → after ≡ before → LoginSet user_name password before code after
-  Put : IsUtf8 user_name → IsUtf8 password → Sets (with_login user_name password) before code after → LoginSet user_name password before code after
+-- A call is declined, and the handle is as before; or name and password are UTF-8, and the login is
+-- set.
+pub data LoginSet (user_name password : List ℕ) (before : Option Holder) (code : ℕ)
+    (after : Option Holder) : Type 0 where
+  Declined : IsDeclined (¬ (IsUtf8 user_name) ⊎ ¬ (IsUtf8 password)) code → after ≡ before
+      → LoginSet user_name password before code after
+  Put : IsUtf8 user_name → IsUtf8 password → Sets (with_login user_name password) before code after
+      → LoginSet user_name password before code after
 
--- A call is declined, and the handle is as before; or such a will is set, with these properties (3.1.3.2).
-pub data WillSet (Bad : Type 0) (Is : LastWill → Type 0) (properties : List Property) (before : Option Holder) (code : ℕ) (after : Option Holder) : Type 0 where
+-- A call is declined, and the handle is as before; or such a will is set, with these properties
+-- (3.1.3.2).
+pub data WillSet (Bad : Type 0) (Is : LastWill → Type 0) (properties : List Property)
+    (before : Option Holder) (code : ℕ) (after : Option Holder) : Type 0 where
   Declined : IsDeclined Bad code → after ≡ before → WillSet Bad Is properties before code after
-  Put : (will : LastWill) → (set : Option LastWillProperties) → Is will → IsSet will_found will_table properties set
-      → Sets (with_will (record will { properties = set })) before code after → WillSet Bad Is properties before code after
+  Put : (will : LastWill) → (set : Option LastWillProperties) → Is will
+      → IsSet will_found will_table properties set
+      → Sets (with_will (record will { properties = set })) before code after
+      → WillSet Bad Is properties before code after
 
 -- login, will and both lists are those of a new client; or memory is refused, and all is as before
 abbrev pub Forgot : Holder → ℕ → Holder → Type 0
 Forgot old code new =
-    ((code ≡ 0) × (new ≡ record old { settings = defaults (text_of []) (text_of []) 0; properties = []; filters = [] })) ⊎ ((code ≡ out_of_memory) × (new ≡ old))
+    ((code ≡ 0)
+    × (new
+    ≡ record old {
+      settings = defaults (text_of []) (text_of []) 0;
+      properties = [];
+      filters = [];
+    }))
+    ⊎ ((code ≡ out_of_memory) × (new ≡ old))
 
 -- the same of a handle, which is answered by 200 without a client
 abbrev pub Forgets : Option Holder → ℕ → Option Holder → Type 0

@@ -1,5 +1,6 @@
 -- What a call answers that asks for one thing of the oldest event, which stays.
-use Rattle.std.specs.Prelude.{◌≡◌, ℕ, Bool, true, false, ◌&&◌, nat_le, List, [], ◌∷◌, length, Option, None, Some, slice_get}
+use Rattle.std.specs.Prelude.{◌≡◌, ℕ, Bool, true, false, ◌&&◌, nat_le, List, [], ◌∷◌, length}
+use Rattle.std.specs.Prelude.{Option, None, Some, slice_get}
 use Rattle.mqtt5_base.specs.Texts.{Utf8}
 use Rattle.mqtt5_inflight.specs.declared.event.Event.{Event}
 use Rattle.mqtt5_events.specs.Properties as properties
@@ -42,7 +43,8 @@ Copies false bytes old code new = (code ≡ small_buffer) × (new ≡ old)
 
 -- they are copied, and it is told how many they are; or they aren't there, and nothing is told
 abbrev pub TellsBytes : Option (List ℕ) → List ℕ → ℕ → ℕ → List ℕ → ℕ → Type 0
-TellsBytes (Some bytes) old count code new told = (told ≡ length bytes) × Copies (nat_le (length bytes) (length old)) bytes old code new
+TellsBytes (Some bytes) old count code new told =
+    (told ≡ length bytes) × Copies (nat_le (length bytes) (length old)) bytes old code new
 TellsBytes None old count code new told = (code ≡ absent) × (new ≡ old) × (told ≡ count)
 
 -- two buffers
@@ -51,13 +53,17 @@ Both = List ℕ × List ℕ
 
 -- whether both have room
 abbrev pub fit_both : Utf8 × Utf8 → Both → Bool
-fit_both p buffers = nat_le (length p.0.bytes) (length buffers.0) && nat_le (length p.1.bytes) (length buffers.1)
+fit_both p buffers =
+    nat_le (length p.0.bytes) (length buffers.0) && nat_le (length p.1.bytes) (length buffers.1)
 
 -- the same of a name and a value, of which both are copied or none
 abbrev pub CopiesBoth : Bool → Utf8 × Utf8 → Both → ℕ → Both → Type 0
-CopiesBoth true p old code new = (code ≡ 0) × (new.0 ≡ over p.0.bytes old.0) × (new.1 ≡ over p.1.bytes old.1)
+CopiesBoth true p old code new =
+    (code ≡ 0) × (new.0 ≡ over p.0.bytes old.0) × (new.1 ≡ over p.1.bytes old.1)
 CopiesBoth false p old code new = (code ≡ small_buffer) × (new ≡ old)
 
 abbrev pub TellsPair : Option (Utf8 × Utf8) → Both → ℕ × ℕ → ℕ → Both → ℕ × ℕ → Type 0
-TellsPair (Some p) old counts code new told = (told.0 ≡ length p.0.bytes) × (told.1 ≡ length p.1.bytes) × CopiesBoth (fit_both p old) p old code new
+TellsPair (Some p) old counts code new told =
+    (told.0 ≡ length p.0.bytes) × (told.1 ≡ length p.1.bytes)
+    × CopiesBoth (fit_both p old) p old code new
 TellsPair None old counts code new told = (code ≡ absent) × (new ≡ old) × (told ≡ counts)

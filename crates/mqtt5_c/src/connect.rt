@@ -4,7 +4,7 @@ ghost use Rattle.std.specs.Prelude.{◌≡◌, ◌⊎◌, ◌≤◌, IfSome, unw
 ghost use Rattle.mqtt5_base.specs.Texts.{text_of};
 ghost use Rattle.mqtt5_client.specs.Client.{IsReady};
 ghost use Rattle.mqtt5_connect.specs.Rows.{connect_table};
-ghost use Rattle.mqtt5_options.specs.Options.{no_properties};
+ghost use Rattle.mqtt5_connect.specs.Connects.{no_connect_properties};
 ghost use Rattle.mqtt5_c.specs.Asked.{CantHave};
 ghost use Rattle.mqtt5_c.specs.Connected.{IsBadConnect, settled, Connects, Begins, Connected};
 ghost use Rattle.mqtt5_c.specs.Handles.{IsKept};
@@ -34,7 +34,7 @@ fn copy_of(alloc: Global, text: &str) -> Option<Text>
 
 /// The properties, empty ones where there are none.
 fn or_empty(alloc: Global, set: Option<ConnectProperties>) -> ConnectProperties
-    ensures { result ≡ unwrap_or set no_properties }
+    ensures { result ≡ unwrap_or set no_connect_properties }
 {
     match set {
         Some(set) => set,

@@ -9,24 +9,15 @@ ghost use Rattle.mqtt5_c.specs.Numbers.{no_client};
 
 use crate::handle::{Handle, put, take};
 use crate::number::NO_CLIENT;
-use mqtt5_client::MqttState;
+use mqtt5_client::Client;
 use std::alloc::Global;
 
-fn next_id(state: &MqttState) -> u16
-    ensures { result ≡ next_id state.now.core }
-{
-    let limit = state.max_outgoing_inflight_upper_limit();
-    let last = state.last_pkid();
-    prove!(last < limit);
-    last + 1
-}
-
 #[tactic(auto, using(crate::proofs::Free::is_free))]
-fn is_free(state: &MqttState) -> bool
-    ensures { result ≡ is_free state.now.core }
+fn is_free(client: &Client) -> bool
+    ensures { result ≡ is_free client.now.state.core }
 {
-    let id = next_id(state);
-    state.outgoing_pub(id).is_none() && !state.outgoing_rel(id)
+    let id = client.next_id();
+    client.state.outgoing_pub(id).is_none() && !client.state.outgoing_rel(id)
 }
 
 /// Tells the packet identifier that the next publish of QoS 1 or 2, subscribe or unsubscribe gets. 0.
@@ -42,7 +33,7 @@ pub extern "C" fn mqtt5_client_next_id(alloc: Global, h: &mut Handle, id: &mut u
     let Some(holder) = take(alloc, h) else {
         return NO_CLIENT;
     };
-    *id = next_id(&holder.client.state);
+    *id = holder.client.next_id();
     put(h, holder);
     0
 }
@@ -60,7 +51,7 @@ pub extern "C" fn mqtt5_client_may_publish(alloc: Global, h: &mut Handle, may: &
     let Some(holder) = take(alloc, h) else {
         return NO_CLIENT;
     };
-    *may = is_free(&holder.client.state);
+    *may = is_free(&holder.client);
     put(h, holder);
     0
 }

@@ -14,17 +14,24 @@ use mqtt5_events::{content_in, number_in, pairs_in, reason_in, subscriptions_in}
 use std::alloc::Global;
 use std::collections::VecDeque;
 
+/// Tells what was found of the oldest event, or that it isn't there.
+macro_rules! tell_found {
+    ($found:expr, $place:expr) => {{
+        let Some(found) = $found else {
+            return ABSENT;
+        };
+        *$place = found;
+        0
+    }};
+}
+
 fn tell_number(events: &VecDeque<Event>, property: u32, number: &mut u32) -> u32
     ensures { Tells (number_of events.now.items property) number.old result number.new }
 {
     let Some(event) = events.front() else {
         return ABSENT;
     };
-    let Some(found) = number_in(event, property) else {
-        return ABSENT;
-    };
-    *number = found;
-    0
+    tell_found!(number_in(event, property), number)
 }
 
 /// Tells the number of the property with this identifier of the packet that the oldest event tells of. 0; 204 where it has
@@ -241,11 +248,7 @@ fn tell_reason(events: &VecDeque<Event>, index: usize, reason: &mut u8) -> u32
     let Some(event) = events.front() else {
         return ABSENT;
     };
-    let Some(found) = reason_in(event, index) else {
-        return ABSENT;
-    };
-    *reason = found;
-    0
+    tell_found!(reason_in(event, index), reason)
 }
 
 /// Tells a reason code, from 0 on, of the packet that the oldest event tells of: of a SubAck and an UnsubAck one for each

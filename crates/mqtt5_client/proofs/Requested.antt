@@ -21,8 +21,8 @@ use Rattle.mqtt5_inflight.specs.declared.event.Request.TheVariants as requests
 use Rattle.mqtt5_inflight.specs.declared.error.StateError.{StateError}
 use Rattle.mqtt5_inflight.specs.declared.error.StateError.TheVariants as faults
 use Rattle.mqtt5_session.specs.Session.{Session, Answer, Sends}
-use Rattle.mqtt5_session.specs.Requests.{on_request, unless, over_maximum, judged, Verdict, Refuse, Wait, Store, out_acked, out_publish, out_release, out_known, release_of, id_for, last_after, counts_ping, ping_fault}
-use Rattle.mqtt5_session.proofs.Owed.{choose}
+use Rattle.mqtt5_session.specs.Requests.{on_request, unless, over_maximum, verdict_of, Verdict, Refuse, Wait, Store, out_acked, out_publish, out_release, out_known, release_of, id_for, last_after, counts_ping, ping_fault}
+use Rattle.mqtt5_session.proofs.Exports.{choose}
 use Rattle.mqtt5_drive.specs.declared.run.Input.TheVariants as inputs
 use Rattle.mqtt5_drive.specs.Trace.{Waits, Holds, finish}
 use Rattle.mqtt5_drive.specs.Run.{reply_bytes, on_answer, on_written, run}
@@ -53,8 +53,8 @@ acked_said Store s p last at = refl
 
 publish_said : (q : QoS) (s : Session) (p : Publish) (at : ℕ) → Said (Some (packets.Publish (record p { pkid = id_asked q s.core p.pkid }))) (out_publish q s p at)
 publish_said AtMostOnce s p at = unless_said _ (over_maximum s.core p) s _ refl
-publish_said AtLeastOnce s p at = acked_said (judged s.core (record p { pkid = id_for s.core p.pkid })) s (record p { pkid = id_for s.core p.pkid }) (last_after s.core p.pkid) at
-publish_said ExactlyOnce s p at = acked_said (judged s.core (record p { pkid = id_for s.core p.pkid })) s (record p { pkid = id_for s.core p.pkid }) (last_after s.core p.pkid) at
+publish_said AtLeastOnce s p at = acked_said (verdict_of s.core (record p { pkid = id_for s.core p.pkid })) s (record p { pkid = id_for s.core p.pkid }) (last_after s.core p.pkid) at
+publish_said ExactlyOnce s p at = acked_said (verdict_of s.core (record p { pkid = id_for s.core p.pkid })) s (record p { pkid = id_for s.core p.pkid }) (last_after s.core p.pkid) at
 
 known_said : (x : Option Slot) (s : Session) (id last at : ℕ) → Said (Some (release_of id)) (out_known x s id last at)
 known_said (Some (Sent p)) s id last at = tt {0}
@@ -105,8 +105,8 @@ acked_still request Store s p last at = tt {0}
 
 publish_still : (request : Request) (q : QoS) (s : Session) (p : Publish) (at : ℕ) → Still request s (out_publish q s p at)
 publish_still request AtMostOnce s p at = unless_still request (over_maximum s.core p) s _ _
-publish_still request AtLeastOnce s p at = acked_still request (judged s.core (record p { pkid = id_for s.core p.pkid })) s (record p { pkid = id_for s.core p.pkid }) (last_after s.core p.pkid) at
-publish_still request ExactlyOnce s p at = acked_still request (judged s.core (record p { pkid = id_for s.core p.pkid })) s (record p { pkid = id_for s.core p.pkid }) (last_after s.core p.pkid) at
+publish_still request AtLeastOnce s p at = acked_still request (verdict_of s.core (record p { pkid = id_for s.core p.pkid })) s (record p { pkid = id_for s.core p.pkid }) (last_after s.core p.pkid) at
+publish_still request ExactlyOnce s p at = acked_still request (verdict_of s.core (record p { pkid = id_for s.core p.pkid })) s (record p { pkid = id_for s.core p.pkid }) (last_after s.core p.pkid) at
 
 known_still : (request : Request) (x : Option Slot) (s : Session) (id last at : ℕ) → Still request s (out_known x s id last at)
 known_still request (Some (Sent p)) s id last at = λ _. refl

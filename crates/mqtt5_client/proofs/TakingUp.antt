@@ -15,8 +15,8 @@ use Rattle.mqtt5_inflight.specs.declared.error.StateError.{StateError}
 use Rattle.mqtt5_session.specs.Session.{Session, Answer, fresh}
 use Rattle.mqtt5_session.specs.Requests.{on_request}
 use Rattle.mqtt5_session.specs.Packets.{on_packet}
-use Rattle.mqtt5_session.specs.Resuming.{cleaned, send_all, resume_of, with_reply, Sendings}
-use Rattle.mqtt5_session.proofs.Resume.{sent_before}
+use Rattle.mqtt5_session.specs.Resuming.{on_clean, send_all, resume_of, with_reply, Sendings}
+use Rattle.mqtt5_session.proofs.Exports.{sent_before}
 use Rattle.mqtt5_drive.specs.Run.{reply_bytes}
 use Rattle.mqtt5_client.specs.TakingUp.{is_writable, fitting, unfitting, unacked, fitting_of, ended}
 use Rattle.mqtt5_client.specs.Again.{behind, frames_behind, frames_of}
@@ -134,4 +134,4 @@ all_fit codec (r ∷ rs) e =
 
 pub fitting_resumes : (codec : Codec) (s : Session) (at : ℕ) → flat_map (unfitting codec) (unacked s) ≡ [] → fitting_of codec s at ≡ resume_of s at
 unfolding resume_of
-fitting_resumes codec s at e = ap (λ (rs : List Request). send_all rs (cleaned s) at) (all_fit codec (unacked s) e)
+fitting_resumes codec s at e = ap (λ (rs : List Request). send_all rs (on_clean s) at) (all_fit codec (unacked s) e)

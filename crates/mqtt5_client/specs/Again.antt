@@ -1,4 +1,5 @@
--- The bytes of what is sent again on a new connection (MQTT 5.0 section 4.4), and what a resume leaves of a client.
+-- The bytes of what is sent again on a new connection (MQTT 5.0 section 4.4), and what a resume
+-- leaves of a client.
 use Rattle.std.specs.Prelude.{◌≡◌, ℕ, ◌⊎◌, List, [], ◌∷◌, ◌++◌, Result, Ok, Err}
 use Rattle.bytes.specs.Filled.{Filled}
 use Rattle.mqtt5_base.specs.declared.error.Error.{Error}
@@ -12,14 +13,16 @@ use Rattle.mqtt5_session.specs.Resuming.{resume_of}
 use Rattle.mqtt5_client.specs.declared.client.Client.{Client}
 
 -- bytes go behind others, or their refusal ends it
-abbrev pub behind : List ℕ → Result (List ℕ) Error → (List ℕ → Result (List ℕ) Error) → Result (List ℕ) Error
+abbrev pub behind : List ℕ → Result (List ℕ) Error → (List ℕ → Result (List ℕ) Error)
+    → Result (List ℕ) Error
 behind output (Ok bytes) goes_on = goes_on (output ++ bytes)
 behind output (Err e) goes_on = Err e
 
 -- the frames of packets, one behind the other, or the first refusal
 abbrev pub frames_behind : List ℕ → Codec → List Packet → Result (List ℕ) Error
 frames_behind output codec [] = Ok output
-frames_behind output codec (p ∷ ps) = behind output (writing_under codec.max_outgoing_size p) (λ o. frames_behind o codec ps)
+frames_behind output codec (p ∷ ps) =
+    behind output (writing_under codec.max_outgoing_size p) (λ o. frames_behind o codec ps)
 
 -- of them alone
 abbrev pub frames_of : Codec → List Packet → Result (List ℕ) Error
@@ -36,9 +39,11 @@ SendsAgain old at new =
     (packets : List Packet) × (frames : List ℕ) × (resume_of old.state at ≡ Ok (packets, new.state))
     × (frames_of old.codec packets ≡ Ok frames) × (new.output.items ≡ old.output.items ++ frames)
 
--- The session refused, and is unchanged; or it was taken up, and a packet can't be written, or memory ran out.
+-- The session refused, and is unchanged; or it was taken up, and a packet can't be written, or
+-- memory ran out.
 abbrev pub Refuses : StateError → Client → ℕ → Client → Type 0
 Refuses e old at new =
     ((new.state ≡ old.state) × ((e ≡ OutOfMemory) ⊎ (resume_of old.state at ≡ Err e)))
     ⊎ ((packets : List Packet) × (resume_of old.state at ≡ Ok (packets, new.state))
-    × ((e ≡ OutOfMemory) ⊎ ((f : Error) × (frames_of old.codec packets ≡ Err f) × (e ≡ state_error f))))
+    × ((e ≡ OutOfMemory)
+    ⊎ ((f : Error) × (frames_of old.codec packets ≡ Err f) × (e ≡ state_error f))))

@@ -1,10 +1,9 @@
--- What a call leaves of a client: a run of its session over what came in and what was asked, whose output is what was taken
--- to be sent and what still waits (MQTT 5.0 section 4.2).
-use Rattle.std.specs.Prelude.{◌≡◌, ℕ, Bool, true, false, ◌||◌, List, [], ◌∷◌, ◌++◌, None, option_map}
+-- What a call leaves of a client: a run of its session over what came in and what was asked, whose
+-- output is what was taken to be sent and what still waits (MQTT 5.0 section 4.2).
+use Rattle.std.specs.Prelude.{◌≡◌, ℕ, Bool, true, false, ◌||◌, List, [], ◌∷◌, ◌++◌, option_map}
 use Rattle.std.specs.Option.{option_to_list}
 use Rattle.mqtt5_base.specs.Front.{NeedsMore}
 use Rattle.mqtt5_base.specs.FrontAt.{front}
-use Rattle.mqtt5_codec.specs.declared.codec.Codec.{Codec}
 use Rattle.mqtt5_inflight.specs.declared.event.Request.{Request}
 use Rattle.mqtt5_inflight.specs.declared.event.Request.TheVariants as requests
 use Rattle.mqtt5_inflight.specs.declared.error.StateError.{StateError}
@@ -36,7 +35,8 @@ abbrev pub disconnects : Input → Bool
 disconnects (inputs.Request requests.Disconnect) = true
 disconnects input = false
 
--- whether a Disconnect was asked for, before these steps or by one of them, so that nothing may follow it (3.14.4)
+-- whether a Disconnect was asked for, before these steps or by one of them, so that nothing may
+-- follow it (3.14.4)
 abbrev pub is_disconnected : Bool → List Step → Bool
 is_disconnected before [] = before
 is_disconnected before (step ∷ steps) = is_disconnected (disconnects step.input || before) steps
@@ -45,21 +45,25 @@ is_disconnected before (step ∷ steps) = is_disconnected (disconnects step.inpu
 abbrev pub trace : Client → List Step → Trace
 trace c steps = run c.codec (turns steps) c.state c.input.items
 
--- All is the run's: the session, the bytes held, and the output, of which sent is gone and new has the rest. A Disconnect that was
--- asked for is remembered.
+-- All is the run's: the session, the bytes held, and the output, of which sent is gone and new has
+-- the rest. A Disconnect that was asked for is remembered.
 pub record Runs (old : Client) (steps : List Step) (sent : List ℕ) (new : Client) : Type 0 where
-  pub all : finish old.state old.output.items (trace old steps) ≡ record { session = new.state; output = sent ++ new.output.items; ending = Holds new.input.items }
+  pub all : finish old.state old.output.items (trace old steps)
+      ≡ record {
+        session = new.state;
+        output = sent ++ new.output.items;
+        ending = Holds new.input.items;
+      }
   pub ready : IsReady new
   pub over : new.disconnected ≡ is_disconnected old.disconnected steps
 
--- The run stops with this fault, or memory ran out on its way; the session and the output are those of then.
+-- The run stops with this fault, or memory ran out on its way; the session and the output are those
+-- of then.
 abbrev pub Fails : StateError → Client → List Step → List ℕ → Client → Type 0
-Fails e old steps sent new = Stops e old.state old.output.items (trace old steps) new.state (sent ++ new.output.items)
-
--- a codec without limits
-abbrev pub no_limits : Codec
-no_limits = record { max_incoming_size = None; max_outgoing_size = None }
+Fails e old steps sent new =
+    Stops e old.state old.output.items (trace old steps) new.state (sent ++ new.output.items)
 
 -- what a session gives back: what it would send again (4.4), and the publish that waits for its id
 abbrev pub given_back : Core → List Request
-given_back c = requests_of c.limit c.in_use ++ option_to_list (option_map requests.Publish c.waiting)
+given_back c =
+    requests_of c.limit c.in_use ++ option_to_list (option_map requests.Publish c.waiting)

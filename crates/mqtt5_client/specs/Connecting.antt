@@ -34,7 +34,10 @@ incoming_limit (Some size) limit = Some size
 
 -- the limits of a new connection: the broker hasn't said one yet (3.2.2.3.6)
 abbrev pub opened : Settings → Codec → Codec
-opened s codec = record { max_incoming_size = incoming_limit (properties_of s).max_packet_size codec.max_incoming_size; max_outgoing_size = None }
+opened s codec = record {
+  max_incoming_size = incoming_limit (properties_of s).max_packet_size codec.max_incoming_size;
+  max_outgoing_size = None;
+}
 
 -- these are the bytes of a packet, or memory ran out, or this is why it can't be written
 abbrev pub FramesConnect : Packet → Result Filled Error → Type 0
@@ -43,4 +46,5 @@ FramesConnect p (Err e) = (e ≡ OutOfMemory) ⊎ (packet_writing p ≡ Err e)
 
 -- a session's fault is want of memory, or why a packet can't be written
 abbrev pub IsRefused : Packet → StateError → Type 0
-IsRefused p e = (e ≡ faults.OutOfMemory) ⊎ ((f : Error) × (packet_writing p ≡ Err f) × (e ≡ state_error f))
+IsRefused p e =
+    (e ≡ faults.OutOfMemory) ⊎ ((f : Error) × (packet_writing p ≡ Err f) × (e ≡ state_error f))

@@ -1,7 +1,8 @@
 -- This file serves the logic alone: one request after another is sent again, where it fits.
-use Rattle.std.specs.Prelude.{◌≡◌, ℕ, ◌⊎◌, List, [], ◌++◌, map, Option, None, Some, Result, Ok, Err}
+use Rattle.std.specs.Prelude.{◌≡◌, ℕ, ◌⊎◌, List, ◌++◌, map, Option, None, Some, Result, Ok, Err}
 use Rattle.mqtt5_base.specs.declared.error.Error.{Error}
 use Rattle.mqtt5_control.specs.declared.connack.ConnAckProperties.{ConnAckProperties}
+use Rattle.mqtt5_control.specs.ConnAcks.{no_connack_properties}
 use Rattle.mqtt5_codec.specs.declared.packet.Packet.{Packet}
 use Rattle.mqtt5_codec.specs.declared.codec.Codec.{Codec}
 use Rattle.mqtt5_inflight.specs.declared.event.Request.{Request}
@@ -18,28 +19,40 @@ use Rattle.mqtt5_client.specs.Again.{frames_of}
 abbrev pub all_fitting : Codec → List Request → Session → ℕ → Sendings
 all_fitting codec rs s at = send_all (map (fitting codec) rs) s at
 
--- memory ran out, or the session refuses one of these for its topic alias, or a packet can't be written
+-- memory ran out, or the session refuses one of these for its topic alias, or a packet can't be
+-- written
 abbrev pub NotResent : StateError → Codec → List Request → Session → ℕ → Type 0
 NotResent e codec rs s at =
     (e ≡ faults.OutOfMemory) ⊎ ((all_fitting codec rs s at ≡ Err e)
-    ⊎ ((sent : List Packet) × (t : Session) × (all_fitting codec rs s at ≡ Ok (sent, t)) × ((f : Error) × (frames_of codec sent ≡ Err f) × (e ≡ state_error f))))
+    ⊎ ((sent : List Packet) × (t : Session) × (all_fitting codec rs s at ≡ Ok (sent, t))
+    × ((f : Error) × (frames_of codec sent ≡ Err f) × (e ≡ state_error f))))
 
--- the frames of what was sent so far; or one of them can't be written, and the first fault is kept, or that memory ran out
+-- the frames of what was sent so far; or one of them can't be written, and the first fault is kept,
+-- or that memory ran out
 abbrev pub Stands : Option StateError → List ℕ → Result (List ℕ) Error → Type 0
 Stands None frames value = value ≡ Ok frames
-Stands (Some e) frames value = (e ≡ faults.OutOfMemory) ⊎ ((f : Error) × (value ≡ Err f) × (e ≡ state_error f))
+Stands (Some e) frames value =
+    (e ≡ faults.OutOfMemory) ⊎ ((f : Error) × (value ≡ Err f) × (e ≡ state_error f))
 
--- one more frame is put behind those before it, or why it can't be written is kept; after a fault any bytes may be there
-abbrev pub Adds : Option StateError → List ℕ → Result (List ℕ) Error → Option StateError → List ℕ → Type 0
+-- one more frame is put behind those before it, or why it can't be written is kept; after a fault
+-- any bytes may be there
+abbrev pub Adds : Option StateError → List ℕ → Result (List ℕ) Error → Option StateError → List ℕ
+    → Type 0
 Adds (Some e) old value fault new = fault ≡ Some e
 Adds None old value None new = (bytes : List ℕ) × (value ≡ Ok bytes) × (new ≡ old ++ bytes)
 Adds None old value (Some e) new = Stands (Some e) new value
 
 -- the frame of an answer's packet is added, or the session refuses, or memory ran out
-abbrev pub SendsFrame : Result Unit StateError → Codec → Answer → Option StateError → List ℕ → Session → Option StateError → List ℕ → Type 0
-SendsFrame (Ok done) codec a fault old t kept new = (reply : Option Packet) × (a ≡ (Ok reply, t)) × Adds fault old (reply_bytes codec reply) kept new
+abbrev pub SendsFrame : Result Unit StateError → Codec → Answer → Option StateError → List ℕ
+    → Session → Option StateError → List ℕ → Type 0
+SendsFrame (Ok done) codec a fault old t kept new =
+    (reply : Option Packet) × (a ≡ (Ok reply, t))
+    × Adds fault old (reply_bytes codec reply) kept new
 SendsFrame (Err e) codec a fault old t kept new = (e ≡ faults.OutOfMemory) ⊎ (a.0 ≡ Err e)
 
 -- what a ConnAck says that allows what the last one allowed
 abbrev pub allowed_by : Core → ConnAckProperties
-allowed_by c = record { session_expiry_interval = None; receive_max = Some c.current; max_qos = None; retain_available = None; max_packet_size = None; assigned_client_identifier = None; topic_alias_max = Some c.alias_max; reason_string = None; user_properties = []; wildcard_subscription_available = None; subscription_identifiers_available = None; shared_subscription_available = None; server_keep_alive = None; response_information = None; server_reference = None; authentication_method = None; authentication_data = None }
+allowed_by c = record no_connack_properties {
+  receive_max = Some c.current;
+  topic_alias_max = Some c.alias_max;
+}

@@ -21,7 +21,7 @@ use mqtt5_session::{MqttState, Reply, Request, StateError};
 use mqtt5_subscribe::{Subscribe, Unsubscribe};
 
 /// The next id.
-fn next_id(state: &MqttState) -> u16
+pub(crate) fn next_id(state: &MqttState) -> u16
     ensures { result ≡ next_id state.now.core }
 {
     let limit = state.max_outgoing_inflight_upper_limit();
@@ -55,6 +55,17 @@ fn put_ping(codec: &Codec, output: &mut BytesMut) -> Result<(), Error>
     codec.write(&Packet::PingReq(PingReq), output)
 }
 
+/// Writes a packet under an id, and gives its own back to it.
+macro_rules! under_id {
+    ($put:ident, $codec:expr, $output:expr, $packet:expr, $id:expr) => {{
+        let given = $packet.pkid;
+        $packet.pkid = $id;
+        let written = $put($codec, $output, $packet);
+        $packet.pkid = given;
+        written
+    }};
+}
+
 /// Writes a publish under an id.
 fn publish_under(
     codec: &Codec,
@@ -68,11 +79,7 @@ fn publish_under(
         (record publish.old { pkid = id }))) result output.old.items output.new.items }
     ensures same { publish.new ≡ publish.old }
 {
-    let given = publish.pkid;
-    publish.pkid = id;
-    let written = put_publish(codec, output, publish);
-    publish.pkid = given;
-    written
+    under_id!(put_publish, codec, output, publish, id)
 }
 
 /// Writes a Subscribe under an id; nothing of one without filters.
@@ -89,11 +96,7 @@ fn subscribe_under(
     if subscribe.filters.is_empty() {
         return Ok(());
     }
-    let given = subscribe.pkid;
-    subscribe.pkid = id;
-    let written = put_subscribe(codec, output, subscribe);
-    subscribe.pkid = given;
-    written
+    under_id!(put_subscribe, codec, output, subscribe, id)
 }
 
 /// Writes an Unsubscribe under an id.
@@ -109,11 +112,7 @@ fn unsubscribe_under(
         (record unsubscribe.old { pkid = id }))) result output.old.items output.new.items }
     ensures same { unsubscribe.new ≡ unsubscribe.old }
 {
-    let given = unsubscribe.pkid;
-    unsubscribe.pkid = id;
-    let written = put_unsubscribe(codec, output, unsubscribe);
-    unsubscribe.pkid = given;
-    written
+    under_id!(put_unsubscribe, codec, output, unsubscribe, id)
 }
 
 /// Writes what a request is sent as; nothing of one that is never sent.

@@ -4,22 +4,24 @@ ghost use Rattle.std.specs.Bool.{Decides};
 ghost use Rattle.std.specs.Prelude.{◌≡◌, ◌≢◌, ◌<◌, ◌⊎◌, ℕ, true, false, List, [], ◌∷◌, ◌++◌, length, take, drop, slice_get, Some, Ok, IsOk, IfOk, IfErr, OnOk, OnErr};
 ghost use Rattle.mqtt5_base.specs.declared.error.Error.{Error};
 ghost use Rattle.mqtt5_codec.specs.Packets.{packet_writing};
+ghost use Rattle.mqtt5_codec.specs.Codecs.{no_limits};
 ghost use Rattle.mqtt5_inflight.specs.Errors.{state_error};
 ghost use Rattle.mqtt5_inflight.specs.declared.error.StateError.{StateError as Fault};
 ghost use Rattle.mqtt5_inflight.specs.declared.error.StateError.TheVariants as faults;
 ghost use Rattle.mqtt5_session.specs.Session.{fresh};
+ghost use Rattle.mqtt5_session.specs.Requests.{next_id};
 ghost use Rattle.mqtt5_drive.specs.declared.run.Input.TheVariants as inputs;
 ghost use Rattle.mqtt5_drive.specs.declared.run.Step.{Step};
 ghost use Rattle.mqtt5_drive.specs.Run.{piece};
 ghost use Rattle.mqtt5_client.specs.declared.client.Client.{Client};
-ghost use Rattle.mqtt5_client.specs.Client.{IsReady, asking, disconnects, Fed, Runs, Fails, no_limits, given_back};
-ghost use Rattle.mqtt5_client.specs.Asked.{bytes_asked, Declines, NotAsked};
-ghost use Rattle.mqtt5_drive.specs.Limit.{allowed};
+ghost use Rattle.mqtt5_client.specs.Client.{IsReady, asking, disconnects, Fed, Runs, Fails, given_back};
+ghost use Rattle.mqtt5_client.specs.Asked.{bytes_asked, NotAsked};
+ghost use Rattle.mqtt5_drive.specs.Limit.{codec_after};
 ghost use Rattle.mqtt5_client.specs.Connecting.{connect_packet, opened, IsRefused};
 ghost use Rattle.mqtt5_client.specs.Again.{SendsAgain, Refuses};
 
 use crate::again::{append, frames, given_back};
-use crate::asking::send_request;
+use crate::asking::{next_id, send_request};
 use crate::connecting::{connect_frame, incoming_limit};
 use bytes::BytesMut;
 use mqtt5_codec::Codec;
@@ -70,9 +72,9 @@ impl Client {
     }
 
     /// Begins a connection: the input is emptied, the output is the Connect of these settings, with will and login,
-    /// and nothing of an earlier connection, nor a Disconnect of it is remembered; no limit on what is sent holds until the ConnAck says one, and what
-    /// comes in is limited by the settings' `max_packet_size`, where it is set. S7 where the Connect can't be
-    /// written (E11); S12. After an Err the client is unchanged.
+    /// and nothing of an earlier connection, nor a Disconnect of it is remembered; no limit on what is sent holds until
+    /// the ConnAck says one, and what comes in is limited by the settings' `max_packet_size`, where it is set. S7 where
+    /// the Connect can't be written (E11); S12. After an Err the client is unchanged.
     pub fn connect(&mut self, options: &MqttOptions) -> Result<(), StateError>
         ensures frame { OnOk result (packet_writing (connect_packet options.now)
             ≡ Ok self.new.output.items) }
@@ -109,7 +111,7 @@ impl Client {
         ensures err { IfErr result (λ e. Fails e self.old (piece at bytes.now ∷ []) [] self.new) }
         // The limit is that of the ConnAcks among the events of this call.
         ensures codec { self.new.codec
-            ≡ allowed (drop (length self.old.state.events) self.new.state.events) self.old.codec }
+            ≡ codec_after (drop (length self.old.state.events) self.new.state.events) self.old.codec }
         ensures lost { OnErr result (self.new.input.items ≡ []) }
         ensures over { self.new.disconnected ≡ self.old.disconnected }
         // So another call may follow.
@@ -159,7 +161,7 @@ impl Client {
     /// `receive` does with the events of its call. Takes no memory.
     pub fn take_limit(&mut self, from: usize)
         ensures { self.new
-            ≡ record self.old { codec = allowed (drop from self.old.state.events) self.old.codec } }
+            ≡ record self.old { codec = codec_after (drop from self.old.state.events) self.old.codec } }
     {
         take_limit(&mut self.codec, self.state.events(), from);
     }
@@ -201,7 +203,21 @@ impl Client {
             drop(request);
             return Err(StateError::Disconnected);
         }
-        self.ask(request, at)
+        let disconnects = is_disconnect(&request);
+        match send_request(&mut self.state, &self.codec, &mut self.output, request, at) {
+            Ok(()) => {
+                self.disconnected = disconnects;
+                Ok(())
+            }
+            Err(refused) => Err(refused),
+        }
+    }
+
+    /// The packet identifier that the next publish of QoS 1 or 2, Subscribe or Unsubscribe gets. Takes no memory.
+    pub fn next_id(&self) -> u16
+        ensures { result ≡ next_id self.now.state.core }
+    {
+        next_id(&self.state)
     }
 
     /// What is to be sent, the oldest byte first. Takes no memory.
@@ -285,33 +301,6 @@ impl Client {
         self.output.clear();
         empty_needs_more();
         Ok(requests)
-    }
-
-    /// Takes a request where nothing was asked for that ends the connection.
-    fn ask(&mut self, request: Request, at: u64) -> Result<(), StateError>
-        requires ready { IsReady self.old }
-        requires over { self.old.disconnected ≡ false }
-        ensures ok { OnOk result (Runs self.old (asking at request ∷ []) [] self.new) }
-        ensures writable { IsOk result
-            → IsOk (bytes_asked self.old.codec self.old.state.core request) }
-        ensures err { IfErr result (λ e.
-            Declines e self.old.codec request at self.old.state self.new.state) }
-        ensures unchanged { OnErr result
-            (request ≢ Request.PingReq → self.new.state ≡ self.old.state) }
-        ensures unsent { OnErr result (self.new.output.items ≡ self.old.output.items) }
-        ensures over { OnErr result (self.new.disconnected ≡ self.old.disconnected) }
-        ensures kept { (self.new.input.items ≡ self.old.input.items)
-            × (self.new.codec ≡ self.old.codec) }
-        ensures ready { IsReady self.new }
-    {
-        let disconnects = is_disconnect(&request);
-        match send_request(&mut self.state, &self.codec, &mut self.output, request, at) {
-            Ok(()) => {
-                self.disconnected = disconnects;
-                Ok(())
-            }
-            Err(refused) => Err(refused),
-        }
     }
 
     /// Runs one piece. After a fault the input is empty.

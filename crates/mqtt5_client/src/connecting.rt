@@ -14,12 +14,6 @@ use mqtt5_options::MqttOptions;
 use std::alloc::Global;
 use std::time::Duration;
 
-/// The codec of a Connect: the broker hasn't said a limit yet.
-const NO_LIMITS: Codec = Codec {
-    max_incoming_size: None,
-    max_outgoing_size: None,
-};
-
 /// Whole seconds, at most 65,535.
 fn seconds(keep_alive: Duration) -> u16
     ensures { result ≡ min (as_nanos keep_alive / 1_000_000_000) 65535 }
@@ -59,12 +53,12 @@ fn connect_packet(options: &MqttOptions) -> Result<Packet, Error>
     Ok(Packet::Connect(connect, will, login))
 }
 
-/// The frame of a packet, by itself.
+/// The frame of a packet, by itself: the broker hasn't said a limit yet.
 fn frame_of(alloc: Global, packet: &Packet) -> Result<BytesMut, Error>
     ensures { FramesConnect packet.now result }
 {
     let mut frame = BytesMut::new(alloc);
-    NO_LIMITS.write(packet, &mut frame)?;
+    Codec::new().write(packet, &mut frame)?;
     Ok(frame)
 }
 

@@ -1,5 +1,6 @@
 -- Packets of every type that is read and written, and their frames (MQTT 5.0 sections 2 and 3).
-use Rattle.std.specs.Prelude.{◌≡◌, ℕ, ◌/◌, List, [], ◌∷◌, map, length, Option, Some, None, Result, Err, nat_lt, min, if◌then◌else◌}
+use Rattle.std.specs.Prelude.{◌≡◌, ℕ, ◌/◌, List, [], ◌∷◌, map, length, Option, Some, None, Result}
+use Rattle.std.specs.Prelude.{Err, nat_lt, min, if◌then◌else◌}
 use Rattle.mqtt5_base.specs.declared.error.Error.{Error}
 use Rattle.mqtt5_base.specs.declared.error.Error.TheVariants.{OutgoingPacketTooLarge}
 use Rattle.mqtt5_base.specs.Grammar.{Row, Content}
@@ -25,8 +26,10 @@ use Rattle.mqtt5_codec.specs.declared.packet.Packet.TheVariants as packets
 -- the row of each packet type (2.1.2)
 abbrev pub packet_rows : Rows
 packet_rows =
-    (1, connect_row) ∷ (2, connack_row) ∷ (3, publish_row) ∷ (4, puback_row) ∷ (5, puback_row) ∷ (6, pubrel_row) ∷ (7, pubrel_row) ∷ (8, subscribe_row)
-    ∷ (9, suback_row) ∷ (10, unsubscribe_row) ∷ (11, unsuback_row) ∷ (12, ping_row) ∷ (13, ping_row) ∷ (14, disconnect_row) ∷ (15, auth_row) ∷ []
+    (1, connect_row) ∷ (2, connack_row) ∷ (3, publish_row) ∷ (4, puback_row) ∷ (5, puback_row)
+    ∷ (6, pubrel_row) ∷ (7, pubrel_row) ∷ (8, subscribe_row)
+    ∷ (9, suback_row) ∷ (10, unsubscribe_row) ∷ (11, unsuback_row) ∷ (12, ping_row) ∷ (13, ping_row)
+    ∷ (14, disconnect_row) ∷ (15, auth_row) ∷ []
 
 -- ---- a packet and its frame
 
@@ -69,13 +72,17 @@ abbrev pub IsRead : Packet → Type 0
 IsRead (packets.SubAck p) = map suback_settled p.return_codes ≡ p.return_codes
 IsRead p = Unit {0}
 
--- The whole frame is of that packet: its first byte has the packet's type, and its body is the packet's by its row (2.1).
+-- The whole frame is of that packet: its first byte has the packet's type, and its body is the
+-- packet's by its row (2.1).
 unfoldable pub IsFrameOf : List ℕ → Packet → Type 0
-IsFrameOf frame p = (first : ℕ) × (body : List ℕ) × IsWhole frame first body × (first / 16 ≡ packet_type p) × IsRead p × IsFrame packet_rows first body (packet_content p)
+IsFrameOf frame p =
+    (first : ℕ) × (body : List ℕ) × IsWhole frame first body × (first / 16 ≡ packet_type p)
+    × IsRead p × IsFrame packet_rows first body (packet_content p)
 
 -- the first fault of a whole frame (4.13.1)
 unfoldable pub IsFaultOf : List ℕ → Error → Type 0
-IsFaultOf frame e = (first : ℕ) × (body : List ℕ) × IsWhole frame first body × FrameFault packet_rows first body e
+IsFaultOf frame e =
+    (first : ℕ) × (body : List ℕ) × IsWhole frame first body × FrameFault packet_rows first body e
 
 -- ---- writing
 
@@ -90,4 +97,7 @@ packet_writing p = writing (packet_row p) (written_packet p)
 -- the same under a limit on the whole frame, which is judged first (3.2.2.3.6)
 abbrev pub writing_under : Option ℕ → Packet → Result (List ℕ) Error
 writing_under None p = packet_writing p
-writing_under (Some max) p = if nat_lt max (packet_len p) then Err (OutgoingPacketTooLarge (min (packet_len p) 4294967295) max) else packet_writing p
+writing_under (Some max) p =
+    if nat_lt max (packet_len p)
+    then Err (OutgoingPacketTooLarge (min (packet_len p) 4294967295) max)
+    else packet_writing p

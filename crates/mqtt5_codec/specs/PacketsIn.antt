@@ -1,4 +1,5 @@
--- This file serves the logic alone: the packet of a frame, as a function of its bytes; frame_laws says what it answers.
+-- This file serves the logic alone: the packet of a frame, as a function of its bytes; frame_laws
+-- says what it answers.
 use Rattle.std.specs.Prelude.{ℕ, ◌/◌, ◌==◌, List, [], ◌∷◌, Result, Ok, if◌then◌else◌}
 use Rattle.mqtt5_base.specs.declared.error.Error.{Error}
 use Rattle.mqtt5_base.specs.Grammar.{Content}

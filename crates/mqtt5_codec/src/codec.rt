@@ -7,7 +7,7 @@ ghost use Rattle.mqtt5_base.specs.FrontAt.{front};
 ghost use Rattle.mqtt5_base.specs.Headers.{IsHeader};
 ghost use Rattle.mqtt5_base.specs.Puts.{Writes};
 ghost use Rattle.mqtt5_codec.specs.Packets.{writing_under};
-ghost use Rattle.mqtt5_codec.specs.Codecs.{Decodes, Reserves};
+ghost use Rattle.mqtt5_codec.specs.Codecs.{no_limits, Decodes, Reserves};
 ghost use Rattle.mqtt5_codec.specs.Taken.{ReadsBody};
 
 use crate::packet::Packet;
@@ -29,7 +29,7 @@ pub struct Codec {
 impl Codec {
     /// A codec without limits. Takes no memory.
     pub fn new() -> Codec
-        ensures { result ≡ record { max_incoming_size = None; max_outgoing_size = None } }
+        ensures { result ≡ no_limits }
     {
         Codec {
             max_incoming_size: None,

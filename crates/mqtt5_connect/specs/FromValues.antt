@@ -2,7 +2,8 @@
 use Rattle.std.specs.Prelude.{ℕ, zero, suc, ◌==◌, List, [], ◌∷◌, Option, None, option_map}
 use Rattle.mqtt5_base.specs.Texts.{text_of}
 use Rattle.mqtt5_base.specs.Grammar.{Found, Value, Group, optional, several, Content, number_in}
-use Rattle.mqtt5_base.specs.FromValues.{qos_of, one_number, one_content, one_text, all_pairs, here_in, content_in, found_in}
+use Rattle.mqtt5_base.specs.FromValues.{qos_of, one_number, one_content, one_text, all_pairs}
+use Rattle.mqtt5_base.specs.FromValues.{here_in, content_in, found_in}
 use Rattle.mqtt5_connect.specs.declared.connect.ConnectProperties.{ConnectProperties}
 use Rattle.mqtt5_connect.specs.declared.connect.Connect.{Connect}
 use Rattle.mqtt5_connect.specs.declared.will.LastWillProperties.{LastWillProperties}
@@ -47,7 +48,10 @@ will_from vs = record {
 
 -- a login from what its steps keep
 abbrev pub login_from : List Value → Login
-login_from vs = record { username = text_of (content_in vs 0); password = text_of (content_in vs 1) }
+login_from vs = record {
+  username = text_of (content_in vs 0);
+  password = text_of (content_in vs 1);
+}
 
 -- the values of a part that may be absent, by its place in the row
 abbrev pub optional_in : List Group → ℕ → Option (List Value)

@@ -7,7 +7,12 @@ use Rattle.mqtt5_connect.specs.Rows.{protocol, connect_fields, connect_parts}
 
 -- what is known once the flags were read; neither the frame's first byte nor its length is used
 abbrev pub known_flags : ℕ → Known
-known_flags flags = record { first = 16; length = 0; values = plain (content protocol) ∷ plain (number 5) ∷ plain (number flags) ∷ []; kept = [] }
+known_flags flags = record {
+  first = 16;
+  length = 0;
+  values = plain (content protocol) ∷ plain (number 5) ∷ plain (number flags) ∷ [];
+  kept = [];
+}
 
 -- the fields
 abbrev pub fields_at : ℕ → List ℕ → Result (List Value × List ℕ) Error

@@ -1,11 +1,18 @@
 -- The row of Connect (MQTT 5.0 section 3.1).
 use Rattle.std.specs.Prelude.{ℕ, false, List, [], ◌∷◌}
-use Rattle.mqtt5_base.specs.declared.error.Error.TheVariants.{IncorrectPacketFormat, InvalidProtocol, InvalidProtocolLevel, InvalidQoS}
-use Rattle.mqtt5_base.specs.Grammar.{u8, u16, bytes, text, content, Entry, single, several_of, spells, plain, one, block, given, read, whole, bits, always, set, Step, field, raw, note, judge, Part, choice, filled, Row, there, bit_of, is, is_qos}
+use Rattle.mqtt5_base.specs.declared.error.Error.TheVariants.{IncorrectPacketFormat}
+use Rattle.mqtt5_base.specs.declared.error.Error.TheVariants.{InvalidProtocol, InvalidProtocolLevel}
+use Rattle.mqtt5_base.specs.declared.error.Error.TheVariants.{InvalidQoS}
+use Rattle.mqtt5_base.specs.Grammar.{u8, u16, bytes, text, content, Entry, single, several_of}
+use Rattle.mqtt5_base.specs.Grammar.{spells, plain, one, block, given, read, whole, bits, always}
+use Rattle.mqtt5_base.specs.Grammar.{set, Step, field, raw, note, judge, Part, choice, filled, Row}
+use Rattle.mqtt5_base.specs.Grammar.{there, bit_of, is, is_qos}
 
 -- the properties of a Connect, in the order of writing (3.1.2.11)
 abbrev pub connect_table : List Entry
-connect_table = single 17 ∷ single 33 ∷ single 39 ∷ single 34 ∷ single 25 ∷ single 23 ∷ several_of 38 ∷ single 21 ∷ single 22 ∷ []
+connect_table =
+    single 17 ∷ single 33 ∷ single 39 ∷ single 34 ∷ single 25 ∷ single 23 ∷ several_of 38
+    ∷ single 21 ∷ single 22 ∷ []
 
 -- the properties of a will (3.1.3.2)
 abbrev pub will_table : List Entry
@@ -38,7 +45,9 @@ will_part k = choice k (set (bit_of given 4)) no_will will_steps
 
 -- the user name and the password, each where its flag is set (3.1.3.5, 3.1.3.6)
 abbrev pub login_steps : List Step
-login_steps = field (set (bit_of given 128)) (one text) (plain (content [])) ∷ field (set (bit_of given 64)) (one text) (plain (content [])) ∷ []
+login_steps =
+    field (set (bit_of given 128)) (one text) (plain (content []))
+    ∷ field (set (bit_of given 64)) (one text) (plain (content [])) ∷ []
 
 -- the login; one of two empty texts is none (3.1.2.8, 3.1.2.9)
 abbrev pub login_part : ℕ → Part
@@ -46,15 +55,18 @@ login_part k = filled k login_steps
 
 -- ---- Connect (3.1)
 
--- what follows the flags: clean start of them, the keep alive, the properties and the client identifier (3.1.2.4, 3.1.2.10, 3.1.2.11, 3.1.3.1)
+-- what follows the flags: clean start of them, the keep alive, the properties and the client
+-- identifier (3.1.2.4, 3.1.2.10, 3.1.2.11, 3.1.3.1)
 abbrev pub connect_fields : List Step
-connect_fields = note (bit_of (read 2) 2) ∷ there (one u16) ∷ there (block connect_table) ∷ there (one text) ∷ []
+connect_fields =
+    note (bit_of (read 2) 2) ∷ there (one u16) ∷ there (block connect_table) ∷ there (one text) ∷ []
 
 -- the will and then the login (3.1.3)
 abbrev pub connect_parts : List Part
 connect_parts = will_part 2 ∷ login_part 2 ∷ []
 
--- the protocol's name and version, which are judged once both are read, the flags, the fields, the will and the login
+-- the protocol's name and version, which are judged once both are read, the flags, the fields, the
+-- will and the login
 abbrev pub connect_row : Row
 connect_row = record {
   steps =

@@ -1,5 +1,7 @@
--- This file serves the logic alone: the derived `==` of each type of a Connect finds equal values alone.
-use Rattle.mqtt5_base.specs.Sound.{Sound, both, bool_sound, number_sound, option_sound, list_sound, bytes_sound, text_sound, pair_sound, qos_sound}
+-- This file serves the logic alone: the derived `==` of each type of a Connect finds equal values
+-- alone.
+use Rattle.mqtt5_base.specs.Sound.{Sound, both, bool_sound, number_sound, option_sound, list_sound}
+use Rattle.mqtt5_base.specs.Sound.{bytes_sound, text_sound, pair_sound, qos_sound}
 use Rattle.mqtt5_connect.specs.contracts.connect.ConnectPropertiesPartialEq.TheImpl as connect_properties
 use Rattle.mqtt5_connect.specs.contracts.connect.ConnectPartialEq.TheImpl as connect
 use Rattle.mqtt5_connect.specs.contracts.will.LastWillPropertiesPartialEq.TheImpl as will_properties
@@ -37,7 +39,13 @@ connect_sound x y h =
     (both (text_sound x.client_id y.client_id)
     (both (bool_sound x.clean_start y.clean_start)
     (option_sound connect_properties_sound x.properties y.properties))) h in
-    λ i. record { keep_alive = e.0 i; client_id = e.1.0 i; clean_start = e.1.1.0 i; properties = e.1.1.1 i }
+    λ i.
+    record {
+      keep_alive = e.0 i;
+      client_id = e.1.0 i;
+      clean_start = e.1.1.0 i;
+      properties = e.1.1.1 i;
+    }
 
 pub will_properties_sound : Sound will_properties.eq-value.it
 will_properties_sound x y h =
@@ -67,7 +75,14 @@ will_sound x y h =
     (both (qos_sound x.qos y.qos)
     (both (bool_sound x.retain y.retain)
     (option_sound will_properties_sound x.properties y.properties)))) h in
-    λ i. record { topic = e.0 i; message = e.1.0 i; qos = e.1.1.0 i; retain = e.1.1.1.0 i; properties = e.1.1.1.1 i }
+    λ i.
+    record {
+      topic = e.0 i;
+      message = e.1.0 i;
+      qos = e.1.1.0 i;
+      retain = e.1.1.1.0 i;
+      properties = e.1.1.1.1 i;
+    }
 
 pub login_sound : Sound login.eq-value.it
 login_sound x y h =

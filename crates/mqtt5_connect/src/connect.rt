@@ -1,13 +1,13 @@
 //! The first packet of a client.
 
-ghost use Rattle.std.specs.Prelude.{◌≡◌, ◌+◌, ◌≤◌, true, [], ◌∷◌, None, map, take, drop, length, min};
+ghost use Rattle.std.specs.Prelude.{◌≡◌, ◌+◌, ◌≤◌, true, [], ◌∷◌, map, take, drop, length, min};
 ghost use Rattle.mqtt5_base.specs.Answers.{Gives, ReadsRow};
 ghost use Rattle.mqtt5_base.specs.Reading.{values_in};
 ghost use Rattle.mqtt5_base.specs.Layout.{items_bytes, items_fit, written_bytes, written_fits, parts_fit, body_bytes, group_of, content_of_packet, layout, writing};
 ghost use Rattle.mqtt5_base.specs.Puts.{Puts, Writes};
 ghost use Rattle.mqtt5_connect.specs.Rows.{connect_table, connect_parts, connect_row};
 ghost use Rattle.mqtt5_connect.specs.Reading.{fields_at, groups_at, after_flags};
-ghost use Rattle.mqtt5_connect.specs.Connects.{connect_found, connect_values, connect_flags, connect_head, will_group, login_group, connect_packet};
+ghost use Rattle.mqtt5_connect.specs.Connects.{connect_found, connect_values, connect_flags, connect_head, will_group, login_group, connect_packet, no_connect_properties};
 
 use crate::connect_part::{fits, flags_of, len_under, put_under};
 use crate::login::Login;
@@ -64,18 +64,7 @@ impl Clone for ConnectProperties {
 impl ConnectProperties {
     /// The set without values. Takes no memory.
     pub fn new(alloc: Global) -> ConnectProperties
-        ensures { result
-            ≡ record {
-              session_expiry_interval = None;
-              receive_maximum = None;
-              max_packet_size = None;
-              topic_alias_max = None;
-              request_response_info = None;
-              request_problem_info = None;
-              user_properties = [];
-              authentication_method = None;
-              authentication_data = None;
-            } }
+        ensures { result ≡ no_connect_properties }
     {
         ConnectProperties {
             session_expiry_interval: None,

@@ -1,12 +1,12 @@
 //! What the server publishes for a client that is lost.
 
-ghost use Rattle.std.specs.Prelude.{◌≡◌, ◌/◌, ◌%◌, [], Some, None, IfOk, OnErr};
+ghost use Rattle.std.specs.Prelude.{◌≡◌, ◌/◌, ◌%◌, Some, None, IfOk, OnErr};
 ghost use Rattle.mqtt5_base.specs.Answers.{Answers, Gives, ReadsPart};
 ghost use Rattle.mqtt5_base.specs.Reading.{kept_at, part_at};
 ghost use Rattle.mqtt5_base.specs.Puts.{Writes};
 ghost use Rattle.mqtt5_base.specs.Layout.{group_of, just, steps_writing};
 ghost use Rattle.mqtt5_connect.specs.Rows.{will_table, will_steps, will_part};
-ghost use Rattle.mqtt5_connect.specs.Connects.{will_found, will_values, will_flags, will_group, under_flags};
+ghost use Rattle.mqtt5_connect.specs.Connects.{will_found, will_values, will_flags, will_group, under_flags, no_will_properties};
 ghost use Rattle.mqtt5_connect.specs.Short.{will_short};
 
 use crate::connect_part::{ConnectPart, write_part};
@@ -55,16 +55,7 @@ impl Clone for LastWillProperties {
 impl LastWillProperties {
     /// The set without values. Takes no memory.
     pub fn new(alloc: Global) -> LastWillProperties
-        ensures { result
-            ≡ record {
-              delay_interval = None;
-              payload_format_indicator = None;
-              message_expiry_interval = None;
-              content_type = None;
-              response_topic = None;
-              correlation_data = None;
-              user_properties = [];
-            } }
+        ensures { result ≡ no_will_properties }
     {
         LastWillProperties {
             delay_interval: None,

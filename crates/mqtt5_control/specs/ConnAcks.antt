@@ -1,5 +1,5 @@
 -- A ConnAck as the values of its row (MQTT 5.0 section 3.2).
-use Rattle.std.specs.Prelude.{ℕ, [], ◌∷◌, option_map}
+use Rattle.std.specs.Prelude.{ℕ, [], ◌∷◌, option_map, None}
 use Rattle.mqtt5_base.specs.Grammar.{number, Found, plain, properties}
 use Rattle.mqtt5_base.specs.Views.{bit, numbers, contents, texts, pairs}
 use Rattle.mqtt5_base.specs.Layout.{WrittenPacket}
@@ -36,6 +36,28 @@ connack_code reasons.UseAnotherServer = 156
 connack_code reasons.ServerMoved = 157
 connack_code reasons.ConnectionRateExceeded = 159
 
+-- the set without values (3.2.2.3)
+abbrev pub no_connack_properties : ConnAckProperties
+no_connack_properties = record {
+  session_expiry_interval = None;
+  receive_max = None;
+  max_qos = None;
+  retain_available = None;
+  max_packet_size = None;
+  assigned_client_identifier = None;
+  topic_alias_max = None;
+  reason_string = None;
+  user_properties = [];
+  wildcard_subscription_available = None;
+  subscription_identifiers_available = None;
+  shared_subscription_available = None;
+  server_keep_alive = None;
+  response_information = None;
+  server_reference = None;
+  authentication_method = None;
+  authentication_data = None;
+}
+
 -- the values of the properties (3.2.2.3)
 abbrev pub connack_found : ConnAckProperties → Found
 connack_found s =
@@ -58,8 +80,17 @@ connack_found s =
     ∷ contents s.authentication_data
     ∷ []
 
--- a ConnAck as it is written: its flag, beside which the other flags are 0 (3.2.2.1), its code and its properties
+-- a ConnAck as it is written: its flag, beside which the other flags are 0 (3.2.2.1), its code and
+-- its properties
 abbrev pub connack_packet : ConnAck → WrittenPacket
 connack_packet a =
     let present = plain (number (bit a.session_present)) in
-    record { first = 32; head = record { raws = present ∷ []; kept = present ∷ plain (number (connack_code a.code)) ∷ properties (option_map connack_found a.properties) ∷ [] }; groups = [] }
+    record {
+      first = 32;
+      head = record {
+        raws = present ∷ [];
+        kept = present ∷ plain (number (connack_code a.code))
+            ∷ properties (option_map connack_found a.properties) ∷ [];
+      };
+      groups = [];
+    }

@@ -1,5 +1,5 @@
 -- A Disconnect as the values of its row (MQTT 5.0 section 3.14).
-use Rattle.std.specs.Prelude.{ℕ, [], ◌∷◌, option_map}
+use Rattle.std.specs.Prelude.{ℕ, [], ◌∷◌, option_map, None}
 use Rattle.mqtt5_base.specs.Grammar.{number, Found, plain, properties}
 use Rattle.mqtt5_base.specs.Views.{numbers, texts, pairs}
 use Rattle.mqtt5_base.specs.Layout.{WrittenPacket, plainly}
@@ -40,10 +40,24 @@ disconnect_code reasons.MaximumConnectTime = 160
 disconnect_code reasons.SubscriptionIdentifiersNotSupported = 161
 disconnect_code reasons.WildcardSubscriptionsNotSupported = 162
 
+-- the set without values (3.14.2.2)
+abbrev pub no_disconnect_properties : DisconnectProperties
+no_disconnect_properties = record {
+  session_expiry_interval = None;
+  reason_string = None;
+  user_properties = [];
+  server_reference = None;
+}
+
 -- the values of the properties (3.14.2.2)
 abbrev pub disconnect_found : DisconnectProperties → Found
-disconnect_found s = numbers s.session_expiry_interval ∷ texts s.reason_string ∷ pairs s.user_properties ∷ texts s.server_reference ∷ []
+disconnect_found s =
+    numbers s.session_expiry_interval ∷ texts s.reason_string ∷ pairs s.user_properties
+    ∷ texts s.server_reference ∷ []
 
 -- a Disconnect as it is written: its code and its properties (3.14)
 abbrev pub disconnect_packet : Disconnect → WrittenPacket
-disconnect_packet d = plainly 224 (plain (number (disconnect_code d.reason_code)) ∷ properties (option_map disconnect_found d.properties) ∷ [])
+disconnect_packet d =
+    plainly 224
+    (plain (number (disconnect_code d.reason_code))
+    ∷ properties (option_map disconnect_found d.properties) ∷ [])

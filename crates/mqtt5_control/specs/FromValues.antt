@@ -1,7 +1,8 @@
 -- This file serves the logic alone: packets from the values of their rows.
 use Rattle.std.specs.Prelude.{ℕ, ◌==◌, option_map, if◌then◌else◌}
 use Rattle.mqtt5_base.specs.Grammar.{Found, Content, number_in}
-use Rattle.mqtt5_base.specs.FromValues.{one_number, one_content, one_text, all_pairs, here_in, found_in}
+use Rattle.mqtt5_base.specs.FromValues.{one_number, one_content, one_text, all_pairs, here_in}
+use Rattle.mqtt5_base.specs.FromValues.{found_in}
 use Rattle.mqtt5_control.specs.declared.connack.ConnectReturnCode.{ConnectReturnCode}
 use Rattle.mqtt5_control.specs.declared.connack.ConnectReturnCode.TheVariants as connacks
 use Rattle.mqtt5_control.specs.declared.connack.ConnAckProperties.{ConnAckProperties}
@@ -70,7 +71,11 @@ connack_set f = record {
 
 -- the ConnAck of the row's values
 abbrev pub connack_of : Content → ConnAck
-connack_of c = record { session_present = number_in c.0 0 == 1; code = connack_reason (number_in c.0 1); properties = option_map connack_set (found_in c.0 2) }
+connack_of c = record {
+  session_present = number_in c.0 0 == 1;
+  code = connack_reason (number_in c.0 1);
+  properties = option_map connack_set (found_in c.0 2);
+}
 
 -- ---- Disconnect
 
@@ -109,22 +114,39 @@ disconnect_reason n =
 
 -- the properties of their values
 abbrev pub disconnect_set : Found → DisconnectProperties
-disconnect_set f = record { session_expiry_interval = one_number (here_in f 0); reason_string = one_text (here_in f 1); user_properties = all_pairs (here_in f 2); server_reference = one_text (here_in f 3) }
+disconnect_set f = record {
+  session_expiry_interval = one_number (here_in f 0);
+  reason_string = one_text (here_in f 1);
+  user_properties = all_pairs (here_in f 2);
+  server_reference = one_text (here_in f 3);
+}
 
 -- the Disconnect of the row's values
 abbrev pub disconnect_of : Content → Disconnect
-disconnect_of c = record { reason_code = disconnect_reason (number_in c.0 0); properties = option_map disconnect_set (found_in c.0 1) }
+disconnect_of c = record {
+  reason_code = disconnect_reason (number_in c.0 0);
+  properties = option_map disconnect_set (found_in c.0 1);
+}
 
 -- ---- Auth
 
 -- the reason of a code
 abbrev pub auth_reason : ℕ → AuthReasonCode
-auth_reason n = if n == 24 then auths.Continue else if n == 25 then auths.ReAuthentivate else auths.Success
+auth_reason n =
+    if n == 24 then auths.Continue else if n == 25 then auths.ReAuthentivate else auths.Success
 
 -- the properties of their values
 abbrev pub auth_set : Found → AuthProperties
-auth_set f = record { method = one_text (here_in f 0); auth_data = one_content (here_in f 1); reason = one_text (here_in f 2); user_properties = all_pairs (here_in f 3) }
+auth_set f = record {
+  method = one_text (here_in f 0);
+  auth_data = one_content (here_in f 1);
+  reason = one_text (here_in f 2);
+  user_properties = all_pairs (here_in f 3);
+}
 
 -- the Auth of the row's values
 abbrev pub auth_of : Content → Auth
-auth_of c = record { code = auth_reason (number_in c.0 0); properties = option_map auth_set (found_in c.0 1) }
+auth_of c = record {
+  code = auth_reason (number_in c.0 0);
+  properties = option_map auth_set (found_in c.0 1);
+}

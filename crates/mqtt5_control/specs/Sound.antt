@@ -1,6 +1,7 @@
 -- This file serves the logic alone: the derived `==` of each type finds equal values alone.
 use Rattle.std.proofs.Common.{rules}
-use Rattle.mqtt5_base.specs.Sound.{Sound, both, bool_sound, number_sound, option_sound, list_sound, bytes_sound, text_sound, pair_sound}
+use Rattle.mqtt5_base.specs.Sound.{Sound, both, bool_sound, number_sound, option_sound, list_sound}
+use Rattle.mqtt5_base.specs.Sound.{bytes_sound, text_sound, pair_sound}
 use Rattle.mqtt5_control.specs.contracts.connack.ConnectReturnCodePartialEq.TheImpl as connack_reason
 use Rattle.mqtt5_control.specs.contracts.connack.ConnAckPropertiesPartialEq.TheImpl as connack_properties
 use Rattle.mqtt5_control.specs.contracts.connack.ConnAckPartialEq.TheImpl as connack
@@ -21,11 +22,19 @@ disconnect_properties_sound x y h =
     (both (option_sound text_sound x.reason_string y.reason_string)
     (both (list_sound (pair_sound text_sound text_sound) x.user_properties y.user_properties)
     (option_sound text_sound x.server_reference y.server_reference))) h in
-    λ i. record { session_expiry_interval = e.0 i; reason_string = e.1.0 i; user_properties = e.1.1.0 i; server_reference = e.1.1.1 i }
+    λ i.
+    record {
+      session_expiry_interval = e.0 i;
+      reason_string = e.1.0 i;
+      user_properties = e.1.1.0 i;
+      server_reference = e.1.1.1 i;
+    }
 
 pub disconnect_sound : Sound disconnect.eq-value.it
 disconnect_sound x y h =
-    let e = both (disconnect_reason_sound x.reason_code y.reason_code) (option_sound disconnect_properties_sound x.properties y.properties) h in
+    let e =
+    both (disconnect_reason_sound x.reason_code y.reason_code)
+    (option_sound disconnect_properties_sound x.properties y.properties) h in
     λ i. record { reason_code = e.0 i; properties = e.1 i }
 
 pub auth_reason_sound : Sound auth_reason.eq-value.it
@@ -38,11 +47,14 @@ auth_properties_sound x y h =
     (both (option_sound bytes_sound x.auth_data y.auth_data)
     (both (option_sound text_sound x.reason y.reason)
     (list_sound (pair_sound text_sound text_sound) x.user_properties y.user_properties))) h in
-    λ i. record { method = e.0 i; auth_data = e.1.0 i; reason = e.1.1.0 i; user_properties = e.1.1.1 i }
+    λ i.
+    record { method = e.0 i; auth_data = e.1.0 i; reason = e.1.1.0 i; user_properties = e.1.1.1 i }
 
 pub auth_sound : Sound auth.eq-value.it
 auth_sound x y h =
-    let e = both (auth_reason_sound x.code y.code) (option_sound auth_properties_sound x.properties y.properties) h in
+    let e =
+    both (auth_reason_sound x.code y.code)
+    (option_sound auth_properties_sound x.properties y.properties) h in
     λ i. record { code = e.0 i; properties = e.1 i }
 
 pub connack_reason_sound : Sound connack_reason.eq-value.it
@@ -60,9 +72,13 @@ connack_properties_sound x y h =
     (both (option_sound number_sound x.topic_alias_max y.topic_alias_max)
     (both (option_sound text_sound x.reason_string y.reason_string)
     (both (list_sound (pair_sound text_sound text_sound) x.user_properties y.user_properties)
-    (both (option_sound number_sound x.wildcard_subscription_available y.wildcard_subscription_available)
-    (both (option_sound number_sound x.subscription_identifiers_available y.subscription_identifiers_available)
-    (both (option_sound number_sound x.shared_subscription_available y.shared_subscription_available)
+    (both
+    (option_sound number_sound x.wildcard_subscription_available y.wildcard_subscription_available)
+    (both
+    (option_sound number_sound x.subscription_identifiers_available
+    y.subscription_identifiers_available)
+    (both
+    (option_sound number_sound x.shared_subscription_available y.shared_subscription_available)
     (both (option_sound number_sound x.server_keep_alive y.server_keep_alive)
     (both (option_sound text_sound x.response_information y.response_information)
     (both (option_sound text_sound x.server_reference y.server_reference)
@@ -90,5 +106,9 @@ connack_properties_sound x y h =
 
 pub connack_sound : Sound connack.eq-value.it
 connack_sound x y h =
-    let e = both (bool_sound x.session_present y.session_present) (both (connack_reason_sound x.code y.code) (option_sound connack_properties_sound x.properties y.properties)) h in
+    let e =
+    both (bool_sound x.session_present y.session_present)
+    (both (connack_reason_sound x.code y.code)
+    (option_sound connack_properties_sound x.properties y.properties))
+    h in
     λ i. record { session_present = e.0 i; code = e.1.0 i; properties = e.1.1 i }

@@ -1,13 +1,13 @@
 //! The exchange of authentication data.
 
-ghost use Rattle.std.specs.Prelude.{◌≡◌, ◌+◌, ◌≤◌, [], true, Some, None, drop, length, min, nat_lt, option_map};
+ghost use Rattle.std.specs.Prelude.{◌≡◌, ◌+◌, ◌≤◌, true, Some, drop, length, min, nat_lt, option_map};
 ghost use Rattle.mqtt5_base.specs.Grammar.{u8, number, plain, checked};
 ghost use Rattle.mqtt5_base.specs.Answers.{Finds, Gives, ReadsRow};
 ghost use Rattle.mqtt5_base.specs.Reading.{judged, optional_at, values_in};
 ghost use Rattle.mqtt5_base.specs.Puts.{Puts, Writes};
 ghost use Rattle.mqtt5_base.specs.Layout.{block_fits, body_bytes, layout, writing, content_of_packet};
 ghost use Rattle.mqtt5_control.specs.Rows.{auth_table, auth_codes, auth_row};
-ghost use Rattle.mqtt5_control.specs.Auths.{auth_code, auth_found, auth_packet};
+ghost use Rattle.mqtt5_control.specs.Auths.{auth_code, auth_found, auth_packet, no_auth_properties};
 
 use crate::optional::read_block_if;
 use bytes::{Bytes, BytesMut};
@@ -54,8 +54,7 @@ pub struct AuthProperties {
 impl AuthProperties {
     /// The set without values. Takes no memory.
     pub fn new(alloc: Global) -> AuthProperties
-        ensures { result
-            ≡ record { method = None; auth_data = None; reason = None; user_properties = [] } }
+        ensures { result ≡ no_auth_properties }
     {
         AuthProperties {
             method: None,

@@ -1,6 +1,6 @@
 //! The answer to a connect.
 
-ghost use Rattle.std.specs.Prelude.{◌≡◌, ◌+◌, ◌≤◌, [], true, Some, None, drop, length, min, option_map};
+ghost use Rattle.std.specs.Prelude.{◌≡◌, ◌+◌, ◌≤◌, true, Some, drop, length, min, option_map};
 ghost use Rattle.mqtt5_base.specs.Grammar.{number};
 ghost use Rattle.mqtt5_base.specs.Answers.{Finds, Gives, ReadsRow};
 ghost use Rattle.mqtt5_base.specs.Reading.{judged, values_in};
@@ -8,7 +8,7 @@ ghost use Rattle.mqtt5_base.specs.Sets.{IsSetOf};
 ghost use Rattle.mqtt5_base.specs.Puts.{Puts, Writes};
 ghost use Rattle.mqtt5_base.specs.Layout.{items_fit, items_bytes, block_fits, body_bytes, layout, writing, content_of_packet};
 ghost use Rattle.mqtt5_control.specs.Rows.{connack_table, connack_codes, connack_row};
-ghost use Rattle.mqtt5_control.specs.ConnAcks.{connack_code, connack_found, connack_packet};
+ghost use Rattle.mqtt5_control.specs.ConnAcks.{connack_code, connack_found, connack_packet, no_connack_properties};
 ghost use Rattle.mqtt5_control.specs.Thirds.{connack_first_table, connack_second_table, connack_third_table, connack_first, connack_second, connack_third};
 
 use bytes::{Bytes, BytesMut};
@@ -239,26 +239,7 @@ impl PropertyBlock for ConnAckProperties {}
 impl ConnAckProperties {
     /// The set without values. Takes no memory.
     pub fn new(alloc: Global) -> ConnAckProperties
-        ensures { result
-            ≡ record {
-              session_expiry_interval = None;
-              receive_max = None;
-              max_qos = None;
-              retain_available = None;
-              max_packet_size = None;
-              assigned_client_identifier = None;
-              topic_alias_max = None;
-              reason_string = None;
-              user_properties = [];
-              wildcard_subscription_available = None;
-              subscription_identifiers_available = None;
-              shared_subscription_available = None;
-              server_keep_alive = None;
-              response_information = None;
-              server_reference = None;
-              authentication_method = None;
-              authentication_data = None;
-            } }
+        ensures { result ≡ no_connack_properties }
     {
         ConnAckProperties {
             session_expiry_interval: None,

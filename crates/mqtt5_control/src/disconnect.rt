@@ -1,6 +1,6 @@
 //! The end of a connection.
 
-ghost use Rattle.std.specs.Prelude.{◌≡◌, ◌+◌, ◌/◌, ◌%◌, ◌≤◌, [], true, Some, None, OnErr, drop, length, min, nat_lt, option_map};
+ghost use Rattle.std.specs.Prelude.{◌≡◌, ◌+◌, ◌/◌, ◌%◌, ◌≤◌, true, Some, None, OnErr, drop, length, min, nat_lt, option_map};
 ghost use Rattle.mqtt5_base.specs.Grammar.{u8, number, plain, properties, checked, block, is};
 ghost use Rattle.mqtt5_base.specs.Answers.{Finds, Gives, ReadsBlock, ReadsRow};
 ghost use Rattle.mqtt5_base.specs.Reading.{judged, optional_at, values_in};
@@ -8,7 +8,7 @@ ghost use Rattle.mqtt5_base.specs.Puts.{Puts, Writes};
 ghost use Rattle.mqtt5_base.specs.Layout.{block_fits, body_bytes, layout, writing, content_of_packet};
 ghost use Rattle.mqtt5_control.specs.Rows.{disconnect_table, disconnect_codes, disconnect_row};
 ghost use Rattle.mqtt5_control.specs.DisconnectBody.{disconnect_is_bare};
-ghost use Rattle.mqtt5_control.specs.Disconnects.{disconnect_code, disconnect_found, disconnect_packet};
+ghost use Rattle.mqtt5_control.specs.Disconnects.{disconnect_code, disconnect_found, disconnect_packet, no_disconnect_properties};
 
 use crate::optional::read_block_if;
 use bytes::{Bytes, BytesMut};
@@ -175,13 +175,7 @@ impl PropertySet for DisconnectProperties {
 impl DisconnectProperties {
     /// The set without values. Takes no memory.
     pub fn new(alloc: Global) -> DisconnectProperties
-        ensures { result
-            ≡ record {
-              session_expiry_interval = None;
-              reason_string = None;
-              user_properties = [];
-              server_reference = None;
-            } }
+        ensures { result ≡ no_disconnect_properties }
     {
         DisconnectProperties {
             session_expiry_interval: None,

@@ -25,20 +25,27 @@ where_answered codec (Ok reply) rest = where_written (reply_bytes codec reply) r
 where_answered codec (Err e) rest = []
 
 -- the packet of a whole frame goes to the session
-abbrev pub hearing : Codec → ℕ → Session → Result Packet Error → (Session → List Call) → List Call
-hearing codec at s (Ok p) goes_on = Hear p at ∷ where_answered codec (on_packet s p at).0 (goes_on (on_packet s p at).1)
-hearing codec at s (Err e) goes_on = []
+abbrev pub calls_on_packet : Codec → ℕ → Session → Result Packet Error → (Session → List Call)
+    → List Call
+calls_on_packet codec at s (Ok p) goes_on =
+    Hear p at ∷ where_answered codec (on_packet s p at).0 (goes_on (on_packet s p at).1)
+calls_on_packet codec at s (Err e) goes_on = []
 
 -- the front of the bytes held is looked at
-abbrev pub looking : Codec → ℕ → Session → List ℕ → Front → (Session → List ℕ → List Call) → List Call
-looking codec at s held (Bad e) goes_on = []
-looking codec at s held (More n) goes_on = goes_on s held
-looking codec at s held (Whole frame rest) goes_on = hearing codec at s (packet_in frame) (λ t. goes_on t rest)
+abbrev pub calls_on_front : Codec → ℕ → Session → List ℕ → Front → (Session → List ℕ → List Call)
+    → List Call
+calls_on_front codec at s held (Bad e) goes_on = []
+calls_on_front codec at s held (More n) goes_on = goes_on s held
+calls_on_front codec at s held (Whole frame rest) goes_on =
+    calls_on_packet codec at s (packet_in frame) (λ t. goes_on t rest)
 
 -- the calls of a run, from a session and the bytes held
 abbrev pub calls_of : Codec → List Turn → Session → List ℕ → List Call
 calls_of codec [] s held = []
 calls_of codec (Byte at b ∷ rest) s held =
-    looking codec at s (held ++ b ∷ []) (front codec.max_incoming_size (held ++ b ∷ [])) (λ t left. calls_of codec rest t left)
+    calls_on_front codec at s (held ++ b ∷ []) (front codec.max_incoming_size (held ++ b ∷ []))
+    (λ t left. calls_of codec rest t left)
 calls_of codec (Ask at request ∷ rest) s held =
-    ledger.Ask request at ∷ where_answered codec (on_request s request at).0 (calls_of codec rest (on_request s request at).1 held)
+    ledger.Ask request at
+    ∷ where_answered codec (on_request s request at).0
+    (calls_of codec rest (on_request s request at).1 held)

@@ -29,5 +29,7 @@ size_allowed [] limit = limit
 size_allowed (event ∷ events) limit = size_allowed events (size_after event limit)
 
 -- the codec with that limit
-abbrev pub allowed : List Event → Codec → Codec
-allowed events codec = record codec { max_outgoing_size = size_allowed events codec.max_outgoing_size }
+abbrev pub codec_after : List Event → Codec → Codec
+codec_after events codec = record codec {
+  max_outgoing_size = size_allowed events codec.max_outgoing_size;
+}

@@ -1,5 +1,5 @@
--- The run of a client over pieces of bytes and requests, a byte at a time: what comes in is an ordered stream of bytes
--- (MQTT 5.0 section 4.2).
+-- The run of a client over pieces of bytes and requests, a byte at a time: what comes in is an
+-- ordered stream of bytes (MQTT 5.0 section 4.2).
 use Rattle.std.specs.Prelude.{ℕ, List, [], ◌∷◌, ◌++◌, Option, Some, None, Result, Ok, Err}
 use Rattle.mqtt5_base.specs.declared.error.Error.{Error}
 use Rattle.mqtt5_base.specs.Front.{Front, Bad, More, Whole}
@@ -25,13 +25,13 @@ pub data Turn : Type 0 where
   Ask : (at : ℕ) (request : Request) → Turn
 
 -- the bytes of a piece, each with its moment
-abbrev pub bytes_of : ℕ → List ℕ → List Turn
-bytes_of at [] = []
-bytes_of at (b ∷ bytes) = Byte at b ∷ bytes_of at bytes
+abbrev pub byte_turns : ℕ → List ℕ → List Turn
+byte_turns at [] = []
+byte_turns at (b ∷ bytes) = Byte at b ∷ byte_turns at bytes
 
 -- an input, with its moment
 abbrev pub of_input : ℕ → Input → List Turn
-of_input at (inputs.Bytes piece) = bytes_of at piece
+of_input at (inputs.Bytes piece) = byte_turns at piece
 of_input at (inputs.Request request) = Ask at request ∷ []
 
 -- the inputs of all steps in order
@@ -50,7 +50,8 @@ on_written s (Ok bytes) goes_on = Steps s bytes (goes_on s)
 on_written s (Err e) goes_on = Steps s [] (Faults (state_error e))
 
 -- a fault of the session ends the run
-abbrev pub on_reply : Codec → Session → Result (Option Packet) StateError → (Session → Trace) → Trace
+abbrev pub on_reply : Codec → Session → Result (Option Packet) StateError → (Session → Trace)
+    → Trace
 on_reply codec s (Ok reply) goes_on = on_written s (reply_bytes codec reply) goes_on
 on_reply codec s (Err e) goes_on = Steps s [] (Faults e)
 
@@ -63,18 +64,22 @@ abbrev pub on_frame : Codec → ℕ → Session → Result Packet Error → (Ses
 on_frame codec at s (Ok p) goes_on = on_answer codec (on_packet s p at) goes_on
 on_frame codec at s (Err e) goes_on = Faults (state_error e)
 
--- the front of the bytes held is looked at: more are awaited, a whole frame is taken out, or a bad one ends the run
+-- the front of the bytes held is looked at: more are awaited, a whole frame is taken out, or a bad
+-- one ends the run
 abbrev pub on_front : Codec → ℕ → Session → List ℕ → Front → (Session → List ℕ → Trace) → Trace
 on_front codec at s held (Bad e) goes_on = Faults (state_error e)
 on_front codec at s held (More n) goes_on = goes_on s held
-on_front codec at s held (Whole frame rest) goes_on = on_frame codec at s (packet_in frame) (λ t. goes_on t rest)
+on_front codec at s held (Whole frame rest) goes_on =
+    on_frame codec at s (packet_in frame) (λ t. goes_on t rest)
 
 -- from a session and the bytes held
 unfoldable pub run : Codec → List Turn → Session → List ℕ → Trace
 run codec [] s held = Waits held
 run codec (Byte at b ∷ rest) s held =
-    on_front codec at s (held ++ b ∷ []) (front codec.max_incoming_size (held ++ b ∷ [])) (λ t left. run codec rest t left)
-run codec (Ask at request ∷ rest) s held = on_answer codec (on_request s request at) (λ t. run codec rest t held)
+    on_front codec at s (held ++ b ∷ []) (front codec.max_incoming_size (held ++ b ∷ []))
+    (λ t left. run codec rest t left)
+run codec (Ask at request ∷ rest) s held =
+    on_answer codec (on_request s request at) (λ t. run codec rest t held)
 
 -- a step that is a piece
 abbrev pub piece : ℕ → List ℕ → Step

@@ -4,8 +4,8 @@ use Rattle.mqtt5_inflight.specs.declared.error.StateError.{StateError}
 use Rattle.mqtt5_inflight.specs.declared.error.StateError.TheVariants as faults
 use Rattle.mqtt5_session.specs.Session.{Session}
 
--- The moves of a run, each a request or a packet that the session took, with the session after it and the bytes of its
--- reply; and how it ends: with the bytes that are held, or with a fault.
+-- The moves of a run, each a request or a packet that the session took, with the session after it
+-- and the bytes of its reply; and how it ends: with the bytes that are held, or with a fault.
 pub data Trace : Type 0 where
   Waits : (held : List ℕ) → Trace
   Faults : (fault : StateError) → Trace
@@ -28,14 +28,16 @@ finish s output (Waits held) = record { session = s; output = output; ending = H
 finish s output (Faults e) = record { session = s; output = output; ending = Fault e }
 finish s output (Steps t reply c) = finish t (output ++ reply) c
 
--- The session t is that after some of the course's moves, from the first on, and the output u has the bytes of their
--- replies, whole, at most those of the last missing.
+-- The session t is that after some of the course's moves, from the first on, and the output u has
+-- the bytes of their replies, whole, at most those of the last missing.
 abbrev pub Passes : Session → List ℕ → Trace → Session → List ℕ → Type 0
 Passes s output (Waits held) t u = (t ≡ s) × (u ≡ output)
 Passes s output (Faults e) t u = (t ≡ s) × (u ≡ output)
-Passes s output (Steps next reply c) t u = ((t ≡ s) × (u ≡ output)) ⊎ (((t ≡ next) × (u ≡ output)) ⊎ Passes next (output ++ reply) c t u)
+Passes s output (Steps next reply c) t u =
+    ((t ≡ s) × (u ≡ output)) ⊎ (((t ≡ next) × (u ≡ output)) ⊎ Passes next (output ++ reply) c t u)
 
 -- an error is want of memory on the way, or the fault that ends the course
 abbrev pub Stops : StateError → Session → List ℕ → Trace → Session → List ℕ → Type 0
 Stops e s output c t u =
-    ((e ≡ faults.OutOfMemory) × Passes s output c t u) ⊎ (finish s output c ≡ record { session = t; output = u; ending = Fault e })
+    ((e ≡ faults.OutOfMemory) × Passes s output c t u)
+    ⊎ (finish s output c ≡ record { session = t; output = u; ending = Fault e })

@@ -1,7 +1,7 @@
 //! The longest packet that the broker takes.
 
 ghost use Rattle.std.specs.Prelude.{◌≡◌, ◌+◌, drop};
-ghost use Rattle.mqtt5_drive.specs.Limit.{size_in, size_after, size_allowed, allowed};
+ghost use Rattle.mqtt5_drive.specs.Limit.{size_in, size_after, size_allowed, codec_after};
 
 use mqtt5_codec::{Codec, Packet};
 use mqtt5_control::{ConnAckProperties, ConnectReturnCode};
@@ -12,7 +12,7 @@ use std::collections::VecDeque;
 /// of them where there are several; one that says none sets it to None. Without such a ConnAck it stays. Takes no
 /// memory.
 pub fn take_limit(codec: &mut Codec, events: &VecDeque<Event>, from: usize)
-    ensures { codec.new ≡ allowed (drop from events.now.items) codec.old }
+    ensures { codec.new ≡ codec_after (drop from events.now.items) codec.old }
 {
     codec.max_outgoing_size = size_allowed(events, from, codec.max_outgoing_size);
 }

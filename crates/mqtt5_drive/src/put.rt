@@ -26,6 +26,20 @@ fn over_limit(size: usize, max: u32) -> Error
     }
 }
 
+/// Writes a packet by its own type, unless it is over the codec's outgoing limit.
+macro_rules! write_under_limit {
+    ($codec:expr, $output:expr, $packet:expr) => {{
+        if let Some(max) = $codec.max_outgoing_size {
+            let size = $packet.size();
+            if size > max as usize {
+                return Err(over_limit(size, max));
+            }
+        }
+        $packet.write($output)?;
+        Ok(())
+    }};
+}
+
 /// Appends the frame of a publish, as `Codec::write` does that of its packet: under the outgoing limit, with the same
 /// errors, after which the buffer is unchanged.
 pub fn put_publish(codec: &Codec, output: &mut BytesMut, publish: &Publish) -> Result<(), Error>
@@ -33,14 +47,7 @@ pub fn put_publish(codec: &Codec, output: &mut BytesMut, publish: &Publish) -> R
         (writing_under codec.now.max_outgoing_size (packets.Publish publish.now)) result
         output.old.items output.new.items }
 {
-    if let Some(max) = codec.max_outgoing_size {
-        let size = publish.size();
-        if size > max as usize {
-            return Err(over_limit(size, max));
-        }
-    }
-    publish.write(output)?;
-    Ok(())
+    write_under_limit!(codec, output, publish)
 }
 
 /// The same of a PubAck.
@@ -48,14 +55,7 @@ pub fn put_puback(codec: &Codec, output: &mut BytesMut, ack: &PubAck) -> Result<
     ensures { Writes (λ _. tt) (writing_under codec.now.max_outgoing_size (packets.PubAck ack.now))
         result output.old.items output.new.items }
 {
-    if let Some(max) = codec.max_outgoing_size {
-        let size = ack.size();
-        if size > max as usize {
-            return Err(over_limit(size, max));
-        }
-    }
-    ack.write(output)?;
-    Ok(())
+    write_under_limit!(codec, output, ack)
 }
 
 /// The same of a PubRec.
@@ -64,14 +64,7 @@ pub fn put_pubrec(codec: &Codec, output: &mut BytesMut, received: &PubRec) -> Re
         (writing_under codec.now.max_outgoing_size (packets.PubRec received.now)) result
         output.old.items output.new.items }
 {
-    if let Some(max) = codec.max_outgoing_size {
-        let size = received.size();
-        if size > max as usize {
-            return Err(over_limit(size, max));
-        }
-    }
-    received.write(output)?;
-    Ok(())
+    write_under_limit!(codec, output, received)
 }
 
 /// The same of a PubRel.
@@ -80,14 +73,7 @@ fn put_pubrel(codec: &Codec, output: &mut BytesMut, release: &PubRel) -> Result<
         (writing_under codec.now.max_outgoing_size (packets.PubRel release.now)) result
         output.old.items output.new.items }
 {
-    if let Some(max) = codec.max_outgoing_size {
-        let size = release.size();
-        if size > max as usize {
-            return Err(over_limit(size, max));
-        }
-    }
-    release.write(output)?;
-    Ok(())
+    write_under_limit!(codec, output, release)
 }
 
 /// The same of a PubComp.
@@ -96,14 +82,7 @@ fn put_pubcomp(codec: &Codec, output: &mut BytesMut, completed: &PubComp) -> Res
         (writing_under codec.now.max_outgoing_size (packets.PubComp completed.now)) result
         output.old.items output.new.items }
 {
-    if let Some(max) = codec.max_outgoing_size {
-        let size = completed.size();
-        if size > max as usize {
-            return Err(over_limit(size, max));
-        }
-    }
-    completed.write(output)?;
-    Ok(())
+    write_under_limit!(codec, output, completed)
 }
 
 /// The same of a Subscribe.
@@ -116,14 +95,7 @@ pub fn put_subscribe(
         (writing_under codec.now.max_outgoing_size (packets.Subscribe subscribe.now)) result
         output.old.items output.new.items }
 {
-    if let Some(max) = codec.max_outgoing_size {
-        let size = subscribe.size();
-        if size > max as usize {
-            return Err(over_limit(size, max));
-        }
-    }
-    subscribe.write(output)?;
-    Ok(())
+    write_under_limit!(codec, output, subscribe)
 }
 
 /// The same of an Unsubscribe.
@@ -136,14 +108,7 @@ pub fn put_unsubscribe(
         (writing_under codec.now.max_outgoing_size (packets.Unsubscribe unsubscribe.now)) result
         output.old.items output.new.items }
 {
-    if let Some(max) = codec.max_outgoing_size {
-        let size = unsubscribe.size();
-        if size > max as usize {
-            return Err(over_limit(size, max));
-        }
-    }
-    unsubscribe.write(output)?;
-    Ok(())
+    write_under_limit!(codec, output, unsubscribe)
 }
 
 /// Appends the frame of an ack or a Disconnect that is given in short, as `Codec::write` does that of its packet: under the

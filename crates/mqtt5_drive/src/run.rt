@@ -12,17 +12,17 @@ ghost use Rattle.mqtt5_session.specs.Packets.{on_packet};
 ghost use Rattle.mqtt5_session.specs.Replies.{made_of, packet_of};
 ghost use Rattle.mqtt5_session.specs.Ledger.{after_all};
 ghost use Rattle.mqtt5_session.specs.Once.{kept_id, notified_by, released_by};
-ghost use Rattle.mqtt5_drive.specs.Ways.{LeadsTo, Goes, Replies};
+ghost use Rattle.mqtt5_drive.specs.Ways.{LeadsTo, Goes, Replies, Drains, DrainStops};
 ghost use Rattle.mqtt5_drive.specs.Trace.{Holds, finish, Stops};
 ghost use Rattle.mqtt5_drive.specs.Calls.{calls_of};
-ghost use Rattle.mqtt5_drive.specs.Run.{Turn, bytes_of, of_input, turns, reply_bytes, run, piece};
+ghost use Rattle.mqtt5_drive.specs.Run.{Turn, of_input, turns, reply_bytes, run, piece};
 
 use crate::put::{put_made, put_publish};
 use bytes::{Bytes, BytesMut};
-use mqtt5_base::{QoS, copied};
-use mqtt5_codec::{Codec, Packet};
+use mqtt5_base::{QoS, copied, front_laws};
+use mqtt5_codec::{Codec, Packet, frame_laws};
 use mqtt5_publish::Publish;
-use mqtt5_session::{MqttState, Reply, Request, StateError};
+use mqtt5_session::{MqttState, Reply, Request, StateError, once_law};
 use std::alloc::Global;
 
 /// What a step takes: a piece of the incoming bytes, or a request.
@@ -206,15 +206,13 @@ fn take_frames(
     at: u64,
 ) -> Result<(), StateError>
     ensures more { OnOk result (NeedsMore (front codec.now.max_incoming_size input.new.items)) }
-    ensures ok { OnOk result ((rest : List Turn)
-        → LeadsTo state.old output.old.items
-        (run codec.now (bytes_of at input.old.items ++ rest) state.old []) state.new
-        output.new.items (run codec.now rest state.new input.new.items)) }
-    ensures err { IfErr result (λ e. (rest : List Turn)
-        → Stops e state.old output.old.items
-        (run codec.now (bytes_of at input.old.items ++ rest) state.old []) state.new
-        output.new.items) }
+    ensures ok { OnOk result (Drains codec.now at state.old output.old.items input.old.items
+        state.new output.new.items input.new.items) }
+    ensures err { IfErr result (λ e. DrainStops e codec.now at state.old output.old.items
+        input.old.items state.new output.new.items) }
 {
+    front_laws();
+    frame_laws();
     while let Some(packet) = codec.decode(alloc, input)? {
         deliver(state, codec, output, packet, at)?;
     }
@@ -232,15 +230,12 @@ fn take_held(
     at: u64,
 ) -> Result<(), StateError>
     ensures more { OnOk result (NeedsMore (front codec.now.max_incoming_size input.new.items)) }
-    ensures ok { OnOk result ((rest : List Turn)
-        → LeadsTo state.old output.old.items
-        (run codec.now (bytes_of at input.old.items ++ rest) state.old []) state.new
-        output.new.items (run codec.now rest state.new input.new.items)) }
-    ensures err { IfErr result (λ e. (rest : List Turn)
-        → Stops e state.old output.old.items
-        (run codec.now (bytes_of at input.old.items ++ rest) state.old []) state.new
-        output.new.items) }
+    ensures ok { OnOk result (Drains codec.now at state.old output.old.items input.old.items
+        state.new output.new.items input.new.items) }
+    ensures err { IfErr result (λ e. DrainStops e codec.now at state.old output.old.items
+        input.old.items state.new output.new.items) }
 {
+    front_laws();
     // (most small pieces end no frame, and this makes no room for a packet)
     if codec.needs_more(input) {
         return Ok(());
@@ -270,6 +265,7 @@ fn take_step(
 {
     match &step.input {
         Input::Bytes(piece) => {
+            front_laws();
             let Ok(()) = input.extend_from_slice(piece.as_slice()) else {
                 return Err(StateError::OutOfMemory);
             };
@@ -344,6 +340,7 @@ pub fn take_input(
     // So another call may follow.
     ensures more { OnOk result (NeedsMore (front codec.now.max_incoming_size input.new.items)) }
 {
+    front_laws();
     take_held(alloc, state, codec, input, output, at)
 }
 
@@ -382,7 +379,9 @@ pub fn take_piece(
 /// `drive` may start on an empty input.
 pub fn empty_needs_more()
     ensures { (limit : Option ℕ) (input : List ℕ) → input ≡ [] → NeedsMore (front limit input) }
-{}
+{
+    front_laws();
+}
 
 /// A law, which does nothing when it is called: any two ways of cutting the same bytes into pieces, with the
 /// same moment, are the same run, whatever comes before and after.
@@ -426,4 +425,6 @@ pub fn calls_law()
         → kept_id id (finish s output (run codec ts s held)).session.core + released_by id s
         (calls_of codec ts s held)
         ≡ kept_id id s.core + notified_by id s (calls_of codec ts s held) }
-{}
+{
+    once_law();
+}

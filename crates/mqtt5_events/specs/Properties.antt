@@ -45,7 +45,8 @@ connack_numbers p =
 
 -- of a Publish (3.3.2.3)
 abbrev pub publish_numbers : PublishProperties → List (ℕ × Option ℕ)
-publish_numbers p = (1, p.payload_format_indicator) ∷ (2, p.message_expiry_interval) ∷ (35, p.topic_alias) ∷ []
+publish_numbers p =
+    (1, p.payload_format_indicator) ∷ (2, p.message_expiry_interval) ∷ (35, p.topic_alias) ∷ []
 
 -- of a Disconnect (3.14.2.2)
 abbrev pub disconnect_numbers : DisconnectProperties → List (ℕ × Option ℕ)
@@ -73,7 +74,8 @@ connack_contents p =
 
 -- of a Publish (3.3.2.3)
 abbrev pub publish_contents : PublishProperties → List (ℕ × Option (List ℕ))
-publish_contents p = (3, bytes_of p.content_type) ∷ (8, bytes_of p.response_topic) ∷ (9, p.correlation_data) ∷ []
+publish_contents p =
+    (3, bytes_of p.content_type) ∷ (8, bytes_of p.response_topic) ∷ (9, p.correlation_data) ∷ []
 
 -- of an ack (3.4.2.2, 3.5.2.2, 3.6.2.2, 3.7.2.2, 3.9.2.1, 3.11.2.1)
 abbrev pub ack_contents : AckProperties → List (ℕ × Option (List ℕ))

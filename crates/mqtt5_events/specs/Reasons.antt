@@ -15,7 +15,8 @@ use Rattle.mqtt5_inflight.specs.declared.event.Event.TheVariants as events
 abbrev pub only : ℕ → ℕ → Option ℕ
 only code i = if i == 0 then Some code else None
 
--- a packet's code at a place, from 0 on: of a SubAck and an UnsubAck one for each filter (3.9.3, 3.11.3)
+-- a packet's code at a place, from 0 on: of a SubAck and an UnsubAck one for each filter (3.9.3,
+-- 3.11.3)
 abbrev pub reason_of : Packet → ℕ → Option ℕ
 reason_of (packets.ConnAck a) i = only (connack_code a.code) i
 reason_of (packets.PubAck a) i = only (puback_code a.reason) i

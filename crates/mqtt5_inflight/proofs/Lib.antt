@@ -9,3 +9,4 @@ pub mod PlacesOf
 pub mod Standing
 pub mod ById
 pub mod Retained
+pub mod Exports

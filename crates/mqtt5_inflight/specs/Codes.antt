@@ -17,7 +17,9 @@ pub record IdMap : Type 0 where
   pub in_use : InUse
 
 abbrev pub coded_ids : Coded IdMap
-coded_ids = code_by (ℕ × InUse) (coded× coded_ℕ coded_in_use) (λ m. (m.limit, m.in_use)) (λ p. record { limit = p.0; in_use = p.1 }) (λ _. refl)
+coded_ids =
+    code_by (ℕ × InUse) (coded× coded_ℕ coded_in_use) (λ m. (m.limit, m.in_use))
+    (λ p. record { limit = p.0; in_use = p.1 }) (λ _. refl)
 
 -- topics of aliases
 abbrev pub coded_aliases : Coded (map.FinMap nat_cmp (List ℕ))

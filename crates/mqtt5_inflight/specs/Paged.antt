@@ -1,5 +1,7 @@
--- This file serves the logic alone: pages of packet identifiers as one map, from each id in use to its place.
-use Rattle.std.specs.Prelude.{◌≡◌, ◌≢◌, ℕ, zero, suc, ◌+◌, ◌/◌, ◌%◌, ◌^◌, List, [], ◌∷◌, Option, Some, None, slice_index_or}
+-- This file serves the logic alone: pages of packet identifiers as one map, from each id in use to
+-- its place.
+use Rattle.std.specs.Prelude.{◌≡◌, ◌≢◌, ℕ, zero, suc, ◌+◌, ◌/◌, ◌%◌, ◌^◌, List, [], ◌∷◌, Option}
+use Rattle.std.specs.Prelude.{Some, None, slice_index_or}
 use Rattle.std.specs.Ordering.{nat_cmp}
 use Rattle.std.specs.FinMap as map
 use Rattle.std.specs.BTreeMap as tree

@@ -1,5 +1,7 @@
--- This file serves the logic alone: what is known of each id in use, which stands in a place of its own.
-use Rattle.std.specs.Prelude.{◌≡◌, ℕ, List, Option, Some, None, map, unwrap_or, is_some, IsSome, count_by, slice_index_or}
+-- This file serves the logic alone: what is known of each id in use, which stands in a place of its
+-- own.
+use Rattle.std.specs.Prelude.{◌≡◌, ℕ, List, Option, Some, None, map, unwrap_or, is_some, IsSome}
+use Rattle.std.specs.Prelude.{count_by, slice_index_or}
 use Rattle.std.specs.Ordering.{nat_cmp}
 use Rattle.std.specs.FinMap.{FinMap, get, len, entries, from_entries}
 use Rattle.mqtt5_inflight.specs.declared.slot.Slot.{Slot}
@@ -21,6 +23,7 @@ held_in slots places = map_values (slot_in slots) places
 
 -- each id in use has a place of its own, where something stands, and nothing else stands anywhere
 pub record IsPlaced (slots : List (Option Slot)) (places : Places) : Type 0 where
-  pub stands : (id place : ℕ) → get places id ≡ Some place → IsSome (slice_index_or slots place None)
+  pub stands : (id place : ℕ) → get places id ≡ Some place
+      → IsSome (slice_index_or slots place None)
   pub apart : (i j place : ℕ) → get places i ≡ Some place → get places j ≡ Some place → i ≡ j
   pub counted : count_by is_some slots ≡ len places

@@ -1,10 +1,13 @@
--- This file serves the logic alone: the derived `==` of requests, events, slots and errors finds equal values alone.
+-- This file serves the logic alone: the derived `==` of requests, events, slots and errors finds
+-- equal values alone.
 use Rattle.std.proofs.Common.{rules}
 use Rattle.mqtt5_base.specs.Sound.{Sound, number_sound, option_sound, text_sound}
 use Rattle.mqtt5_base.specs.Variants.{enum_sound, no_field, one_field, two_fields}
 use Rattle.mqtt5_base.specs.ErrorSound.{error_sound}
-use Rattle.mqtt5_publish.specs.Sound.{publish_sound, puback_sound, pubrec_sound, pubrel_sound, pubcomp_sound}
-use Rattle.mqtt5_subscribe.specs.Sound.{subscribe_sound, suback_sound, unsubscribe_sound, unsuback_sound}
+use Rattle.mqtt5_publish.specs.Sound.{publish_sound, puback_sound, pubrec_sound, pubrel_sound}
+use Rattle.mqtt5_publish.specs.Sound.{pubcomp_sound}
+use Rattle.mqtt5_subscribe.specs.Sound.{subscribe_sound, suback_sound, unsubscribe_sound}
+use Rattle.mqtt5_subscribe.specs.Sound.{unsuback_sound}
 use Rattle.mqtt5_control.specs.Sound.{connack_reason_sound, disconnect_reason_sound}
 use Rattle.mqtt5_codec.specs.Sound.{packet_sound}
 use Rattle.mqtt5_inflight.specs.contracts.event.Request as requests
@@ -37,7 +40,8 @@ pub outgoing_sound : Sound told.eq-value.it
 outgoing_sound = enum_sound outgoing.enum _ (search (rules, no_field, one_field number_sound))
 
 pub event_sound : Sound event.eq-value.it
-event_sound = enum_sound events.enum _ (search (rules, one_field packet_sound, one_field outgoing_sound))
+event_sound =
+    enum_sound events.enum _ (search (rules, one_field packet_sound, one_field outgoing_sound))
 
 pub slot_sound : Sound slot.eq-value.it
 slot_sound = enum_sound slots.enum _ (search (rules, no_field, one_field publish_sound))

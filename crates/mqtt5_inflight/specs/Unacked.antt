@@ -27,7 +27,8 @@ publish_again id slot = []
 
 -- so is the release of an id (4.4)
 abbrev pub release_again : ℕ → Option Slot → List Request
-release_again id (Some Released) = requests.PubRel (record { pkid = id; reason = pubrel_reasons.Success; properties = None }) ∷ []
+release_again id (Some Released) =
+    requests.PubRel (record { pkid = id; reason = pubrel_reasons.Success; properties = None }) ∷ []
 release_again id slot = []
 
 -- what is to be sent again: the publishes, then the releases, each by rising id (4.4)

@@ -13,7 +13,7 @@ use Rattle.mqtt5_base.specs.Topics.{topic_matches}
 use Rattle.mqtt5_publish.specs.declared.publish.Publish.{Publish}
 use Rattle.mqtt5_codec.specs.declared.packet.Packet.{Packet}
 use Rattle.mqtt5_inflight.specs.Unacked.{again as again_publish}
-use Rattle.mqtt5_world.specs.World.{World, start, run, losses}
+use Rattle.mqtt5_world.specs.World.{World, start, run_world, losses}
 use Rattle.mqtt5_world.specs.Delivery.{IsClass, HasOneToken}
 use Rattle.mqtt5_world.proofs.Step.{one}
 use Rattle.mqtt5_world.proofs.Runs.{inv_start, inv_run}
@@ -34,7 +34,7 @@ use Rattle.mqtt5_network.proofs.Joined.{IsClient, IsJoined, joined, client_of}
 
 -- a world with nothing on its way is as it is after any rounds
 still : (w : World) → w.up ≡ [] → w.down ≡ [] → round w ≡ w
-still w u d = ap downward (ap (λ us. run (all_up us) w) u) ∙ ap (λ ds. run (all_down ds) w) d
+still w u d = ap downward (ap (λ us. run_world (all_up us) w) u) ∙ ap (λ ds. run_world (all_down ds) w) d
 
 still_settled : (n : ℕ) (w : World) → w.up ≡ [] → w.down ≡ [] → settle n w ≡ w
 still_settled zero w u d = refl
@@ -43,7 +43,7 @@ still_settled (suc n) w u d = ap (settle n) (still w u d) ∙ still_settled n w 
 -- what is said of a run is said of its flow
 module _ (test : Publish → Bool) (Q : Packet → Type 0) (limit lost : ℕ) (v : World) (i : IsFlow Q limit lost v) where
   abbrev w : World
-  w = run i.events (start limit)
+  w = run_world i.events (start limit)
 
   most : (q : QoS) → q ≢ AtLeastOnce → IsClass q test → count_by test v.broker.handed ≤ count_by test v.accepted
   most q ne k = subst (λ (w : World). count_by test w.broker.handed ≤ count_by test w.accepted) i.reached (contents.at_most test limit i.events q ne k)

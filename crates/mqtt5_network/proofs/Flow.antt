@@ -15,11 +15,11 @@ use Rattle.mqtt5_session.specs.Session.{Core, Session}
 use Rattle.mqtt5_session.specs.Requests.{on_request}
 use Rattle.mqtt5_session.specs.Packets.{on_packet}
 use Rattle.mqtt5_session.specs.Resuming.{resume_of}
-use Rattle.mqtt5_session.proofs.Keeps.{Sound}
+use Rattle.mqtt5_session.proofs.Exports.{Sound}
 use Rattle.mqtt5_world.specs.declared.event.WorldEvent.{WorldEvent}
 use Rattle.mqtt5_world.specs.declared.event.WorldEvent.TheVariants as events
 use Rattle.mqtt5_world.specs.Broker.{Broker, serve, serve_publish}
-use Rattle.mqtt5_world.specs.World.{World, start, asked, arrives, after_reply, returns, resumed, resumes, happens, run, losses}
+use Rattle.mqtt5_world.specs.World.{World, start, after_request, arrives, after_reply, returns, after_resume, resumes, happens, run_world, losses}
 use Rattle.mqtt5_world.proofs.Step.{Inv, SlotAllowed}
 use Rattle.mqtt5_world.proofs.Losses.{sends_again}
 use Rattle.mqtt5_world.proofs.Runs.{inv_start, inv_next, inv_run, run_append, losses_append}
@@ -120,8 +120,8 @@ flow_of e = flow e.sender e.receiver e.there e.back e.taken
 -- it is a run, and so much is said of all its packets
 pub record IsFlow (Q : Packet → Type 0) (limit times : ℕ) (v : World) : Type 0 where
   pub events : List WorldEvent
-  pub reached : trim (run events (start limit)) ≡ v
-  pub holds : Holds Q limit (run events (start limit))
+  pub reached : trim (run_world events (start limit)) ≡ v
+  pub holds : Holds Q limit (run_world events (start limit))
   pub lost : losses events ≡ times
 
 pub start_flow : (Q : Packet → Type 0) (limit : ℕ) → IsFlow Q limit 0 (trim (start limit))
@@ -164,7 +164,7 @@ module _ (Q : Packet → Type 0) (closed : Closed Q) (limit lost : ℕ) (ends : 
   ps = ends.taken
 
   abbrev w : World
-  w = run i.events (start limit)
+  w = run_world i.events (start limit)
 
   inv : Inv w
   inv = inv_run i.events (start limit) (inv_start limit)
@@ -210,7 +210,7 @@ module _ (Q : Packet → Type 0) (closed : Closed Q) (limit lost : ℕ) (ends : 
       by : (r : Result (Option Packet) StateError) (t : Session) → (on_request w.session (requests.Publish p) 0).0 ≡ r → part (on_request w.session (requests.Publish p) 0).1 ≡ part t → Sends (reply_in r) → Asked p r t
       by (Ok reply) t e f k =
           on (flow t b (forth ++ option_to_list reply) back (ps ++ p ∷ [])) (events.Publish p) lost
-          (ap (λ r. trim (asked w p r (on_request w.session (requests.Publish p) 0).1)) e
+          (ap (λ r. trim (after_request w p r (on_request w.session (requests.Publish p) 0).1)) e
           ∙ (λ n. record (trim w) { session = f n; up = w.up ++ option_to_list reply; accepted = w.accepted ++ p ∷ [] })
           ∙ ap (λ (v : World). record v { session = part t; up = v.up ++ option_to_list reply; accepted = v.accepted ++ p ∷ [] }) i.reached
           ∙ (λ n. record (flow_of ends) { session = part t; up = sym (behind_sends forth (option_to_list reply) k).0 n; accepted = ps ++ p ∷ [] }))
@@ -284,7 +284,7 @@ module _ (Q : Packet → Type 0) (closed : Closed Q) (limit lost : ℕ) (ends : 
     loses others k =
         on _ (events.Loss m) (lost + 1)
         (ap (λ r. trim (resumes (after_reply emptied r g))) (taken_reply w.session m)
-        ∙ ap (λ r. trim (resumed (after_reply emptied (Ok None) g) r)) (resumes_taken w m inv)
+        ∙ ap (λ r. trim (after_resume (after_reply emptied (Ok None) g) r)) (resumes_taken w m inv)
         ∙ (λ n. record (trim w) { session = same.1 n; up = same.0 n; down = [] })
         ∙ ap (λ (v : World). record v { session = part (again_of (connected m s)).1; up = (again_of (connected m s)).0; down = [] }) i.reached
         ∙ (λ n. record (flow_of ends) { session = part (again_of (connected m s)).1; up = sym sends_on.all n; down = sym k.none n }))

@@ -11,7 +11,7 @@ use Rattle.std.proofs.lemmas.List.Elements.{All-from_recursion}
 use Rattle.mqtt5_base.specs.declared.quality.QoS.TheVariants.{ExactlyOnce}
 use Rattle.mqtt5_publish.specs.declared.publish.Publish.{Publish}
 use Rattle.mqtt5_inflight.specs.declared.slot.Slot.{Slot}
-use Rattle.mqtt5_inflight.proofs.Within.{get_insert_same}
+use Rattle.mqtt5_inflight.proofs.Exports.{get_insert_same}
 use Rattle.mqtt5_session.specs.Requests.{on_request}
 use Rattle.mqtt5_session.specs.Packets.{on_packet}
 use Rattle.mqtt5_network.specs.declared.event.ClientEvent.{ClientEvent}

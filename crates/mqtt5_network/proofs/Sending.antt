@@ -20,7 +20,7 @@ use Rattle.mqtt5_inflight.specs.declared.event.Request.TheVariants as requests
 use Rattle.mqtt5_inflight.specs.declared.event.Outgoing.TheVariants as outgoing
 use Rattle.mqtt5_inflight.specs.declared.error.StateError.{StateError}
 use Rattle.mqtt5_session.specs.Session.{Core, Session, Answer}
-use Rattle.mqtt5_session.specs.Requests.{on_request, unless, over_maximum, Verdict, Refuse, Wait, Store, judged, out_acked, out_publish, id_for, next_id, last_given, last_after, with_event_at}
+use Rattle.mqtt5_session.specs.Requests.{on_request, unless, over_maximum, Verdict, Refuse, Wait, Store, verdict_of, out_acked, out_publish, id_for, next_id, last_given, last_after, with_event_at}
 use Rattle.mqtt5_session.specs.Packets.{on_packet, answer_to, with_incoming, freed_for, on_puback, on_pubrec, on_pubcomp, puback_of, pubrec_of, pubcomp_of}
 use Rattle.mqtt5_session.specs.Again.{event_for}
 use Rattle.mqtt5_world.specs.World.{taken_back}
@@ -137,8 +137,8 @@ once_apart (Some e) s p = refused s e
 
 publish_apart : (q : QoS) (s : Session) (p : Publish) → Apart s (out_publish q s p 0) (out_publish q (part s) p 0)
 publish_apart AtMostOnce s p = once_apart (over_maximum s.core p) s p
-publish_apart AtLeastOnce s p = acked_apart (judged s.core (record p { pkid = id_for s.core p.pkid })) s (record p { pkid = id_for s.core p.pkid }) (last_after s.core p.pkid) (last_range s.core p.pkid)
-publish_apart ExactlyOnce s p = acked_apart (judged s.core (record p { pkid = id_for s.core p.pkid })) s (record p { pkid = id_for s.core p.pkid }) (last_after s.core p.pkid) (last_range s.core p.pkid)
+publish_apart AtLeastOnce s p = acked_apart (verdict_of s.core (record p { pkid = id_for s.core p.pkid })) s (record p { pkid = id_for s.core p.pkid }) (last_after s.core p.pkid) (last_range s.core p.pkid)
+publish_apart ExactlyOnce s p = acked_apart (verdict_of s.core (record p { pkid = id_for s.core p.pkid })) s (record p { pkid = id_for s.core p.pkid }) (last_after s.core p.pkid) (last_range s.core p.pkid)
 
 pub out_apart : (s : Session) (p : Publish) → Apart s (on_request s (requests.Publish p) 0) (on_request (part s) (requests.Publish p) 0)
 unfolding on_request

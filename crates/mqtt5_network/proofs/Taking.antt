@@ -11,7 +11,7 @@ use Rattle.mqtt5_inflight.specs.declared.event.Outgoing.TheVariants as outgoing
 use Rattle.mqtt5_inflight.specs.declared.error.StateError.TheVariants as errors
 use Rattle.mqtt5_inflight.specs.Aliases.{alias_of, alias_over}
 use Rattle.mqtt5_session.specs.Session.{Core, Session, Answer}
-use Rattle.mqtt5_session.specs.Requests.{on_request, unless, over_maximum, alias_fault, Refuse, Store, by_use, by_alias, judged, out_acked, out_identified, out_publish, id_for, last_after, with_event_at}
+use Rattle.mqtt5_session.specs.Requests.{on_request, unless, over_maximum, alias_fault, Refuse, Store, by_use, by_alias, verdict_of, out_acked, out_identified, out_publish, id_for, last_after, with_event_at}
 use Rattle.mqtt5_session.specs.Packets.{on_packet}
 use Rattle.mqtt5_progress.specs.Progress.{IsIdle}
 use Rattle.mqtt5_progress.proofs.Closed.{again_of}
@@ -37,7 +37,7 @@ IsTaken a = (x : Packet) × (a.0 ≡ Ok (Some x))
 none_over : (c : Core) (p : Publish) → alias_of p ≡ None → over_maximum c p ≡ None
 none_over c p e = ap (λ a. alias_fault c.alias_max (alias_over c.alias_max a)) e
 
-judged_store : (c : Core) (p : Publish) → alias_of p ≡ None → p.pkid ≤ c.limit → IsIdle c → judged c p ≡ Store
+judged_store : (c : Core) (p : Publish) → alias_of p ≡ None → p.pkid ≤ c.limit → IsIdle c → verdict_of c p ≡ Store
 judged_store c p e high idle =
     ap (λ b. cond b (Refuse (errors.Unsolicited p.pkid)) (by_alias (over_maximum c p) (by_use (get c.in_use p.pkid) c.waiting))) (le-ltb c.limit p.pkid high)
     ∙ ap (λ o. by_alias o (by_use (get c.in_use p.pkid) c.waiting)) (none_over c p e)

@@ -1,5 +1,7 @@
--- What a broker forwards to a subscriber of the publishes that it hands on (MQTT 5.0 sections 3.3.1 to 3.3.4 and 3.8.4).
-use Rattle.std.specs.Prelude.{Bool, false, List, [], ◌∷◌, Option, Some, None, option_map, if◌then◌else◌}
+-- What a broker forwards to a subscriber of the publishes that it hands on (MQTT 5.0 sections 3.3.1
+-- to 3.3.4 and 3.8.4).
+use Rattle.std.specs.Prelude.{Bool, false, List, [], ◌∷◌, Option, Some, None, option_map}
+use Rattle.std.specs.Prelude.{if◌then◌else◌}
 use Rattle.mqtt5_base.specs.Texts.{Utf8}
 use Rattle.mqtt5_base.specs.declared.quality.QoS.{QoS}
 use Rattle.mqtt5_base.specs.declared.quality.QoS.TheVariants.{AtMostOnce, AtLeastOnce, ExactlyOnce}
@@ -38,8 +40,8 @@ granted_for (s ∷ ss) p =
 abbrev pub passed_on : PublishProperties → PublishProperties
 passed_on set = record set { topic_alias = None; subscription_identifiers = [] }
 
--- a publish as it is forwarded under a granted QoS: with the lesser QoS (3.8.4), its id is still to be
--- given (2.2.1), it is sent for the first time (3.3.1.1), and it isn't retained (3.3.1.3)
+-- a publish as it is forwarded under a granted QoS: with the lesser QoS (3.8.4), its id is still to
+-- be given (2.2.1), it is sent for the first time (3.3.1.1), and it isn't retained (3.3.1.3)
 abbrev pub forwarded : QoS → Publish → Publish
 forwarded granted p = record p {
   qos = lesser p.qos granted;

@@ -1,6 +1,7 @@
--- A broker and its clients: what one of them publishes goes to each that has a filter for it (MQTT 5.0
--- section 3.3.4).
-use Rattle.std.specs.Prelude.{◌≡◌, ℕ, zero, suc, ◌+◌, ◌*◌, Bool, false, not, filter, List, [], ◌∷◌, ◌++◌, length, drop, map, sum_by, count_by}
+-- A broker and its clients: what one of them publishes goes to each that has a filter for it (MQTT
+-- 5.0 section 3.3.4).
+use Rattle.std.specs.Prelude.{◌≡◌, ℕ, zero, suc, ◌+◌, ◌*◌, Bool, false, not, filter, List, [], ◌∷◌}
+use Rattle.std.specs.Prelude.{◌++◌, length, drop, map, sum_by, count_by}
 use Rattle.std.specs.List.{All}
 use Rattle.std.specs.Ordering.{nat_cmp}
 use Rattle.std.specs.FinMap.{get}
@@ -8,7 +9,8 @@ use Rattle.std.specs.FinSet as set
 use Rattle.mqtt5_publish.specs.declared.publish.Publish.{Publish}
 use Rattle.mqtt5_codec.specs.declared.packet.Packet.{Packet}
 use Rattle.mqtt5_session.specs.Session.{Core}
-use Rattle.mqtt5_world.specs.Delivery.{Token, is_token_up, is_token_down, stored_without, waiting_in}
+use Rattle.mqtt5_world.specs.Delivery.{Token, is_token_up, is_token_down, stored_without}
+use Rattle.mqtt5_world.specs.Delivery.{waiting_in}
 use Rattle.mqtt5_progress.specs.Progress.{IsIdle}
 use Rattle.mqtt5_network.specs.declared.event.NetworkEvent.{NetworkEvent}
 use Rattle.mqtt5_network.specs.Forwarded.{Subscription, reaching}

@@ -15,7 +15,7 @@ use Rattle.mqtt5_inflight.specs.declared.event.Outgoing.TheVariants as outgoing
 use Rattle.mqtt5_inflight.specs.declared.event.Request.TheVariants as requests
 use Rattle.mqtt5_inflight.specs.declared.error.StateError.{StateError}
 use Rattle.mqtt5_session.specs.Session.{Session, Answer}
-use Rattle.mqtt5_session.specs.Requests.{on_request, unless, over_maximum, Verdict, Refuse, Wait, Store, judged, out_acked, out_publish, id_for, last_after, with_event_at}
+use Rattle.mqtt5_session.specs.Requests.{on_request, unless, over_maximum, Verdict, Refuse, Wait, Store, verdict_of, out_acked, out_publish, id_for, last_after, with_event_at}
 use Rattle.mqtt5_network.specs.Receiver.{publish_in}
 use Rattle.mqtt5_network.specs.Client.{Client, reply_in, asked_of, asks_for, taken_for, forwards_to}
 
@@ -35,8 +35,8 @@ once_kept (Some f) s p = λ e h. refl
 
 publish_kept : (q : QoS) (s : Session) (p : Publish) → IsKept s (out_publish q s p 0)
 publish_kept AtMostOnce s p = once_kept (over_maximum s.core p) s p
-publish_kept AtLeastOnce s p = let q : Publish = record p { pkid = id_for s.core p.pkid } in acked_kept (judged s.core q) s q (last_after s.core p.pkid)
-publish_kept ExactlyOnce s p = let q : Publish = record p { pkid = id_for s.core p.pkid } in acked_kept (judged s.core q) s q (last_after s.core p.pkid)
+publish_kept AtLeastOnce s p = let q : Publish = record p { pkid = id_for s.core p.pkid } in acked_kept (verdict_of s.core q) s q (last_after s.core p.pkid)
+publish_kept ExactlyOnce s p = let q : Publish = record p { pkid = id_for s.core p.pkid } in acked_kept (verdict_of s.core q) s q (last_after s.core p.pkid)
 
 refused_kept : (s : Session) (p : Publish) → IsKept s (on_request s (requests.Publish p) 0)
 unfolding on_request

@@ -8,16 +8,10 @@ mod script;
 #[cfg(test)]
 mod tests;
 
-use mqtt5_scripts::refuse_words;
-use std::env::Env;
+use mqtt5_scripts::{refuse_words, words, written_out};
+use std::io;
 use std::io::{BufWriter, Write};
 use std::process::ExitCode;
-use std::{env, io};
-
-/// The words after the program's name.
-fn words(rt: &(impl Env + AllocGlobal)) -> io::Result<Vec<String>> {
-    Ok(env::args(rt)?.skip(1).collect(rt.alloc())?)
-}
 
 /// Runs the program, and answers its exit status: 1 also where what is printed can't be written out.
 fn print_all(rt: &HostRuntime, output: &mut impl Write) -> u8 {
@@ -25,10 +19,7 @@ fn print_all(rt: &HostRuntime, output: &mut impl Write) -> u8 {
         Ok(words) => run::run(rt.alloc(), words.as_slice(), &mut rt.reader(), output),
         Err(error) => refuse_words(&error, output),
     };
-    match output.flush() {
-        Ok(()) => status,
-        Err(_failed) => 1,
-    }
+    written_out(output, status)
 }
 
 /// Prints through one buffer; where memory for that is refused, without.

@@ -1,10 +1,11 @@
 -- The settings of a client. Those of its Connect are in MQTT 5.0 section 3.1.
-use Rattle.std.specs.Prelude.{ℕ, Bool, true, false, [], Option, Some, None, unwrap_or}
+use Rattle.std.specs.Prelude.{ℕ, Bool, true, false, Option, Some, None, unwrap_or}
 use Rattle.std.specs.declared.time.Duration.{Duration}
 use Rattle.mqtt5_base.specs.Texts.{Utf8}
 use Rattle.mqtt5_connect.specs.declared.connect.ConnectProperties.{ConnectProperties}
 use Rattle.mqtt5_connect.specs.declared.will.LastWill.{LastWill}
 use Rattle.mqtt5_connect.specs.declared.login.Login.{Login}
+use Rattle.mqtt5_connect.specs.Connects.{no_connect_properties}
 
 -- what a client knows of itself, of its broker and of how it goes on
 pub record Settings : Type 0 where
@@ -37,7 +38,8 @@ pub record Settings : Type 0 where
 abbrev pub seconds : ℕ → Duration
 seconds n = record { secs = n; nanos = 0 }
 
--- the settings of a client of which no more than its identifier and its broker's host and port is known
+-- the settings of a client of which no more than its identifier and its broker's host and port is
+-- known
 abbrev pub defaults : Utf8 → Utf8 → ℕ → Settings
 defaults id host port = record {
   broker_address = (host, port);
@@ -54,23 +56,9 @@ defaults id host port = record {
   outgoing_inflight_upper_limit = None;
 }
 
--- the properties of a Connect that has none (3.1.2.11)
-abbrev pub no_properties : ConnectProperties
-no_properties = record {
-  session_expiry_interval = None;
-  receive_maximum = None;
-  max_packet_size = None;
-  topic_alias_max = None;
-  request_response_info = None;
-  request_problem_info = None;
-  user_properties = [];
-  authentication_method = None;
-  authentication_data = None;
-}
-
 -- the properties of the Connect, where there are none those of an empty block (3.1.2.11)
 abbrev pub properties_of : Settings → ConnectProperties
-properties_of s = unwrap_or s.connect_properties no_properties
+properties_of s = unwrap_or s.connect_properties no_connect_properties
 
 -- the settings with these properties of the Connect (3.1.2.11)
 abbrev pub with_properties : Settings → ConnectProperties → Settings

@@ -5,8 +5,8 @@ use Rattle.mqtt5_inflight.specs.declared.error.StateError.{StateError}
 use Rattle.mqtt5_inflight.specs.declared.event.Event.{Event}
 use Rattle.mqtt5_drive.specs.declared.run.Step.{Step}
 use Rattle.mqtt5_drive.specs.Trace.{finish, Stops}
-use Rattle.mqtt5_drive.specs.Run.{Turn, bytes_of, turns, run, piece}
-use Rattle.mqtt5_drive.specs.Limit.{allowed}
+use Rattle.mqtt5_drive.specs.Run.{Turn, byte_turns, turns, run, piece}
+use Rattle.mqtt5_drive.specs.Limit.{codec_after}
 use Rattle.mqtt5_drive.proofs.Cuts.{bytes_of-append}
 use Rattle.mqtt5_client.specs.declared.client.Client.{Client}
 use Rattle.mqtt5_client.specs.Client.{IsReady, Runs, Fails}
@@ -18,7 +18,7 @@ use Rattle.mqtt5_pipe.specs.Pipe.{StopsBy, Leaves}
 -- two pieces are one
 two_pieces : (at : ℕ) (a b : List ℕ) → turns (piece at a ∷ piece at b ∷ []) ≡ turns (piece at (a ++ b) ∷ [])
 two_pieces at a b =
-    sym (append_assoc (bytes_of at a) (bytes_of at b) []) ∙ ap (λ (ts : List Turn). ts ++ []) (sym (bytes_of-append at a b))
+    sym (append_assoc (byte_turns at a) (byte_turns at b) []) ∙ ap (λ (ts : List Turn). ts ++ []) (sym (bytes_of-append at a b))
 
 module _ (p r : Client) (at : ℕ) (a b : List ℕ) (sent : List ℕ) where
   as_one_runs : Runs p (piece at a ∷ piece at b ∷ []) sent r → Runs p (piece at (a ++ b) ∷ []) sent r
@@ -52,7 +52,7 @@ at_start p at input same ready = record { all = rw same refl; ready = rw same re
 
 -- a limit that is taken after a call
 pub limited : {T : Type 0} (result : Result T PipeError) (p q : Client) (events : List Event) (steps : List Step) (sent : List ℕ) → Leaves result p steps sent q
-    → Leaves result p steps sent (record q { codec = allowed events q.codec })
+    → Leaves result p steps sent (record q { codec = codec_after events q.codec })
 limited (Ok x) p q events steps sent h = (record { all = h.0.all; ready = h.0.ready; over = h.0.over }, h.1)
 limited (Err (Read error)) p q events steps sent h = record { all = h.all; ready = h.ready; over = h.over }
 limited (Err (Write error)) p q events steps sent h = record { all = h.all; ready = h.ready; over = h.over }

@@ -1,4 +1,5 @@
--- This file serves the logic alone: the answer of a call, of what the session and the writer answered.
+-- This file serves the logic alone: the answer of a call, of what the session and the writer
+-- answered.
 use Rattle.std.specs.Prelude.{Result, Ok, Err}
 use Rattle.std.specs.declared.io.Error.{Error}
 use Rattle.mqtt5_inflight.specs.declared.error.StateError.{StateError}

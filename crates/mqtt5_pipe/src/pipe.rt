@@ -1,14 +1,13 @@
 //! A client between a reader and a writer.
 
-ghost use Rattle.std.specs.Prelude.{◌≡◌, ◌≢◌, ◌<◌, ℕ, List, [], ◌∷◌, ◌++◌, length, drop, IfOk, IfErr, OnOk, OnErr};
+ghost use Rattle.std.specs.Prelude.{◌≡◌, ◌≢◌, ◌<◌, ℕ, List, [], ◌++◌, length, drop, IfOk, IfErr, OnOk, OnErr};
 ghost use Rattle.std.specs.IoError.{error_kind};
 ghost use Rattle.std.specs.Io.KnownBytes.{Appends, Consumes, IsAtEnd, Keeps};
 ghost use Rattle.std.specs.declared.io.Error.{Error as IoError};
-ghost use Rattle.mqtt5_drive.specs.Run.{piece};
-ghost use Rattle.mqtt5_drive.specs.Limit.{allowed};
+ghost use Rattle.mqtt5_drive.specs.Limit.{codec_after};
 ghost use Rattle.mqtt5_client.specs.Client.{IsReady};
 ghost use Rattle.mqtt5_pipe.specs.declared.error.PipeError.TheVariants as faults;
-ghost use Rattle.mqtt5_pipe.specs.Pipe.{Leaves, IsRetried};
+ghost use Rattle.mqtt5_pipe.specs.Pipe.{Carries, CarriesOne, IsRetried};
 ghost use Rattle.mqtt5_pipe.specs.Ends.{ends};
 
 use crate::error::PipeError;
@@ -58,15 +57,12 @@ pub fn turn<R: Read, W: Write>(
 ) -> Result<usize, PipeError>
     requires ready { IsReady client.old }
     // What was written is the run's output over what was read.
-    ensures carried { (came sent : List ℕ)
-        × Consumes (R.remaining reader.old) (R.remaining reader.new) came
-        × Appends (W.contents writer.old) (W.contents writer.new) sent
-        × Leaves result client.old (piece at came ∷ []) sent client.new
-        × IfOk result (λ count. count ≡ length came) }
+    ensures carried { CarriesOne result at client.old (R.remaining reader.old)
+        (R.remaining reader.new) (W.contents writer.old) (W.contents writer.new) client.new }
     ensures end { IfOk result (λ count. count ≡ 0 → IsAtEnd (R.remaining reader.new)) }
     // The limit is that of the ConnAcks among the events of this call.
     ensures codec { client.new.codec
-        ≡ allowed (drop (length client.old.state.events) client.new.state.events) client.old.codec }
+        ≡ codec_after (drop (length client.old.state.events) client.new.state.events) client.old.codec }
     // So another call may follow; after a fault of the session no input is left.
     ensures ready { IsReady client.new }
     ensures retried { IfErr result IsRetried }
@@ -87,14 +83,12 @@ pub fn run_to_end<R: Read, W: Write>(
 ) -> Result<(), PipeError>
     requires ready { IsReady client.old }
     // All that was written is the run's output over all that was read, as if that were one piece.
-    ensures carried { (came sent : List ℕ)
-        × Consumes (R.remaining reader.old) (R.remaining reader.new) came
-        × Appends (W.contents writer.old) (W.contents writer.new) sent
-        × Leaves result client.old (piece at came ∷ []) sent client.new }
+    ensures carried { Carries result at client.old (R.remaining reader.old)
+        (R.remaining reader.new) (W.contents writer.old) (W.contents writer.new) client.new }
     ensures end { OnOk result (IsAtEnd (R.remaining reader.new)) }
     // The limit is that of the ConnAcks among the events of this call.
     ensures codec { client.new.codec
-        ≡ allowed (drop (length client.old.state.events) client.new.state.events) client.old.codec }
+        ≡ codec_after (drop (length client.old.state.events) client.new.state.events) client.old.codec }
     // So another call may follow; after a fault of the session no input is left.
     ensures ready { IsReady client.new }
     ensures retried { IfErr result IsRetried }
@@ -113,10 +107,8 @@ fn turns_to_end<R: Read, W: Write>(
     writer: &mut W,
 ) -> Result<(), PipeError>
     requires ready { IsReady client.old }
-    ensures carried { (came sent : List ℕ)
-        × Consumes (R.remaining reader.old) (R.remaining reader.new) came
-        × Appends (W.contents writer.old) (W.contents writer.new) sent
-        × Leaves result client.old (piece at came ∷ []) sent client.new }
+    ensures carried { Carries result at client.old (R.remaining reader.old)
+        (R.remaining reader.new) (W.contents writer.old) (W.contents writer.new) client.new }
     ensures end { OnOk result (IsAtEnd (R.remaining reader.new)) }
     ensures codec { client.new.codec ≡ client.old.codec }
     ensures ready { IsReady client.new }
@@ -138,11 +130,8 @@ fn turn_once<R: Read, W: Write>(
     writer: &mut W,
 ) -> Result<usize, PipeError>
     requires ready { IsReady client.old }
-    ensures carried { (came sent : List ℕ)
-        × Consumes (R.remaining reader.old) (R.remaining reader.new) came
-        × Appends (W.contents writer.old) (W.contents writer.new) sent
-        × Leaves result client.old (piece at came ∷ []) sent client.new
-        × IfOk result (λ count. count ≡ length came) }
+    ensures carried { CarriesOne result at client.old (R.remaining reader.old)
+        (R.remaining reader.new) (W.contents writer.old) (W.contents writer.new) client.new }
     ensures end { IfOk result (λ count. count ≡ 0 → IsAtEnd (R.remaining reader.new)) }
     ensures codec { client.new.codec ≡ client.old.codec }
     ensures ready { IsReady client.new }

@@ -26,20 +26,18 @@ use Rattle.mqtt5_inflight.specs.declared.error.StateError.TheVariants as errors
 use Rattle.mqtt5_inflight.specs.InUse.{InUse}
 use Rattle.mqtt5_inflight.specs.Unacked.{again, slot_again, in_use_again, by_id, publish_again, release_again}
 use Rattle.mqtt5_inflight.specs.Resent.{packet_for, packets_of}
-use Rattle.mqtt5_inflight.proofs.Marked.{get_again}
-use Rattle.mqtt5_inflight.proofs.Within.{no_ids, get_insert_same, get_insert_other}
+use Rattle.mqtt5_inflight.proofs.Exports.{get_again, no_ids, get_insert_same, get_insert_other}
 use Rattle.mqtt5_session.specs.Session.{Core, Session, Answer}
-use Rattle.mqtt5_session.specs.Requests.{on_request, unless, over_maximum, Verdict, Refuse, Wait, Store, by_alias, by_use, judged, out_acked, out_publish, id_for, last_after, release_of, with_event_at}
+use Rattle.mqtt5_session.specs.Requests.{on_request, unless, over_maximum, Verdict, Refuse, Wait, Store, by_alias, by_use, verdict_of, out_acked, out_publish, id_for, last_after, release_of, with_event_at}
 use Rattle.mqtt5_session.specs.Packets.{puback_of, pubrec_of, pubcomp_of, on_packet, with_incoming, freed_for, on_puback, on_pubrec, on_pubcomp}
 use Rattle.mqtt5_session.specs.Packets as session
-use Rattle.mqtt5_session.specs.Resuming.{cleaned, resume_of}
+use Rattle.mqtt5_session.specs.Resuming.{on_clean, resume_of}
 use Rattle.mqtt5_session.specs.Again.{after_sent}
-use Rattle.mqtt5_session.proofs.Owed.{choose}
-use Rattle.mqtt5_session.proofs.Keeps.{Sound}
+use Rattle.mqtt5_session.proofs.Exports.{choose, Sound}
 use Rattle.mqtt5_world.specs.declared.event.WorldEvent.{WorldEvent}
 use Rattle.mqtt5_world.specs.declared.event.WorldEvent.TheVariants as events
 use Rattle.mqtt5_world.specs.Broker.{Broker, serve, serve_publish, reason_for}
-use Rattle.mqtt5_world.specs.World.{World, start, asked, arrives, after_reply, takes, returns, taken_back, resumed, resumes, happens}
+use Rattle.mqtt5_world.specs.World.{World, start, after_request, arrives, after_reply, takes_packet, returns, taken_back, after_resume, resumes, happens}
 use Rattle.mqtt5_world.proofs.Step.{Inv, SlotAllowed}
 use Rattle.mqtt5_world.proofs.Losses.{sends_again}
 use Rattle.mqtt5_progress.specs.Packets.{IsAck, OfPublish, OfFirst, OfRelease, Every, numbered}
@@ -115,7 +113,7 @@ unfolding on_packet
 taken_reply s m = refl
 
 abbrev pub again_of : Session → List Packet × Session
-again_of s = (packets_of s.core.limit s.core.in_use, after_sent (packets_of s.core.limit s.core.in_use) (in_use_again s.core.in_use) (cleaned s) 0)
+again_of s = (packets_of s.core.limit s.core.in_use, after_sent (packets_of s.core.limit s.core.in_use) (in_use_again s.core.in_use) (on_clean s) 0)
 
 pub resumes_taken : (w : World) (m : Option ℕ) → Inv w → resume_of (on_packet w.session (taken_back m) 0).1 0 ≡ Ok (again_of (on_packet w.session (taken_back m) 0).1)
 resumes_taken w m i =
@@ -251,10 +249,10 @@ module _ (Q : Packet → Type 0) (limit : ℕ) where
 
   -- ---- events
 
-  holds_asked : (w : World) (p : Publish) (a : Answer) → Holds Q limit w → Keeps Q limit a → Holds Q limit (asked w p a.0 a.1)
+  holds_asked : (w : World) (p : Publish) (a : Answer) → Holds Q limit w → Keeps Q limit a → Holds Q limit (after_request w p a.0 a.1)
   holds_asked w p a h k = by a.0 k.reply
     where
-      by : (r : Result (Option Packet) StateError) → HoldsReply Q r → Holds Q limit (asked w p r a.1)
+      by : (r : Result (Option Packet) StateError) → HoldsReply Q r → Holds Q limit (after_request w p r a.1)
       by (Ok o) q = record { core = k.after; up = every_append (GoesUp Q) w.up (option_to_list o) h.up q; down = h.down }
       by (Err e) q = record { core = k.after; up = h.up; down = h.down }
 
@@ -282,9 +280,9 @@ module _ (Q : Packet → Type 0) (limit : ℕ) where
       let s = (on_packet w.session (taken_back m) 0).1 in
       let lost : World = record w { up = []; down = [] } in
       let k = keeps_again c s (taken_holds w.session m h.core) in
-      let after : Holds Q limit (resumed (after_reply lost (Ok None) s) (Ok (again_of s))) = record { core = k.1; up = k.0; down = tt {0} } in
-      let same : takes lost (taken_back m) ≡ after_reply lost (Ok None) s = ap (λ r. after_reply lost r s) (taken_reply w.session m) in
-      subst (λ v. Holds Q limit (resumes v)) (sym same) (subst (λ r. Holds Q limit (resumed (after_reply lost (Ok None) s) r)) (sym (resumes_taken w m i)) after)
+      let after : Holds Q limit (after_resume (after_reply lost (Ok None) s) (Ok (again_of s))) = record { core = k.1; up = k.0; down = tt {0} } in
+      let same : takes_packet lost (taken_back m) ≡ after_reply lost (Ok None) s = ap (λ r. after_reply lost r s) (taken_reply w.session m) in
+      subst (λ v. Holds Q limit (resumes v)) (sym same) (subst (λ r. Holds Q limit (after_resume (after_reply lost (Ok None) s) r)) (sym (resumes_taken w m i)) after)
 
   pub holds_next : Closed Q → (w : World) (e : WorldEvent) → Inv w → Holds Q limit w → Owes Q w e → Holds Q limit (happens w e)
   holds_next c w (events.Publish p) i h q = holds_asked w p (on_request w.session (requests.Publish p) 0) h (keeps_out w.session p h.core q)
@@ -308,7 +306,7 @@ abbrev pub HasId : QoS → Core → Publish → Type 0
 HasId AtMostOnce c p = Unit {0}
 HasId qos c p = id_for c p.pkid ≤ c.limit
 
-judged_within : (s : Session) (p : Publish) (last : ℕ) → IfAccepted (out_acked (judged s.core p) s p last 0).0 (p.pkid ≤ s.core.limit)
+judged_within : (s : Session) (p : Publish) (last : ℕ) → IfAccepted (out_acked (verdict_of s.core p) s p last 0).0 (p.pkid ≤ s.core.limit)
 judged_within s p last = by (nat_lt s.core.limit p.pkid) refl
   where
     verdict : Verdict

@@ -15,7 +15,7 @@ use Rattle.mqtt5_world.specs.declared.event.WorldEvent.{WorldEvent}
 use Rattle.mqtt5_world.specs.declared.event.WorldEvent.TheVariants as events
 use Rattle.mqtt5_world.specs.declared.event.Report.{Report}
 use Rattle.mqtt5_world.specs.Happens.{IsReport}
-use Rattle.mqtt5_world.specs.World.{World, happens, run, start, losses}
+use Rattle.mqtt5_world.specs.World.{World, happens, run_world, start, losses}
 use Rattle.mqtt5_world.specs.Delivery.{IsClass, stored_in, stored_without, waiting_in, has_content, times}
 use Rattle.mqtt5_world.proofs.Step.{Inv, handed, accepted, on_way}
 use Rattle.mqtt5_world.proofs.Asks.{ask_step}
@@ -53,7 +53,7 @@ nothing_back c i = ap₂ (λ xs ys. xs ++ ys) (none_by_id publish_again (λ id. 
 
 module _ (test : Publish → Bool) (limit : ℕ) (es : List WorldEvent) where
   abbrev before : World
-  before = run es (start limit)
+  before = run_world es (start limit)
 
   abbrev all : List WorldEvent
   all = es ++ deliveries 4 before
@@ -61,7 +61,7 @@ module _ (test : Publish → Bool) (limit : ℕ) (es : List WorldEvent) where
   same_accepted : accepted test (settle 4 before) ≡ accepted test before
   same_accepted = ap (count_by test) (settle_unasked 4 before).accepted
 
-  same_world : run all (start limit) ≡ settle 4 before
+  same_world : run_world all (start limit) ≡ settle 4 before
   same_world = sym (whole limit es)
 
   idle : IsIdle (settle 4 before).session.core
@@ -105,16 +105,16 @@ abbrev Even : (Publish → Bool) → World → Type 0
 Even test w = handed test w + on_way test w.up ≡ accepted test w
 
 module _ (test : Publish → Bool) (c : IsClass AtMostOnce test) where
-  even_run : (es : List WorldEvent) (w : World) → losses es ≡ 0 → Inv w → Even test w → Even test (run es w)
+  even_run : (es : List WorldEvent) (w : World) → losses es ≡ 0 → Inv w → Even test w → Even test (run_world es w)
   even_run [] w none i h = h
   even_run (events.Publish p ∷ es) w none i h = even_run es _ none (inv_next w (events.Publish p) i) (let e = (ask_step w p i).even test c in omega (arith, e, h))
   even_run (events.Up ∷ es) w none i h = even_run es _ none (inv_next w events.Up i) (let e = (up_step w w.up refl i).even test c in omega (arith, e, h))
   even_run (events.Down ∷ es) w none i h = even_run es _ none (inv_next w events.Down i) (let e = (down_step w w.down refl i).even test c in omega (arith, e, h))
   even_run (events.Loss m ∷ es) w none i h = absurd (omega (arith, none))
 
-  light : (limit : ℕ) (es : List WorldEvent) → losses es ≡ 0 → handed test (settle 4 (run es (start limit))) ≡ accepted test (run es (start limit))
+  light : (limit : ℕ) (es : List WorldEvent) → losses es ≡ 0 → handed test (settle 4 (run_world es (start limit))) ≡ accepted test (run_world es (start limit))
   light limit es none =
-      let w = run es (start limit) in
+      let w = run_world es (start limit) in
       let all = es ++ deliveries 4 w in
       let h = even_run all (start limit) (same_losses es (deliveries 4 w) (deliveries_alone 4 w) ∙ none) (inv_start limit) refl in
       let e : Even test (settle 4 w) = subst (Even test) (same_world test limit es) h in
@@ -122,22 +122,22 @@ module _ (test : Publish → Bool) (c : IsClass AtMostOnce test) where
       let a = same_accepted test limit es in
       omega (arith, e, n, a)
 
-pub without_loss : (q : QoS) (test : Publish → Bool) → IsClass q test → (limit : ℕ) (es : List WorldEvent) → losses es ≡ 0 → handed test (settle 4 (run es (start limit))) ≡ accepted test (run es (start limit))
+pub without_loss : (q : QoS) (test : Publish → Bool) → IsClass q test → (limit : ℕ) (es : List WorldEvent) → losses es ≡ 0 → handed test (settle 4 (run_world es (start limit))) ≡ accepted test (run_world es (start limit))
 without_loss AtMostOnce test c limit es none = light test c limit es none
 without_loss AtLeastOnce test c limit es none =
     let l = least test limit es c in
-    let a : handed test (settle 4 (run es (start limit))) ≤ (0 + 1) * accepted test (run es (start limit)) = subst (λ n. handed test (settle 4 (run es (start limit))) ≤ (n + 1) * accepted test (run es (start limit))) none (again test limit es c) in
+    let a : handed test (settle 4 (run_world es (start limit))) ≤ (0 + 1) * accepted test (run_world es (start limit)) = subst (λ n. handed test (settle 4 (run_world es (start limit))) ≤ (n + 1) * accepted test (run_world es (start limit))) none (again test limit es c) in
     omega (arith, l, a)
 without_loss ExactlyOnce test c limit es none = exactly test limit es c
 
 -- ---- in a report
 
-module _ (limit : ℕ) (es : List WorldEvent) (r : Report) (is : IsReport r (settle 4 (run es (start limit)))) where
-  pub report_accepted : r.accepted.items ≡ (run es (start limit)).accepted
-  report_accepted = is.accepted ∙ (settle_unasked 4 (run es (start limit))).accepted
+module _ (limit : ℕ) (es : List WorldEvent) (r : Report) (is : IsReport r (settle 4 (run_world es (start limit)))) where
+  pub report_accepted : r.accepted.items ≡ (run_world es (start limit)).accepted
+  report_accepted = is.accepted ∙ (settle_unasked 4 (run_world es (start limit))).accepted
 
-  pub report_refused : r.refused.items ≡ (run es (start limit)).refused
-  report_refused = is.refused ∙ (settle_unasked 4 (run es (start limit))).refused
+  pub report_refused : r.refused.items ≡ (run_world es (start limit)).refused
+  report_refused = is.refused ∙ (settle_unasked 4 (run_world es (start limit))).refused
 
   pub report_idle : IsIdle r.state.core
   report_idle = subst (λ (s : Session). IsIdle s.core) (sym is.state) (settled_four limit es).core
@@ -146,8 +146,8 @@ module _ (limit : ℕ) (es : List WorldEvent) (r : Report) (is : IsReport r (set
   abbrev Said : (ℕ → ℕ → Type 0) → Publish → Type 0
   Said P c = P (times c r.handed.items) (times c r.accepted.items)
 
-  said : (P : ℕ → ℕ → Type 0) (c : Publish) → P (handed (has_content c) (settle 4 (run es (start limit)))) (accepted (has_content c) (run es (start limit))) → Said P c
-  said P c h = subst (λ n. P (times c r.handed.items) n) (sym (ap (times c) report_accepted)) (subst (λ n. P n (times c (run es (start limit)).accepted)) (sym (ap (times c) is.handed)) h)
+  said : (P : ℕ → ℕ → Type 0) (c : Publish) → P (handed (has_content c) (settle 4 (run_world es (start limit)))) (accepted (has_content c) (run_world es (start limit))) → Said P c
+  said P c h = subst (λ n. P (times c r.handed.items) n) (sym (ap (times c) report_accepted)) (subst (λ n. P n (times c (run_world es (start limit)).accepted)) (sym (ap (times c) is.handed)) h)
 
   pub report_exactly : (c : Publish) → c.qos ≡ ExactlyOnce → Said (λ h a. h ≡ a) c
   report_exactly c e = said (λ h a. h ≡ a) c (exactly (has_content c) limit es (class_of c ExactlyOnce e))

@@ -30,7 +30,7 @@ use Rattle.mqtt5_session.specs.Resuming.{Sendings, resume_of}
 use Rattle.mqtt5_world.specs.declared.event.WorldEvent.{WorldEvent}
 use Rattle.mqtt5_world.specs.declared.event.WorldEvent.TheVariants as events
 use Rattle.mqtt5_world.specs.Broker.{Broker, Served, idle, serve_publish, serve, reason_for}
-use Rattle.mqtt5_world.specs.World.{World, start, asked, arrives, after_reply, takes, returns, taken_back, resumed, resumes, happens, run}
+use Rattle.mqtt5_world.specs.World.{World, start, after_request, arrives, after_reply, takes_packet, returns, taken_back, after_resume, resumes, happens, run_world}
 use Rattle.mqtt5_world.specs.Delivery.{IsClass, stored_in, stored_without, waiting_in}
 use Rattle.mqtt5_world.proofs.Step.{one, count_push}
 use Rattle.mqtt5_world.proofs.Contents as contents
@@ -214,7 +214,7 @@ record Left (b : Broker) (w v u : World) : Type 0 where
   broker : v.broker ≡ w.broker
 
 module _ (b : Broker) where
-  asked_left : (w : World) (p : Publish) (r : Result (Option Packet) StateError) (s : Session) → Left b w (asked w p r s) (asked (with b w) p r s)
+  asked_left : (w : World) (p : Publish) (r : Result (Option Packet) StateError) (s : Session) → Left b w (after_request w p r s) (after_request (with b w) p r s)
   asked_left w p (Ok reply) s = record { around = refl; broker = refl }
   asked_left w p (Err e) s = record { around = refl; broker = refl }
 
@@ -222,21 +222,21 @@ module _ (b : Broker) where
   heard_left w (Ok reply) s = record { around = refl; broker = refl }
   heard_left w (Err e) s = record { around = refl; broker = refl }
 
-  takes_left : (w : World) (p : Packet) → Left b w (takes w p) (takes (with b w) p)
+  takes_left : (w : World) (p : Packet) → Left b w (takes_packet w p) (takes_packet (with b w) p)
   takes_left w p = heard_left w (on_packet w.session p 0).0 (on_packet w.session p 0).1
 
   returns_left : (w : World) (ds : List Packet) → Left b w (returns w ds) (returns (with b w) ds)
   returns_left w [] = record { around = refl; broker = refl }
   returns_left w (x ∷ rest) = let a = takes_left (record w { down = rest }) x in record { around = a.around; broker = a.broker }
 
-  resumed_left : (w : World) (r : Sendings) → Left b w (resumed w r) (resumed (with b w) r)
+  resumed_left : (w : World) (r : Sendings) → Left b w (after_resume w r) (after_resume (with b w) r)
   resumed_left w (Ok sent) = record { around = refl; broker = refl }
   resumed_left w (Err e) = record { around = refl; broker = refl }
 
-  lost_left : (w : World) (p : Packet) → Left b w (resumes (takes w p)) (resumes (takes (with b w) p))
+  lost_left : (w : World) (p : Packet) → Left b w (resumes (takes_packet w p)) (resumes (takes_packet (with b w) p))
   lost_left w p =
       let t = takes_left w p in
-      let r = resumed_left (takes w p) (resume_of (takes w p).session 0) in
+      let r = resumed_left (takes_packet w p) (resume_of (takes_packet w p).session 0) in
       record { around = ap resumes t.around ∙ r.around; broker = r.broker ∙ t.broker }
 
 goes_on : (l : Late) (w v u : World) → Tied l w.broker → Left idle w v u → Beside (record { around = u; broker = l }) v
@@ -261,7 +261,7 @@ next_beside l w e i = subst (λ a. Beside (happens_late (record { around = a; br
 
 -- ---- runs
 
-run_beside : (es : List WorldEvent) (l : LateWorld) (w : World) → Beside l w → Beside (run_late es l) (run es w)
+run_beside : (es : List WorldEvent) (l : LateWorld) (w : World) → Beside l w → Beside (run_late es l) (run_world es w)
 run_beside [] l w i = i
 run_beside (e ∷ es) l w i = run_beside es (happens_late l e) (happens w e) (next_beside l w e i)
 
@@ -288,9 +288,9 @@ module _ (limit : ℕ) (es : List WorldEvent) where
   late = run_late es (start_late limit)
 
   abbrev pub early : World
-  early = run es (start limit)
+  early = run_world es (start limit)
 
-  beside : Beside (run_late es (start_late limit)) (run es (start limit))
+  beside : Beside (run_late es (start_late limit)) (run_world es (start limit))
   beside = run_beside es (start_late limit) (start limit) (start_beside limit)
 
   pub same_world : late.around ≡ record early { broker = idle }

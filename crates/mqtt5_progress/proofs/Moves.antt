@@ -22,11 +22,11 @@ use Rattle.mqtt5_inflight.specs.declared.slot.Slot.TheVariants.{Sent, Released}
 use Rattle.mqtt5_inflight.specs.declared.event.Outgoing.TheVariants as outgoing
 use Rattle.mqtt5_inflight.specs.declared.error.StateError.{StateError}
 use Rattle.mqtt5_inflight.specs.InUse.{InUse}
-use Rattle.mqtt5_inflight.proofs.Within.{get_insert_same, get_insert_other}
+use Rattle.mqtt5_inflight.proofs.Exports.{get_insert_same, get_insert_other}
 use Rattle.mqtt5_session.specs.Session.{Core, Session, Answer}
 use Rattle.mqtt5_session.specs.Requests.{release_of, disconnect_of}
 use Rattle.mqtt5_session.specs.Packets.{on_packet, answer_to, with_notice, event_of, takes, freed_for, on_puback, on_received, on_pubrec, on_pubcomp, on_released, on_pubrel, on_qos, answers, on_publish, on_connack, is_taken, topic_of, puback_of, pubrec_of, pubcomp_of}
-use Rattle.mqtt5_session.proofs.Owed.{choose}
+use Rattle.mqtt5_session.proofs.Exports.{choose}
 use Rattle.mqtt5_world.proofs.Places.{get_remove_other}
 use Rattle.mqtt5_progress.specs.Progress.{work_of, work_up, work_down}
 

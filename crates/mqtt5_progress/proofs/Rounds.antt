@@ -11,7 +11,7 @@ use Rattle.mqtt5_inflight.specs.declared.error.StateError.{StateError}
 use Rattle.mqtt5_session.specs.Session.{Session, Answer}
 use Rattle.mqtt5_session.specs.Packets.{on_packet, puback_of, pubrec_of, pubcomp_of}
 use Rattle.mqtt5_world.specs.Broker.{serve, serve_publish, reason_for}
-use Rattle.mqtt5_world.specs.World.{World, served, arrives, after_reply, returns, run}
+use Rattle.mqtt5_world.specs.World.{World, after_serving, arrives, after_reply, returns, run_world}
 use Rattle.mqtt5_progress.specs.Progress.{all_up, all_down, upward, downward, round, settle}
 use Rattle.mqtt5_progress.proofs.Moves.{rounds_of, rounds_up, rounds_down, sent, Move, Still, LetsGo, Answers, moves}
 
@@ -90,33 +90,33 @@ record Taken (n : ℕ) (rest : List Packet) (w w' : World) : Type 0 where
   down : Within rounds_down n (later w.session.core.waiting) w'.down
 
 module _ (n : ℕ) (w : World) (rest : List Packet) (down : Within rounds_down n (later w.session.core.waiting) w.down) where
-  answered : (a : Option Packet) (b : _) → Within rounds_down n (later w.session.core.waiting) (option_to_list a) → Taken n rest w (served (record w { up = rest }) (a, b))
+  answered : (a : Option Packet) (b : _) → Within rounds_down n (later w.session.core.waiting) (option_to_list a) → Taken n rest w (after_serving (record w { up = rest }) (a, b))
   answered a b h = record { session = refl; up = refl; down = within_append rounds_down n _ w.down (option_to_list a) down h }
 
-  publish_taken : (p : Publish) (q : QoS) → rounds_of q + later w.session.core.waiting ≤ n → Taken n rest w (served (record w { up = rest }) (serve_publish q w.broker p))
+  publish_taken : (p : Publish) (q : QoS) → rounds_of q + later w.session.core.waiting ≤ n → Taken n rest w (after_serving (record w { up = rest }) (serve_publish q w.broker p))
   publish_taken p AtMostOnce le = answered None _ (tt {0})
   publish_taken p AtLeastOnce le = answered (Some (puback_of p.pkid)) _ (le, tt {0})
   publish_taken p ExactlyOnce le = answered (Some (pubrec_of p.pkid)) _ (le, tt {0})
 
-  taken : (x : Packet) → rounds_up x + later w.session.core.waiting ≤ n → Taken n rest w (served (record w { up = rest }) (serve w.broker x))
+  taken : (x : Packet) → rounds_up x + later w.session.core.waiting ≤ n → Taken n rest w (after_serving (record w { up = rest }) (serve w.broker x))
   taken (packets.Publish p) le = publish_taken p p.qos le
   taken (packets.PubRel p) le = answered (Some (pubcomp_of p.pkid (reason_for (set.contains w.broker.ids p.pkid)))) _ (le, tt {0})
   taken other le = answered None _ (tt {0})
 
 -- all that is on its way up
-all_taken : (n : ℕ) (us : List Packet) (w : World) → w.up ≡ us → Within rounds_up n (later w.session.core.waiting) us → Within rounds_down n (later w.session.core.waiting) w.down → Taken n [] w (run (all_up us) w)
+all_taken : (n : ℕ) (us : List Packet) (w : World) → w.up ≡ us → Within rounds_up n (later w.session.core.waiting) us → Within rounds_down n (later w.session.core.waiting) w.down → Taken n [] w (run_world (all_up us) w)
 all_taken n [] w e h down = record { session = refl; up = e; down = down }
 all_taken n (x ∷ us) w e h down =
-    let next : World = served (record w { up = us }) (serve w.broker x) in
+    let next : World = after_serving (record w { up = us }) (serve w.broker x) in
     let t : Taken n us w next = taken n w us down x h.0 in
     let o = ap (λ (s : Session). later s.core.waiting) t.session in
     let all = all_taken n us next t.up (subst (λ m. Within rounds_up n m us) (sym o) h.1) (subst (λ m. Within rounds_down n m next.down) (sym o) t.down) in
-    let whole : Taken n [] w (run (all_up us) next) = record {
+    let whole : Taken n [] w (run_world (all_up us) next) = record {
       session = all.session ∙ t.session;
       up = all.up;
-      down = subst (λ m. Within rounds_down n m (run (all_up us) next).down) o all.down;
+      down = subst (λ m. Within rounds_down n m (run_world (all_up us) next).down) o all.down;
     } in
-    subst (λ xs. Taken n [] w (run (all_up us) (arrives w xs))) (sym e) whole
+    subst (λ xs. Taken n [] w (run_world (all_up us) (arrives w xs))) (sym e) whole
 
 -- ---- down
 
@@ -161,18 +161,18 @@ module _ (n : ℕ) (w : World) (rest : List Packet) (x : Packet) (le : rounds_do
       gone r t (y ∷ []) w.session.core.waiting s e (omega arith) (omega (arith, one, two, le), tt {0})
 
 -- all that is on its way down
-all_read : (n : ℕ) (ds : List Packet) (w : World) → w.down ≡ ds → Within rounds_down (suc n) (later w.session.core.waiting) ds → Within rounds_up n (later w.session.core.waiting) w.up → Read n [] w (run (all_down ds) w)
+all_read : (n : ℕ) (ds : List Packet) (w : World) → w.down ≡ ds → Within rounds_down (suc n) (later w.session.core.waiting) ds → Within rounds_up n (later w.session.core.waiting) w.up → Read n [] w (run_world (all_down ds) w)
 all_read n [] w e h up = record { down = e; up = up; less = omega arith }
 all_read n (x ∷ ds) w e h up =
     let next : World = after_reply (record w { down = ds }) (on_packet w.session x 0).0 (on_packet w.session x 0).1 in
     let t : Read n ds w next = read_move n w ds x h.0 up (on_packet w.session x 0) (moves w.session x) in
     let all = all_read n ds next t.down (within_less rounds_down (suc n) _ _ ds t.less h.1) t.up in
-    let whole : Read n [] w (run (all_down ds) next) = record {
+    let whole : Read n [] w (run_world (all_down ds) next) = record {
       down = all.down;
       up = all.up;
       less = let a = all.less in let b = t.less in omega (arith, a, b);
     } in
-    subst (λ xs. Read n [] w (run (all_down ds) (returns w xs))) (sym e) whole
+    subst (λ xs. Read n [] w (run_world (all_down ds) (returns w xs))) (sym e) whole
 
 -- ---- rounds
 

@@ -10,7 +10,7 @@ use Rattle.mqtt5_inflight.specs.declared.slot.Slot.{Slot}
 use Rattle.mqtt5_inflight.specs.InUse.{InUse}
 use Rattle.mqtt5_world.specs.declared.event.WorldEvent.{WorldEvent}
 use Rattle.mqtt5_world.specs.declared.event.WorldEvent.TheVariants as events
-use Rattle.mqtt5_world.specs.World.{World, arrives, after_reply, returns, happens, run, start, losses}
+use Rattle.mqtt5_world.specs.World.{World, arrives, after_reply, returns, happens, run_world, start, losses}
 use Rattle.mqtt5_world.specs.Delivery.{is_token_up, is_token_down, Token, Free, PublishUp, PubAckDown, PublishTwiceUp, PubRecDown, PubRelUp, PubCompDown}
 use Rattle.mqtt5_world.proofs.Step.{Inv}
 use Rattle.mqtt5_world.proofs.Runs.{inv_run, inv_start, run_append, losses_append}
@@ -49,25 +49,25 @@ settled w i waits u d =
     free id = no_token (i.tokens id) (ap (filter (is_token_up id)) u) (ap (filter (is_token_down id)) d)
 
 -- in a world that is reached
-pub at_rest : (limit : ℕ) (es : List WorldEvent) → (run es (start limit)).up ≡ [] → (run es (start limit)).down ≡ [] → Settled (run es (start limit))
-at_rest limit es = settled (run es (start limit)) (inv_run es (start limit) (inv_start limit)) (waits_reached limit es)
+pub at_rest : (limit : ℕ) (es : List WorldEvent) → (run_world es (start limit)).up ≡ [] → (run_world es (start limit)).down ≡ [] → Settled (run_world es (start limit))
+at_rest limit es = settled (run_world es (start limit)) (inv_run es (start limit) (inv_start limit)) (waits_reached limit es)
 
 -- ---- rounds are runs
 
-pub settle_run : (n : ℕ) (w : World) → settle n w ≡ run (deliveries n w) w
+pub settle_run : (n : ℕ) (w : World) → settle n w ≡ run_world (deliveries n w) w
 settle_run zero w = refl
 settle_run (suc n) w =
     settle_run n (round w)
     ∙ sym (run_append (all_up w.up) (all_down (upward w).down ++ deliveries n (round w)) w ∙ run_append (all_down (upward w).down) (deliveries n (round w)) (upward w))
 
 -- a run and four rounds after it are a run
-pub whole : (limit : ℕ) (es : List WorldEvent) → settle 4 (run es (start limit)) ≡ run (es ++ deliveries 4 (run es (start limit))) (start limit)
-whole limit es = settle_run 4 (run es (start limit)) ∙ sym (run_append es (deliveries 4 (run es (start limit))) (start limit))
+pub whole : (limit : ℕ) (es : List WorldEvent) → settle 4 (run_world es (start limit)) ≡ run_world (es ++ deliveries 4 (run_world es (start limit))) (start limit)
+whole limit es = settle_run 4 (run_world es (start limit)) ∙ sym (run_append es (deliveries 4 (run_world es (start limit))) (start limit))
 
-pub settled_four : (limit : ℕ) (es : List WorldEvent) → Settled (settle 4 (run es (start limit)))
+pub settled_four : (limit : ℕ) (es : List WorldEvent) → Settled (settle 4 (run_world es (start limit)))
 settled_four limit es =
-    let all = es ++ deliveries 4 (run es (start limit)) in
-    let f = four_rounds (run es (start limit)) in
+    let all = es ++ deliveries 4 (run_world es (start limit)) in
+    let f = four_rounds (run_world es (start limit)) in
     let e = whole limit es in
     subst Settled (sym e) (at_rest limit all (ap (λ (w : World). w.up) (sym e) ∙ f.0) (ap (λ (w : World). w.down) (sym e) ∙ f.1))
 
@@ -123,7 +123,7 @@ returns_unasked w (x ∷ ds) = heard_unasked w ds (on_packet w.session x 0)
 then_unasked : {u v w : World} → Unasked u v → Unasked v w → Unasked u w
 then_unasked a b = record { accepted = b.accepted ∙ a.accepted; refused = b.refused ∙ a.refused }
 
-pub run_unasked : (es : List WorldEvent) (w : World) → Deliveries es → Unasked w (run es w)
+pub run_unasked : (es : List WorldEvent) (w : World) → Deliveries es → Unasked w (run_world es w)
 run_unasked [] w h = record { accepted = refl; refused = refl }
 run_unasked (events.Up ∷ es) w h = then_unasked (arrives_unasked w w.up) (run_unasked es _ h)
 run_unasked (events.Down ∷ es) w h = then_unasked (returns_unasked w w.down) (run_unasked es _ h)

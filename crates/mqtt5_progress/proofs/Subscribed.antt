@@ -7,7 +7,7 @@ use Rattle.mqtt5_base.specs.declared.quality.QoS.TheVariants.{AtLeastOnce, Exact
 use Rattle.mqtt5_base.specs.Texts.{Utf8}
 use Rattle.mqtt5_publish.specs.declared.publish.Publish.{Publish}
 use Rattle.mqtt5_world.specs.declared.event.WorldEvent.{WorldEvent}
-use Rattle.mqtt5_world.specs.World.{start, run}
+use Rattle.mqtt5_world.specs.World.{start, run_world}
 use Rattle.mqtt5_world.specs.Delivery.{IsClass, has_content, times}
 use Rattle.mqtt5_world.proofs.Step.{one}
 use Rattle.mqtt5_world.proofs.Contents.{content_class, content_decides}
@@ -68,12 +68,12 @@ class_of : (c : Publish) (q : QoS) → c.qos ≡ q → IsClass q (has_content c)
 class_of c q e = subst (λ q. IsClass q (has_content c)) e (content_class c)
 
 module _ (filters : List Utf8) (limit : ℕ) (es : List WorldEvent) (c : Publish) (hit : hits filters c ≡ true) where
-  pub exactly : c.qos ≡ ExactlyOnce → times c (received filters (settle 4 (run es (start limit))).broker.handed) ≡ times c (run es (start limit)).accepted
-  exactly q = all_reach filters c (settle 4 (run es (start limit))).broker.handed hit ∙ counted.exactly (has_content c) limit es (class_of c ExactlyOnce q)
+  pub exactly : c.qos ≡ ExactlyOnce → times c (received filters (settle 4 (run_world es (start limit))).broker.handed) ≡ times c (run_world es (start limit)).accepted
+  exactly q = all_reach filters c (settle 4 (run_world es (start limit))).broker.handed hit ∙ counted.exactly (has_content c) limit es (class_of c ExactlyOnce q)
 
-  pub least : c.qos ≡ AtLeastOnce → times c (run es (start limit)).accepted ≤ times c (received filters (settle 4 (run es (start limit))).broker.handed)
+  pub least : c.qos ≡ AtLeastOnce → times c (run_world es (start limit)).accepted ≤ times c (received filters (settle 4 (run_world es (start limit))).broker.handed)
   least q =
-      let r = all_reach filters c (settle 4 (run es (start limit))).broker.handed hit in
+      let r = all_reach filters c (settle 4 (run_world es (start limit))).broker.handed hit in
       let l = counted.least (has_content c) limit es (class_of c AtLeastOnce q) in
       omega (arith, r, l)
 

@@ -15,16 +15,16 @@ use Rattle.mqtt5_inflight.specs.declared.error.StateError.TheVariants as errors
 use Rattle.mqtt5_inflight.specs.InUse.{InUse}
 use Rattle.mqtt5_inflight.specs.Unacked.{slot_again, in_use_again}
 use Rattle.mqtt5_inflight.specs.Resent.{packets_of}
-use Rattle.mqtt5_inflight.proofs.Marked.{get_again}
+use Rattle.mqtt5_inflight.proofs.Exports.{get_again}
 use Rattle.mqtt5_session.specs.Session.{Core, Session, Answer}
-use Rattle.mqtt5_session.specs.Requests.{on_request, unless, over_maximum, with_event_at, Refuse, by_use, by_alias, judged, out_acked, out_publish, id_for, last_after}
+use Rattle.mqtt5_session.specs.Requests.{on_request, unless, over_maximum, with_event_at, Refuse, by_use, by_alias, verdict_of, out_acked, out_publish, id_for, last_after}
 use Rattle.mqtt5_session.specs.Packets.{on_packet}
-use Rattle.mqtt5_session.specs.Resuming.{cleaned}
+use Rattle.mqtt5_session.specs.Resuming.{on_clean}
 use Rattle.mqtt5_session.specs.Again.{after_sent}
-use Rattle.mqtt5_session.proofs.Keeps.{Sound}
+use Rattle.mqtt5_session.proofs.Exports.{Sound}
 use Rattle.mqtt5_world.specs.declared.event.WorldEvent.{WorldEvent}
 use Rattle.mqtt5_world.specs.declared.event.WorldEvent.TheVariants as events
-use Rattle.mqtt5_world.specs.World.{World, asked, asks, arrives, after_reply, takes, returns, resumed, resumes, taken_back, happens, run, start}
+use Rattle.mqtt5_world.specs.World.{World, after_request, asks, arrives, after_reply, takes_packet, returns, after_resume, resumes, taken_back, happens, run_world, start}
 use Rattle.mqtt5_world.proofs.Step.{Inv, SlotAllowed}
 use Rattle.mqtt5_world.proofs.Losses.{sends_again}
 use Rattle.mqtt5_world.proofs.Runs.{inv_next, inv_start}
@@ -45,7 +45,7 @@ module _ (s : Session) (p : Publish) (last : ℕ) (waits : Waits s.core) where
   by_alias_waits (Some f) = waits
   by_alias_waits None = by_use_waits _ s.core.waiting refl
 
-  acked_waits : OfAnswer (out_acked (judged s.core p) s p last 0)
+  acked_waits : OfAnswer (out_acked (verdict_of s.core p) s p last 0)
   acked_waits = by (nat_lt s.core.limit p.pkid)
     where
       by : (b : Bool) → OfAnswer (out_acked (cond b (Refuse (errors.Unsolicited p.pkid)) (by_alias (over_maximum s.core p) (by_use (get s.core.in_use p.pkid) s.core.waiting))) s p last 0)
@@ -61,7 +61,7 @@ publish_waits AtMostOnce s p w = by (over_maximum s.core p)
 publish_waits AtLeastOnce s p w = acked_waits s (record p { pkid = id_for s.core p.pkid }) (last_after s.core p.pkid) w
 publish_waits ExactlyOnce s p w = acked_waits s (record p { pkid = id_for s.core p.pkid }) (last_after s.core p.pkid) w
 
-asked_waits : (w : World) (p : Publish) (a : Answer) → OfAnswer a → Waits (asked w p a.0 a.1).session.core
+asked_waits : (w : World) (p : Publish) (a : Answer) → OfAnswer a → Waits (after_request w p a.0 a.1).session.core
 asked_waits w p (Ok reply, s) h = h
 asked_waits w p (Err e, s) h = h
 
@@ -84,7 +84,7 @@ heard_waits : (w : World) (a : Answer) → OfAnswer a → Waits (after_reply w a
 heard_waits w (Ok reply, s) h = h
 heard_waits w (Err e, s) h = h
 
-takes_waits : (w : World) (x : Packet) → Waits w.session.core → Waits (takes w x).session.core
+takes_waits : (w : World) (x : Packet) → Waits w.session.core → Waits (takes_packet w x).session.core
 takes_waits w x h = heard_waits w (on_packet w.session x 0) (move_waits w.session.core x (on_packet w.session x 0) (moves w.session x) h)
 
 returns_waits : (w : World) (ds : List Packet) → Waits w.session.core → Waits (returns w ds).session.core
@@ -106,9 +106,9 @@ back_waits w s m e i h =
     let sound : Sound s.core = subst Sound (sym e) i.sound in
     let allowed : (id : ℕ) → SlotAllowed s.core.alias_max (get s.core.in_use id) = subst (λ (c : Core). (id : ℕ) → SlotAllowed c.alias_max (get c.in_use id)) (sym e) i.allowed in
     let waits : Waits s.core = subst Waits (sym e) h in
-    subst (λ r. Waits (resumed (record w { session = s; up = []; down = [] }) r).session.core) (sym (sends_again s sound allowed)) (waits_again s.core.in_use s.core.waiting waits)
+    subst (λ r. Waits (after_resume (record w { session = s; up = []; down = [] }) r).session.core) (sym (sends_again s sound allowed)) (waits_again s.core.in_use s.core.waiting waits)
 
-loss_waits : (w : World) (m : Option ℕ) → Inv w → Waits w.session.core → Waits (resumes (takes (record w { up = []; down = [] }) (taken_back m))).session.core
+loss_waits : (w : World) (m : Option ℕ) → Inv w → Waits w.session.core → Waits (resumes (takes_packet (record w { up = []; down = [] }) (taken_back m))).session.core
 unfolding on_packet
 loss_waits w None i h = back_waits w _ w.session.core.current refl i h
 loss_waits w (Some m) i h = back_waits w _ _ refl i h
@@ -121,9 +121,9 @@ waits_next w events.Up i h = subst (λ (s : Session). Waits s.core) (sym (arrive
 waits_next w events.Down i h = returns_waits w w.down h
 waits_next w (events.Loss m) i h = loss_waits w m i h
 
-waits_run : (es : List WorldEvent) (w : World) → Inv w → Waits w.session.core → Waits (run es w).session.core
+waits_run : (es : List WorldEvent) (w : World) → Inv w → Waits w.session.core → Waits (run_world es w).session.core
 waits_run [] w i h = h
 waits_run (e ∷ es) w i h = waits_run es (happens w e) (inv_next w e i) (waits_next w e i h)
 
-pub waits_reached : (limit : ℕ) (es : List WorldEvent) → Waits (run es (start limit)).session.core
+pub waits_reached : (limit : ℕ) (es : List WorldEvent) → Waits (run_world es (start limit)).session.core
 waits_reached limit es = waits_run es (start limit) (inv_start limit) (tt {0})

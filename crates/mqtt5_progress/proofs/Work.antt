@@ -15,7 +15,7 @@ use Rattle.mqtt5_session.specs.Packets.{on_packet, puback_of, pubrec_of, pubcomp
 use Rattle.mqtt5_world.specs.declared.event.WorldEvent.{WorldEvent}
 use Rattle.mqtt5_world.specs.declared.event.WorldEvent.TheVariants as events
 use Rattle.mqtt5_world.specs.Broker.{Broker, Served, serve, serve_publish, reason_for}
-use Rattle.mqtt5_world.specs.World.{World, start, served, arrives, after_reply, returns, happens, run}
+use Rattle.mqtt5_world.specs.World.{World, start, after_serving, arrives, after_reply, returns, happens, run_world}
 use Rattle.mqtt5_world.proofs.Runs.{run_append}
 use Rattle.mqtt5_progress.specs.Progress.{work_of, work_up, work_down, work_waiting, work, found, delivered, Deliveries, Settled}
 use Rattle.mqtt5_progress.proofs.Moves.{sent, Move, Still, LetsGo, Answers, moves}
@@ -91,7 +91,7 @@ down_lowers w (x ∷ ds) e = move_lowers w x ds e (on_packet w.session x 0) (mov
 
 -- ---- runs
 
-pub lowers : (es : List WorldEvent) (w : World) → Deliveries es → work (run es w) + delivered es w ≤ work w
+pub lowers : (es : List WorldEvent) (w : World) → Deliveries es → work (run_world es w) + delivered es w ≤ work w
 lowers [] w h = omega arith
 lowers (events.Up ∷ es) w h =
     let a = up_lowers w w.up refl in
@@ -109,11 +109,11 @@ no_work f some [] e = refl
 no_work f some (x ∷ xs) e = absurd (let a = some x in let b = sum_by-cons f x xs in omega (arith, a, b, e))
 
 -- where as many deliveries found a packet as there was work, all is done
-pub all_delivered : (limit : ℕ) (es more : List WorldEvent) → Deliveries more → work (run es (start limit)) ≤ delivered more (run es (start limit)) → Settled (run (es ++ more) (start limit))
+pub all_delivered : (limit : ℕ) (es more : List WorldEvent) → Deliveries more → work (run_world es (start limit)) ≤ delivered more (run_world es (start limit)) → Settled (run_world (es ++ more) (start limit))
 all_delivered limit es more h le =
-    let l = lowers more (run es (start limit)) h in
+    let l = lowers more (run_world es (start limit)) h in
     let e = run_append es more (start limit) in
-    let none : work (run (es ++ more) (start limit)) ≡ 0 = let a = ap work e in omega (arith, a, l, le) in
+    let none : work (run_world (es ++ more) (start limit)) ≡ 0 = let a = ap work e in omega (arith, a, l, le) in
     at_rest limit (es ++ more) (no_work work_up some_up _ (omega (arith, none))) (no_work work_down some_down _ (omega (arith, none)))
 
 -- ---- the bound

@@ -1,5 +1,7 @@
--- A broker that hands a publish of QoS 2 on at its release, as a receiver may (MQTT 5.0 section 4.3.3), and a world with it.
-use Rattle.std.specs.Prelude.{ℕ, zero, suc, Bool, not, ◌==◌, List, [], ◌∷◌, ◌++◌, filter, Option, Some, None, if◌then◌else◌}
+-- A broker that hands a publish of QoS 2 on at its release, as a receiver may (MQTT 5.0 section
+-- 4.3.3), and a world with it.
+use Rattle.std.specs.Prelude.{ℕ, zero, suc, Bool, not, ◌==◌, List, [], ◌∷◌, ◌++◌, filter, Option}
+use Rattle.std.specs.Prelude.{Some, None, if◌then◌else◌}
 use Rattle.std.specs.List.{list_any}
 use Rattle.std.specs.Option.{option_to_list}
 use Rattle.mqtt5_base.specs.declared.quality.QoS.{QoS}
@@ -44,16 +46,23 @@ without_id id ps = filter (λ p. not (p.pkid == id)) ps
 abbrev pub ServedLate : Type 0
 ServedLate = Option Packet × Late
 
--- a publish of QoS 2 is stored, unless one of its id is (4.3.3); another one is handed on (4.3.1, 4.3.2)
+-- a publish of QoS 2 is stored, unless one of its id is (4.3.3); another one is handed on (4.3.1,
+-- 4.3.2)
 abbrev pub serve_publish_late : QoS → Late → Publish → ServedLate
 serve_publish_late AtMostOnce b p = (None, record b { handed = b.handed ++ p ∷ [] })
-serve_publish_late AtLeastOnce b p = (Some (puback_of p.pkid), record b { handed = b.handed ++ p ∷ [] })
-serve_publish_late ExactlyOnce b p = (Some (pubrec_of p.pkid), record b { stored = if has_id p.pkid b.stored then b.stored else b.stored ++ p ∷ [] })
+serve_publish_late AtLeastOnce b p =
+    (Some (puback_of p.pkid), record b { handed = b.handed ++ p ∷ [] })
+serve_publish_late ExactlyOnce b p = (
+  Some (pubrec_of p.pkid),
+  record b { stored = if has_id p.pkid b.stored then b.stored else b.stored ++ p ∷ [] },
+)
 
 -- what is stored under a released id is handed on (4.3.3)
 abbrev pub release_late : Late → ℕ → ServedLate
-release_late b id =
-    (Some (pubcomp_of id (reason_for (has_id id b.stored))), record { stored = without_id id b.stored; handed = b.handed ++ with_id id b.stored })
+release_late b id = (
+  Some (pubcomp_of id (reason_for (has_id id b.stored))),
+  record { stored = without_id id b.stored; handed = b.handed ++ with_id id b.stored },
+)
 
 -- a packet from the client (4.3)
 abbrev pub serve_late : Late → Packet → ServedLate
@@ -108,4 +117,5 @@ settle_late (suc n) l = settle_late n (downward_late (upward_late l))
 abbrev pub stored_without_late : LateWorld → List Publish
 stored_without_late l =
     let c = l.around.session.core in
-    by_id (λ id slot. if has_id id l.broker.stored then [] else option_to_list (awaiting_ack slot)) c.limit c.in_use
+    by_id (λ id slot. if has_id id l.broker.stored then [] else option_to_list (awaiting_ack slot))
+    c.limit c.in_use

@@ -1,6 +1,7 @@
--- Rounds of deliveries, with no request and no loss, and what a world is that has nothing left to do (MQTT 5.0 sections 4.3
--- and 4.4).
-use Rattle.std.specs.Prelude.{◌≡◌, ℕ, zero, suc, ◌+◌, false, List, [], ◌∷◌, ◌++◌, map, sum_by, Option, Some, None}
+-- Rounds of deliveries, with no request and no loss, and what a world is that has nothing left to
+-- do (MQTT 5.0 sections 4.3 and 4.4).
+use Rattle.std.specs.Prelude.{◌≡◌, ℕ, zero, suc, ◌+◌, false, List, [], ◌∷◌, ◌++◌, map, sum_by}
+use Rattle.std.specs.Prelude.{Option, Some, None}
 use Rattle.std.specs.FinMap.{get}
 use Rattle.std.specs.FinSet as set
 use Rattle.mqtt5_base.specs.declared.quality.QoS.{QoS}
@@ -11,7 +12,7 @@ use Rattle.mqtt5_codec.specs.declared.packet.Packet.TheVariants as packets
 use Rattle.mqtt5_session.specs.Session.{Core}
 use Rattle.mqtt5_world.specs.declared.event.WorldEvent.{WorldEvent}
 use Rattle.mqtt5_world.specs.declared.event.WorldEvent.TheVariants as events
-use Rattle.mqtt5_world.specs.World.{World, happens, run}
+use Rattle.mqtt5_world.specs.World.{World, happens, run_world}
 
 -- ---- rounds
 
@@ -24,11 +25,11 @@ all_down ps = map (λ p. events.Down) ps
 
 -- all that is on its way up arrives
 abbrev pub upward : World → World
-upward w = run (all_up w.up) w
+upward w = run_world (all_up w.up) w
 
 -- all that is on its way down arrives
 abbrev pub downward : World → World
-downward w = run (all_down w.down) w
+downward w = run_world (all_down w.down) w
 
 -- both, one after the other
 abbrev pub round : World → World
@@ -58,7 +59,8 @@ pub record IsIdle (c : Core) : Type 0 where
   pub in_use : (id : ℕ) → get c.in_use id ≡ None
   pub waiting : c.waiting ≡ None
 
--- nothing is on its way, the session keeps nothing to send, the broker waits for no release, and nothing was refused
+-- nothing is on its way, the session keeps nothing to send, the broker waits for no release, and
+-- nothing was refused
 pub record Settled (w : World) : Type 0 where
   pub up : w.up ≡ []
   pub down : w.down ≡ []

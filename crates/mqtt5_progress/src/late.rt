@@ -8,7 +8,7 @@ ghost use Rattle.mqtt5_publish.specs.declared.publish.Publish.{Publish};
 ghost use Rattle.mqtt5_codec.specs.declared.packet.Packet.{Packet};
 ghost use Rattle.mqtt5_world.specs.declared.event.WorldEvent.{WorldEvent};
 ghost use Rattle.mqtt5_world.specs.Broker.{idle, serve};
-ghost use Rattle.mqtt5_world.specs.World.{start, run};
+ghost use Rattle.mqtt5_world.specs.World.{start, run_world};
 ghost use Rattle.mqtt5_world.specs.Delivery.{IsClass, stored_in, waiting_in};
 ghost use Rattle.mqtt5_progress.specs.Progress.{Settled};
 ghost use Rattle.mqtt5_progress.specs.Late.{idle_late, has_id, with_id, without_id, serve_publish_late, release_late, serve_late, start_late, run_late, settle_late, stored_without_late};
@@ -158,23 +158,23 @@ pub fn late_law()
     // All but the broker is the same.
     ensures same_world { (limit : ℕ) (events : List WorldEvent)
         → (run_late events (start_late limit)).around
-        ≡ record (run events (start limit)) { broker = idle } }
+        ≡ record (run_world events (start limit)) { broker = idle } }
     // The same ids are there, and each packet has the same reply.
     ensures same_ids { (limit : ℕ) (events : List WorldEvent) (id : ℕ)
         → has_id id (run_late events (start_late limit)).broker.stored
-        ≡ set.contains (run events (start limit)).broker.ids id }
+        ≡ set.contains (run_world events (start limit)).broker.ids id }
     ensures same_replies { (limit : ℕ) (events : List WorldEvent) (packet : Packet)
         → (serve_late (run_late events (start_late limit)).broker packet).0
-        ≡ (serve (run events (start limit)).broker packet).0 }
+        ≡ (serve (run_world events (start limit)).broker packet).0 }
     // What it handed on and what it stores is what the other handed on; below QoS 2 it stores nothing.
     ensures moved { (limit : ℕ) (events : List WorldEvent) (test : Publish → Bool)
         → count_by test (run_late events (start_late limit)).broker.handed + count_by test
         (run_late events (start_late limit)).broker.stored
-        ≡ count_by test (run events (start limit)).broker.handed }
+        ≡ count_by test (run_world events (start limit)).broker.handed }
     ensures same_below { (limit : ℕ) (events : List WorldEvent) (qos : QoS) (test : Publish → Bool)
         → IsClass qos test → qos ≢ ExactlyOnce
         → count_by test (run_late events (start_late limit)).broker.handed
-        ≡ count_by test (run events (start limit)).broker.handed }
+        ≡ count_by test (run_world events (start limit)).broker.handed }
 {}
 
 /// A law, which does nothing when it is called: how often such a broker hands on the publishes of a class, in every world

@@ -3,7 +3,7 @@
 ghost use Rattle.std.specs.Prelude.{◌≡◌, ◌<◌, ◌≤◌, ◌+◌, ◌*◌, IfOk, IfErr, OnOk, drop};
 ghost use Rattle.mqtt5_base.specs.declared.quality.QoS.TheVariants.{AtMostOnce, AtLeastOnce, ExactlyOnce};
 ghost use Rattle.mqtt5_publish.specs.declared.publish.Publish.{Publish};
-ghost use Rattle.mqtt5_world.specs.World.{start, run, losses};
+ghost use Rattle.mqtt5_world.specs.World.{start, run_world, losses};
 ghost use Rattle.mqtt5_world.specs.Delivery.{times};
 ghost use Rattle.mqtt5_world.specs.Happens.{Happens, IsReport};
 ghost use Rattle.mqtt5_progress.specs.Progress.{IsIdle, Settled, upward, downward, round, settle};
@@ -18,14 +18,14 @@ pub fn play_out(alloc: Global, limit: u16, events: &[WorldEvent]) -> Result<Repo
     requires { 0 < limit }
     // All is the world's after the events and the rounds; nothing is accepted or refused in these.
     ensures handed { IfOk result (λ r. r.handed.items
-        ≡ (settle 4 (run events.now (start limit))).broker.handed) }
+        ≡ (settle 4 (run_world events.now (start limit))).broker.handed) }
     ensures accepted { IfOk result (λ r. r.accepted.items
-        ≡ (run events.now (start limit)).accepted) }
-    ensures refused { IfOk result (λ r. r.refused.items ≡ (run events.now (start limit)).refused) }
-    ensures state { IfOk result (λ r. r.state ≡ (settle 4 (run events.now (start limit))).session) }
+        ≡ (run_world events.now (start limit)).accepted) }
+    ensures refused { IfOk result (λ r. r.refused.items ≡ (run_world events.now (start limit)).refused) }
+    ensures state { IfOk result (λ r. r.state ≡ (settle 4 (run_world events.now (start limit))).session) }
     ensures memory { IfErr result (λ e. e ≡ StateError.OutOfMemory) }
     // Nothing is on its way, the broker awaits no release, and no packet from it and no resume was refused.
-    ensures nothing_left { IfOk result (λ _. Settled (settle 4 (run events.now (start limit)))) }
+    ensures nothing_left { IfOk result (λ _. Settled (settle 4 (run_world events.now (start limit)))) }
     // No id is in use, and nothing waits.
     ensures settled { IfOk result (λ r. IsIdle r.state.core) }
     // A content of QoS 2 was handed on exactly as often as it was accepted.
@@ -48,7 +48,7 @@ pub fn play_out(alloc: Global, limit: u16, events: &[WorldEvent]) -> Result<Repo
 
 fn played_out(alloc: Global, limit: u16, events: &[WorldEvent]) -> Result<Report, StateError>
     requires { 0 < limit }
-    ensures ok { IfOk result (λ r. IsReport r (settle 4 (run events.now (start limit)))) }
+    ensures ok { IfOk result (λ r. IsReport r (settle 4 (run_world events.now (start limit)))) }
     ensures err { IfErr result (λ e. e ≡ StateError.OutOfMemory) }
 {
     let mut world = World::new(alloc, limit)?;

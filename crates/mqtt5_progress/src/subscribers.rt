@@ -7,7 +7,7 @@ ghost use Rattle.mqtt5_base.specs.Texts.{Utf8};
 ghost use Rattle.mqtt5_base.specs.Topics.{topic_matches};
 ghost use Rattle.mqtt5_publish.specs.declared.publish.Publish.{Publish};
 ghost use Rattle.mqtt5_world.specs.declared.event.WorldEvent.{WorldEvent};
-ghost use Rattle.mqtt5_world.specs.World.{start, run};
+ghost use Rattle.mqtt5_world.specs.World.{start, run_world};
 ghost use Rattle.mqtt5_world.specs.Delivery.{times};
 ghost use Rattle.mqtt5_progress.specs.Progress.{settle};
 ghost use Rattle.mqtt5_progress.specs.Late.{run_late, settle_late, start_late};
@@ -63,12 +63,12 @@ pub fn subscribers_law()
     // So after four rounds of deliveries, of QoS 2 exactly those that were accepted, and of QoS 1 at least those.
     ensures exactly_once { (filters : List Utf8) (limit : ℕ) (events : List WorldEvent)
         (c : Publish) → hits filters c ≡ true → c.qos ≡ ExactlyOnce
-        → times c (received filters (settle 4 (run events (start limit))).broker.handed)
-        ≡ times c (run events (start limit)).accepted }
+        → times c (received filters (settle 4 (run_world events (start limit))).broker.handed)
+        ≡ times c (run_world events (start limit)).accepted }
     ensures at_least_once { (filters : List Utf8) (limit : ℕ) (events : List WorldEvent)
         (c : Publish) → hits filters c ≡ true → c.qos ≡ AtLeastOnce
-        → times c (run events (start limit)).accepted
-        ≤ times c (received filters (settle 4 (run events (start limit))).broker.handed) }
+        → times c (run_world events (start limit)).accepted
+        ≤ times c (received filters (settle 4 (run_world events (start limit))).broker.handed) }
     // And so from a broker that hands on at the release.
     ensures late_exactly_once { (filters : List Utf8) (limit : ℕ) (events : List WorldEvent)
         (c : Publish) → hits filters c ≡ true → c.qos ≡ ExactlyOnce

@@ -16,7 +16,8 @@ use Rattle.mqtt5_publish.specs.declared.pubcomp.PubComp.{PubComp}
 
 -- an ack with this first byte as it is written: an identifier, a reason code and properties
 abbrev pub ack_packet : ℕ → ℕ → ℕ → Option Found → WrittenPacket
-ack_packet first id code p = plainly first (plain (number id) ∷ plain (number code) ∷ properties p ∷ [])
+ack_packet first id code p =
+    plainly first (plain (number id) ∷ plain (number code) ∷ properties p ∷ [])
 
 -- ---- the packets
 

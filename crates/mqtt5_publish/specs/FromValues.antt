@@ -1,7 +1,8 @@
 -- This file serves the logic alone: packets from the values of their rows.
 use Rattle.std.specs.Prelude.{ℕ, ◌==◌, option_map, if◌then◌else◌}
 use Rattle.mqtt5_base.specs.Grammar.{Found, Content, number_in}
-use Rattle.mqtt5_base.specs.FromValues.{one_text, all_pairs, here_in, found_in, qos_of, one_number, one_content, all_numbers, content_in, ack_set}
+use Rattle.mqtt5_base.specs.FromValues.{one_text, all_pairs, here_in, found_in, qos_of, one_number}
+use Rattle.mqtt5_base.specs.FromValues.{one_content, all_numbers, content_in, ack_set}
 use Rattle.mqtt5_publish.specs.declared.puback.PubAckReason.{PubAckReason}
 use Rattle.mqtt5_publish.specs.declared.pubrel.PubRelReason.{PubRelReason}
 use Rattle.mqtt5_publish.specs.declared.puback.PubAck.{PubAck}
@@ -34,19 +35,35 @@ pubrel_reason n = if n == 146 then releases.PacketIdentifierNotFound else releas
 
 -- the PubAck of the row's values
 abbrev pub puback_of : Content → PubAck
-puback_of c = record { pkid = number_in c.0 0; reason = puback_reason (number_in c.0 1); properties = option_map ack_set (found_in c.0 2) }
+puback_of c = record {
+  pkid = number_in c.0 0;
+  reason = puback_reason (number_in c.0 1);
+  properties = option_map ack_set (found_in c.0 2);
+}
 
 -- the PubRec of the row's values
 abbrev pub pubrec_of : Content → PubRec
-pubrec_of c = record { pkid = number_in c.0 0; reason = puback_reason (number_in c.0 1); properties = option_map ack_set (found_in c.0 2) }
+pubrec_of c = record {
+  pkid = number_in c.0 0;
+  reason = puback_reason (number_in c.0 1);
+  properties = option_map ack_set (found_in c.0 2);
+}
 
 -- the PubRel of the row's values
 abbrev pub pubrel_of : Content → PubRel
-pubrel_of c = record { pkid = number_in c.0 0; reason = pubrel_reason (number_in c.0 1); properties = option_map ack_set (found_in c.0 2) }
+pubrel_of c = record {
+  pkid = number_in c.0 0;
+  reason = pubrel_reason (number_in c.0 1);
+  properties = option_map ack_set (found_in c.0 2);
+}
 
 -- the PubComp of the row's values
 abbrev pub pubcomp_of : Content → PubComp
-pubcomp_of c = record { pkid = number_in c.0 0; reason = pubrel_reason (number_in c.0 1); properties = option_map ack_set (found_in c.0 2) }
+pubcomp_of c = record {
+  pkid = number_in c.0 0;
+  reason = pubrel_reason (number_in c.0 1);
+  properties = option_map ack_set (found_in c.0 2);
+}
 
 -- ---- Publish
 

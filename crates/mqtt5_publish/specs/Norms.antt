@@ -1,4 +1,5 @@
--- What Publish and the acks are read as after they were written (MQTT 5.0 sections 2.2 and 3.3 to 3.7).
+-- What Publish and the acks are read as after they were written (MQTT 5.0 sections 2.2 and 3.3 to
+-- 3.7).
 use Rattle.std.specs.Prelude.{◌==◌, if◌then◌else◌}
 use Rattle.mqtt5_base.specs.Views.{qos_number}
 use Rattle.mqtt5_base.specs.Tidy.{tidy}
@@ -28,4 +29,7 @@ pubcomp_norm p = record p { properties = tidy ack_found p.properties }
 
 -- a Publish of QoS 0 has no packet identifier (2.2.1), and an empty property set is none
 abbrev pub publish_norm : Publish → Publish
-publish_norm p = record p { pkid = if qos_number p.qos == 0 then 0 else p.pkid; properties = tidy publish_found p.properties }
+publish_norm p = record p {
+  pkid = if qos_number p.qos == 0 then 0 else p.pkid;
+  properties = tidy publish_found p.properties;
+}

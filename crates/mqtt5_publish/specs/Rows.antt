@@ -1,16 +1,23 @@
 -- The rows of Publish, of the acks and of the pings (MQTT 5.0 sections 3.3 to 3.7, 3.12 and 3.13).
 use Rattle.std.specs.Prelude.{true, false, List, [], ◌∷◌, None}
-use Rattle.mqtt5_base.specs.declared.error.Error.TheVariants.{InvalidConnectReturnCode, InvalidQoS, PacketIdZero}
-use Rattle.mqtt5_base.specs.Grammar.{u8, u16, bytes, number, Entry, single, several_of, Test, any_of, not_zero, plain, properties, one, checked, block, remainder, given, read, whole, bits, always, longer, set, field, note, judge, Row, there, bit_of, is_qos, steps_row}
+use Rattle.mqtt5_base.specs.declared.error.Error.TheVariants.{InvalidConnectReturnCode, InvalidQoS}
+use Rattle.mqtt5_base.specs.declared.error.Error.TheVariants.{PacketIdZero}
+use Rattle.mqtt5_base.specs.Grammar.{u8, u16, bytes, number, Entry, single, several_of, Test}
+use Rattle.mqtt5_base.specs.Grammar.{any_of, not_zero, plain, properties, one, checked, block}
+use Rattle.mqtt5_base.specs.Grammar.{remainder, given, read, whole, bits, always, longer, set}
+use Rattle.mqtt5_base.specs.Grammar.{field, note, judge, Row, there, bit_of, is_qos, steps_row}
 use Rattle.mqtt5_base.specs.AckSets.{ack_table}
 
 -- ---- Publish (3.3)
 
 -- the properties of a Publish, in the order of writing (3.3.2.3)
 abbrev pub publish_table : List Entry
-publish_table = single 1 ∷ single 2 ∷ single 35 ∷ single 8 ∷ single 9 ∷ several_of 38 ∷ several_of 11 ∷ single 3 ∷ []
+publish_table =
+    single 1 ∷ single 2 ∷ single 35 ∷ single 8 ∷ single 9 ∷ several_of 38 ∷ several_of 11 ∷ single 3
+    ∷ []
 
--- dup, QoS and retain of the first byte, the topic, where the QoS is 1 or 2 the identifier, which isn't 0 (2.2.1), the properties and the payload
+-- dup, QoS and retain of the first byte, the topic, where the QoS is 1 or 2 the identifier, which
+-- isn't 0 (2.2.1), the properties and the payload
 abbrev pub publish_row : Row
 publish_row =
     steps_row
@@ -26,8 +33,8 @@ publish_row =
 
 -- ---- PubAck, PubRec, PubRel and PubComp (3.4 to 3.7)
 
--- the identifier; a body of two bytes ends there, with success; the reason code; a body of three bytes ends there; the
--- properties; the reason code is judged last
+-- the identifier; a body of two bytes ends there, with success; the reason code; a body of three
+-- bytes ends there; the properties; the reason code is judged last
 abbrev pub ack_row : Test → List Entry → Row
 ack_row codes table = record {
   steps =

@@ -1,6 +1,8 @@
 -- This file serves the logic alone: the derived `==` of each type finds equal values alone.
 use Rattle.std.proofs.Common.{rules}
-use Rattle.mqtt5_base.specs.Sound.{Sound, both, bool_sound, number_sound, option_sound, list_sound, bytes_sound, text_sound, pair_sound, qos_sound, ack_properties_sound}
+use Rattle.mqtt5_base.specs.Sound.{Sound, both, bool_sound, number_sound, option_sound, list_sound}
+use Rattle.mqtt5_base.specs.Sound.{bytes_sound, text_sound, pair_sound, qos_sound}
+use Rattle.mqtt5_base.specs.Sound.{ack_properties_sound}
 use Rattle.mqtt5_publish.specs.contracts.puback.PubAckReasonPartialEq.TheImpl as puback_reason
 use Rattle.mqtt5_publish.specs.contracts.pubrel.PubRelReasonPartialEq.TheImpl as pubrel_reason
 use Rattle.mqtt5_publish.specs.contracts.puback.PubAckPartialEq.TheImpl as puback
@@ -20,22 +22,38 @@ pubrel_reason_sound = search rules
 
 pub puback_sound : Sound puback.eq-value.it
 puback_sound x y h =
-    let e = both (number_sound x.pkid y.pkid) (both (puback_reason_sound x.reason y.reason) (option_sound ack_properties_sound x.properties y.properties)) h in
+    let e =
+    both (number_sound x.pkid y.pkid)
+    (both (puback_reason_sound x.reason y.reason)
+    (option_sound ack_properties_sound x.properties y.properties))
+    h in
     λ i. record { pkid = e.0 i; reason = e.1.0 i; properties = e.1.1 i }
 
 pub pubrec_sound : Sound pubrec.eq-value.it
 pubrec_sound x y h =
-    let e = both (number_sound x.pkid y.pkid) (both (puback_reason_sound x.reason y.reason) (option_sound ack_properties_sound x.properties y.properties)) h in
+    let e =
+    both (number_sound x.pkid y.pkid)
+    (both (puback_reason_sound x.reason y.reason)
+    (option_sound ack_properties_sound x.properties y.properties))
+    h in
     λ i. record { pkid = e.0 i; reason = e.1.0 i; properties = e.1.1 i }
 
 pub pubrel_sound : Sound pubrel.eq-value.it
 pubrel_sound x y h =
-    let e = both (number_sound x.pkid y.pkid) (both (pubrel_reason_sound x.reason y.reason) (option_sound ack_properties_sound x.properties y.properties)) h in
+    let e =
+    both (number_sound x.pkid y.pkid)
+    (both (pubrel_reason_sound x.reason y.reason)
+    (option_sound ack_properties_sound x.properties y.properties))
+    h in
     λ i. record { pkid = e.0 i; reason = e.1.0 i; properties = e.1.1 i }
 
 pub pubcomp_sound : Sound pubcomp.eq-value.it
 pubcomp_sound x y h =
-    let e = both (number_sound x.pkid y.pkid) (both (pubrel_reason_sound x.reason y.reason) (option_sound ack_properties_sound x.properties y.properties)) h in
+    let e =
+    both (number_sound x.pkid y.pkid)
+    (both (pubrel_reason_sound x.reason y.reason)
+    (option_sound ack_properties_sound x.properties y.properties))
+    h in
     λ i. record { pkid = e.0 i; reason = e.1.0 i; properties = e.1.1 i }
 
 pub pingreq_sound : Sound pingreq.eq-value.it

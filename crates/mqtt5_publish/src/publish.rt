@@ -1,6 +1,6 @@
 //! A message.
 
-ghost use Rattle.std.specs.Prelude.{◌≡◌, ◌+◌, ◌≤◌, ◌/◌, ◌%◌, ◌<◌, [], None, nat_lt, true, false, IfOk, IfErr, drop, length, min, option_map};
+ghost use Rattle.std.specs.Prelude.{◌≡◌, ◌+◌, ◌≤◌, ◌/◌, ◌%◌, ◌<◌, nat_lt, true, false, IfOk, IfErr, drop, length, min, option_map};
 ghost use Rattle.mqtt5_base.specs.Grammar.{u16, not_zero, checked, plain, number, content, bytes};
 ghost use Rattle.mqtt5_base.specs.Answers.{Finds, Gives, ReadsRow};
 ghost use Rattle.mqtt5_base.specs.Reading.{optional_at, values_in};
@@ -8,7 +8,7 @@ ghost use Rattle.mqtt5_base.specs.Views.{bit, qos_number};
 ghost use Rattle.mqtt5_base.specs.Puts.{Puts, Writes};
 ghost use Rattle.mqtt5_base.specs.Layout.{atom_fits, block_fits, body_bytes, layout, writing, content_of_packet};
 ghost use Rattle.mqtt5_publish.specs.Rows.{publish_table, publish_row};
-ghost use Rattle.mqtt5_publish.specs.Publishes.{publish_found, publish_first, publish_packet};
+ghost use Rattle.mqtt5_publish.specs.Publishes.{publish_found, publish_first, publish_packet, no_publish_properties};
 
 use bytes::{Bytes, BytesMut};
 use mqtt5_base::{
@@ -60,16 +60,7 @@ impl Clone for PublishProperties {
 impl PublishProperties {
     /// The set without values. Takes no memory.
     pub fn new(alloc: Global) -> PublishProperties
-        ensures { result ≡ record {
-          payload_format_indicator = None;
-          message_expiry_interval = None;
-          topic_alias = None;
-          response_topic = None;
-          correlation_data = None;
-          user_properties = [];
-          subscription_identifiers = [];
-          content_type = None;
-        } }
+        ensures { result ≡ no_publish_properties }
     {
         PublishProperties {
             payload_format_indicator: None,

@@ -1,13 +1,14 @@
 //! How a program ends.
 
-ghost use Rattle.std.specs.Prelude.{◌≡◌, ◌≢◌, ◌<◌, IfOk};
+ghost use Rattle.std.specs.Prelude.{◌≡◌, ◌≢◌, ◌<◌, ◌⊎◌, IfOk};
 ghost use Rattle.mqtt5_scripts.specs.declared.ending.Status.TheVariants.{Done, Fault, Refused};
 
 use crate::printing::write_fault;
 use crate::script::ScriptError;
 use mqtt5_inflight::StateError;
-use std::io;
+use std::env::Env;
 use std::io::{ErrorKind, Write};
+use std::{env, io};
 
 /// How a program ends, as its exit status.
 #[derive(Clone, Copy, Debug, PartialEq, Eq)]
@@ -18,6 +19,21 @@ pub enum Status {
     Fault = 1,
     /// The words or the script are refused.
     Refused = 2,
+}
+
+/// The words after the program's name.
+pub fn words(rt: &(impl Env + AllocGlobal)) -> io::Result<Vec<String>> {
+    Ok(env::args(rt)?.skip(1).collect(rt.alloc())?)
+}
+
+/// Writes what is printed out, and answers the program's exit status: 1 where that fails.
+pub fn written_out<W: Write>(output: &mut W, status: u8) -> u8
+    ensures { (result ≡ status) ⊎ (result ≡ 1) }
+{
+    match output.flush() {
+        Ok(()) => status,
+        Err(_failed) => 1,
+    }
 }
 
 /// Ends a program where its words can't be had: one isn't UTF-8, or memory ran out. Never by 0.

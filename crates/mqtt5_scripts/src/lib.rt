@@ -8,7 +8,8 @@ mod printing;
 mod script;
 
 pub use ending::{
-    Status, refuse_words, write_ending, write_memory_fault, write_refusal, write_usage,
+    Status, refuse_words, words, write_ending, write_memory_fault, write_refusal, write_usage,
+    written_out,
 };
 pub use fields::{Field, LineError, split_word};
 pub use printing::{write_fault, write_hex, write_message};

@@ -25,16 +25,14 @@ use Rattle.mqtt5_inflight.specs.declared.error.StateError.{StateError}
 use Rattle.mqtt5_inflight.specs.InUse.{InUse}
 use Rattle.mqtt5_inflight.specs.Unacked.{alias_again, by_id, in_use_again}
 use Rattle.mqtt5_inflight.specs.Resent.{packets_of}
-use Rattle.mqtt5_inflight.proofs.Within.{no_ids, Fits, IsUsed, with_used, without, none_used, within_fits}
-use Rattle.mqtt5_inflight.proofs.Marked.{again_twice, fits_again, len_again}
-use Rattle.mqtt5_inflight.proofs.Counts.{requests_len}
+use Rattle.mqtt5_inflight.proofs.Exports.{no_ids, Fits, IsUsed, with_used, without, none_used, within_fits, again_twice, fits_again, len_again, requests_len}
 use Rattle.mqtt5_session.specs.Freeing.{IsCounted}
 use Rattle.mqtt5_session.specs.Session.{Core, Session, Answer, fresh}
 use Rattle.mqtt5_session.specs.Requests.{on_request, next_id, unless, over_maximum, Verdict, Refuse, Wait, Store, out_acked, out_publish, out_release, out_known, id_for, last_after, ping_fault, counts_ping}
 use Rattle.mqtt5_session.specs.Packets.{on_packet, answer_to, with_incoming, with_notice, event_of, freed_for, on_puback, on_received, on_pubrec, on_pubcomp, on_pubrel, on_publish, on_qos, answers, on_connack, is_taken, topic_of}
-use Rattle.mqtt5_session.specs.Resuming.{cleaned, marked, resume_of}
+use Rattle.mqtt5_session.specs.Resuming.{on_clean, with_dup, resume_of}
 use Rattle.mqtt5_session.specs.Again.{sent_unless}
-use Rattle.mqtt5_session.specs.Ledger.{owed, one_of, Call, Ask, Hear, Error, Clean, Resume, Pop, SetAcks, kept_by, after, added, taken, after_all, added_by, taken_by, IsLedger}
+use Rattle.mqtt5_session.specs.Ledger.{number_owed, one_of, Call, Ask, Hear, Error, Clean, Resume, Pop, SetAcks, kept_by, after, added_in, taken_in, after_all, added_by, taken_by, IsLedger}
 use Rattle.mqtt5_session.proofs.Resume.{resumes}
 use Rattle.mqtt5_session.proofs.Owed.{choose, Judges, judges, out_adds, inc_takes}
 
@@ -165,22 +163,22 @@ inc_sound s packet at i = noted (event_of s packet)
 -- ---- any call
 
 -- a resume sets dup of the publishes that await their acks, or changes nothing
-resume_either : (P : Core → Type 0) (s : Session) (at : ℕ) → Sound s.core → P (marked s.core) → P s.core → P (kept_by s (resume_of s at)).core
+resume_either : (P : Core → Type 0) (s : Session) (at : ℕ) → Sound s.core → P (with_dup s.core) → P s.core → P (kept_by s (resume_of s at)).core
 resume_either P s at i sent kept =
     subst (λ r. P (kept_by s r).core) (sym (resumes s at (within_fits s.core.limit s.core.in_use i.0))) (by (by_id (alias_again s.core.alias_max) s.core.limit s.core.in_use))
   where
-    by : (xs : List ℕ) → P (kept_by s (sent_unless xs (packets_of s.core.limit s.core.in_use) (in_use_again s.core.in_use) (cleaned s) at)).core
+    by : (xs : List ℕ) → P (kept_by s (sent_unless xs (packets_of s.core.limit s.core.in_use) (in_use_again s.core.in_use) (on_clean s) at)).core
     by [] = sent
     by (x ∷ xs) = kept
 
 -- it keeps all else that decides ids and deliveries
-pub resume_core : (s : Session) (at : ℕ) → Sound s.core → marked (kept_by s (resume_of s at)).core ≡ marked s.core
-resume_core s at i = resume_either (λ c. marked c ≡ marked s.core) s at i (ap (λ h. record s.core { in_use = h }) (again_twice s.core.in_use)) refl
+pub resume_core : (s : Session) (at : ℕ) → Sound s.core → with_dup (kept_by s (resume_of s at)).core ≡ with_dup s.core
+resume_core s at i = resume_either (λ c. with_dup c ≡ with_dup s.core) s at i (ap (λ h. record s.core { in_use = h }) (again_twice s.core.in_use)) refl
 
-pub marked_sound : (c : Core) → Sound c → Sound (marked c)
+pub marked_sound : (c : Core) → Sound c → Sound (with_dup c)
 marked_sound c i = (fits_again c.limit c.in_use i.0, i.1)
 
-pub owed_marked : (c : Core) → owed (marked c) ≡ owed c
+pub owed_marked : (c : Core) → number_owed (with_dup c) ≡ number_owed c
 owed_marked c = ap (λ n. n + one_of c.waiting) (len_again c.in_use)
 
 pub after_sound : (s : Session) (call : Call) → Sound s.core → Sound (after s call).core
@@ -192,16 +190,16 @@ after_sound s (Resume at) i = resume_either Sound s at i (marked_sound s.core i)
 after_sound s Pop i = i
 after_sound s (SetAcks manual) i = i
 
-one_call : (s : Session) (call : Call) → Sound s.core → owed (after s call).core + taken s call ≡ owed s.core + added s call
+one_call : (s : Session) (call : Call) → Sound s.core → number_owed (after s call).core + taken_in s call ≡ number_owed s.core + added_in s call
 one_call s (Ask request at) i = let e = out_adds s request at in omega arith
 one_call s (Hear packet at) i = let e = inc_takes s packet at in omega arith
 one_call s Error i = omega arith
 one_call s Clean i = let e = requests_len s.core.limit s.core.in_use i.0 in let none : len no_ids ≡ 0 = len-empty nat_cmp _ in omega arith
-one_call s (Resume at) i = let e = resume_either (λ c. owed c ≡ owed s.core) s at i (owed_marked s.core) refl in omega arith
+one_call s (Resume at) i = let e = resume_either (λ c. number_owed c ≡ number_owed s.core) s at i (owed_marked s.core) refl in omega arith
 one_call s Pop i = omega arith
 one_call s (SetAcks manual) i = omega arith
 
-adds_up : (s : Session) (calls : List Call) → Sound s.core → owed (after_all s calls).core + taken_by s calls ≡ owed s.core + added_by s calls
+adds_up : (s : Session) (calls : List Call) → Sound s.core → number_owed (after_all s calls).core + taken_by s calls ≡ number_owed s.core + added_by s calls
 adds_up s [] i = omega arith
 adds_up s (call ∷ calls) i =
     let one = one_call s call i in

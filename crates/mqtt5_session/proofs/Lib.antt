@@ -4,3 +4,4 @@ pub mod Owed
 pub mod Once
 pub mod Keeps
 pub mod Short
+pub mod Exports

@@ -35,9 +35,9 @@ use Rattle.mqtt5_inflight.specs.Aliases.{alias_of}
 use Rattle.mqtt5_session.specs.Session.{Session, Answer, Receives, Sends, with_event}
 use Rattle.mqtt5_session.specs.Requests.{on_request, unless, over_maximum, Verdict, Refuse, Wait, Store, out_acked, out_publish, out_known, id_for, last_after, counts_ping, ping_fault, disconnect_of}
 use Rattle.mqtt5_session.specs.Packets.{on_packet, answer_to, with_incoming, with_notice, event_of, is_exactly_once, pubrec_of, pubcomp_of, topics_with, freed_for, on_puback, on_received, on_pubrec, on_pubcomp, on_pubrel, on_released, on_publish, on_qos, answers, on_connack, is_taken, topic_of, ids_with}
-use Rattle.mqtt5_session.specs.Resuming.{cleaned, Sendings, with_reply, send_all, resume_of}
-use Rattle.mqtt5_session.specs.Ledger.{Call, Ask, Hear, Error, Clean, Resume, Pop, SetAcks, kept_by, accepted, after, after_all}
-use Rattle.mqtt5_session.specs.Once.{one_if, kept_id, is_notice, notices, notified, releases, notified_in, released_in, notified_by, released_by}
+use Rattle.mqtt5_session.specs.Resuming.{on_clean, Sendings, with_reply, send_all, resume_of}
+use Rattle.mqtt5_session.specs.Ledger.{Call, Ask, Hear, Error, Clean, Resume, Pop, SetAcks, kept_by, unless_refused, after, after_all}
+use Rattle.mqtt5_session.specs.Once.{one_if, kept_id, is_notice, notices, new_notices, releases, notified_in, released_in, notified_by, released_by}
 use Rattle.mqtt5_session.proofs.Owed.{choose}
 use Rattle.mqtt5_session.proofs.Sets.{insert-again}
 
@@ -98,7 +98,7 @@ all_keep (r ∷ rest) s at = reply_keeps s.core.incoming (on_request s r at).0 _
 
 pub resume_keeps : (s : Session) (at : ℕ) → (kept_by s (resume_of s at)).core.incoming ≡ s.core.incoming
 unfolding resume_of
-resume_keeps s at = by (resume_of s at) (all_keep _ (cleaned s) at)
+resume_keeps s at = by (resume_of s at) (all_keep _ (on_clean s) at)
   where
     by : (x : Sendings) → KeepsIds s.core.incoming x → (kept_by s x).core.incoming ≡ s.core.incoming
     by (Err e) h = refl
@@ -168,13 +168,13 @@ module _ (id : ℕ) where
 
   -- a packet counts
   abbrev Counts : Packet → Session → Answer → Type 0
-  Counts packet s a = kept_id id a.1.core + accepted a.0 (releases id s.core packet) ≡ kept_id id s.core + notified id s a.0 a.1
+  Counts packet s a = kept_id id a.1.core + unless_refused a.0 (releases id s.core packet) ≡ kept_id id s.core + new_notices id s a.0 a.1
 
-  none_notified : (r : Result (Option Packet) StateError) (s t : Session) → notices id t.events ≡ notices id s.events → notified id s r t ≡ 0
+  none_notified : (r : Result (Option Packet) StateError) (s t : Session) → notices id t.events ≡ notices id s.events → new_notices id s r t ≡ 0
   none_notified (Ok (Some (packets.Disconnect p))) s t e = refl
   none_notified r s t e = omega (arith, e)
 
-  none_accepted : (r : Result (Option Packet) StateError) → accepted r 0 ≡ 0
+  none_accepted : (r : Result (Option Packet) StateError) → unless_refused r 0 ≡ 0
   none_accepted (Ok reply) = refl
   none_accepted (Err e) = refl
 
@@ -183,7 +183,7 @@ module _ (id : ℕ) where
   other_counts packet s t a none ids same q =
       let k : kept_id id a.1.core ≡ kept_id id s.core = ap (λ x. one_if (set.contains x id)) (q.ids ∙ ids) in
       let n = none_notified a.0 s a.1 (q.count ∙ same) in
-      let z : accepted a.0 (releases id s.core packet) ≡ 0 = ap (accepted a.0) none ∙ none_accepted a.0 in
+      let z : unless_refused a.0 (releases id s.core packet) ≡ 0 = ap (unless_refused a.0) none ∙ none_accepted a.0 in
       omega (arith, k, n, z)
 
   -- ---- releases
@@ -337,9 +337,9 @@ module _ (id : ℕ) where
 
   -- ---- the clauses of calls, and any calls
 
-  pub once_of : (result : Result (Option Packet) StateError) (old new : Session) (packet : Packet) (a : Answer) → Counts packet old a → Receives result old new a → kept_id id new.core + accepted result (releases id old.core packet) ≡ kept_id id old.core + notified id old result new
+  pub once_of : (result : Result (Option Packet) StateError) (old new : Session) (packet : Packet) (a : Answer) → Counts packet old a → Receives result old new a → kept_id id new.core + unless_refused result (releases id old.core packet) ≡ kept_id id old.core + new_notices id old result new
   once_of (Err errors.OutOfMemory) old new packet a law h = let k = ap (λ s. kept_id id s.core) h in let n = none_notified (Err errors.OutOfMemory) old new (ap (λ s. notices id s.events) h) in omega (arith, k, n)
-  once_of result old new packet a law h = ap (λ s. kept_id id s.core + accepted result (releases id old.core packet)) h.1 ∙ ap (λ r. kept_id id a.1.core + accepted r (releases id old.core packet)) h.0 ∙ law ∙ (λ i. kept_id id old.core + notified id old (sym h.0 i) (sym h.1 i))
+  once_of result old new packet a law h = ap (λ s. kept_id id s.core + unless_refused result (releases id old.core packet)) h.1 ∙ ap (λ r. kept_id id a.1.core + unless_refused r (releases id old.core packet)) h.0 ∙ law ∙ (λ i. kept_id id old.core + new_notices id old (sym h.0 i) (sym h.1 i))
 
   pub sends_keeps : (result : Result (Option Packet) StateError) (old new : Session) (a : Answer) → Keeps old a → Sends result old new a → kept_id id new.core ≡ kept_id id old.core
   sends_keeps (Err errors.OutOfMemory) old new a law h = ap (λ s. kept_id id s.core) h.0

@@ -22,19 +22,19 @@ use Rattle.mqtt5_inflight.specs.declared.event.Request.TheVariants as requests
 use Rattle.mqtt5_inflight.specs.declared.event.Outgoing.{Outgoing}
 use Rattle.mqtt5_inflight.specs.declared.error.StateError.{StateError}
 use Rattle.mqtt5_inflight.specs.declared.error.StateError.TheVariants as errors
-use Rattle.mqtt5_inflight.proofs.Counts.{len_used, len_free, len_removed}
+use Rattle.mqtt5_inflight.proofs.Exports.{len_used, len_free, len_removed}
 use Rattle.mqtt5_session.specs.Session.{Core, Session, Answer, Sends, Receives}
-use Rattle.mqtt5_session.specs.Requests.{on_request, unless, over_maximum, judged, by_alias, by_use, Verdict, Refuse, Wait, Store, out_acked, out_publish, out_release, out_known, id_for, last_after, counts_ping, ping_fault}
+use Rattle.mqtt5_session.specs.Requests.{on_request, unless, over_maximum, verdict_of, by_alias, by_use, Verdict, Refuse, Wait, Store, out_acked, out_publish, out_release, out_known, id_for, last_after, counts_ping, ping_fault}
 use Rattle.mqtt5_session.specs.Packets.{on_packet, answer_to, with_incoming, with_notice, event_of, freed_for, on_puback, on_received, on_pubrec, on_pubcomp, on_pubrel, on_publish, on_qos, answers, on_connack, is_taken, topic_of}
-use Rattle.mqtt5_session.specs.Ledger.{one_of, owed, owed_at, adds, ends, accepted}
+use Rattle.mqtt5_session.specs.Ledger.{one_of, number_owed, owed_at, adds, ends, unless_refused}
 
 -- what an answer owes, where n is added on success
 abbrev Adds : Session → ℕ → Answer → Type 0
-Adds s n a = owed a.1.core ≡ owed s.core + accepted a.0 n
+Adds s n a = number_owed a.1.core ≡ number_owed s.core + unless_refused a.0 n
 
 -- the same, where n is taken on success
 abbrev Takes : Session → ℕ → Answer → Type 0
-Takes s n a = owed a.1.core + accepted a.0 n ≡ owed s.core
+Takes s n a = number_owed a.1.core + unless_refused a.0 n ≡ number_owed s.core
 
 pub choose : (P : Answer → Type 0) (b : Bool) (x y : Answer) → (b ≡ true → P x) → (b ≡ false → P y) → P (cond b x y)
 choose P true x y f g = f refl
@@ -61,7 +61,7 @@ judges_alias : (c : Core) (p : Publish) (e : Option StateError) (v : Verdict) �
 judges_alias c p None v o h = h o
 judges_alias c p (Some e) v o h = tt {0}
 
-pub judges : (c : Core) (p : Publish) → Judges c p (judged c p)
+pub judges : (c : Core) (p : Publish) → Judges c p (verdict_of c p)
 judges c p = by (nat_lt c.limit p.pkid) refl
   where
     by : (b : Bool) → nat_lt c.limit p.pkid ≡ b → Judges c p (cond b (Refuse (errors.Unsolicited p.pkid)) (by_alias (over_maximum c p) (by_use (get c.in_use p.pkid) c.waiting)))
@@ -172,10 +172,10 @@ inc_takes s packet at = noted (event_of s packet)
 
 -- ---- the clauses of calls
 
-pub adds_of : (result : Result (Option Packet) StateError) (old new : Session) (n : ℕ) (a : Answer) → Adds old n a → Sends result old new a → owed new.core ≡ owed old.core + accepted result n
-adds_of (Err errors.OutOfMemory) old new n a law h = let e = ap (λ s. owed s.core) h.0 in omega arith
-adds_of result old new n a law h = ap (λ s. owed s.core) h.1 ∙ law ∙ ap (λ x. owed old.core + accepted x n) (sym h.0)
+pub adds_of : (result : Result (Option Packet) StateError) (old new : Session) (n : ℕ) (a : Answer) → Adds old n a → Sends result old new a → number_owed new.core ≡ number_owed old.core + unless_refused result n
+adds_of (Err errors.OutOfMemory) old new n a law h = let e = ap (λ s. number_owed s.core) h.0 in omega arith
+adds_of result old new n a law h = ap (λ s. number_owed s.core) h.1 ∙ law ∙ ap (λ x. number_owed old.core + unless_refused x n) (sym h.0)
 
-pub takes_of : (result : Result (Option Packet) StateError) (old new : Session) (n : ℕ) (a : Answer) → Takes old n a → Receives result old new a → owed new.core + accepted result n ≡ owed old.core
-takes_of (Err errors.OutOfMemory) old new n a law h = let e = ap (λ s. owed s.core) h in omega arith
-takes_of result old new n a law h = ap (λ s. owed s.core + accepted result n) h.1 ∙ ap (λ x. owed a.1.core + accepted x n) h.0 ∙ law
+pub takes_of : (result : Result (Option Packet) StateError) (old new : Session) (n : ℕ) (a : Answer) → Takes old n a → Receives result old new a → number_owed new.core + unless_refused result n ≡ number_owed old.core
+takes_of (Err errors.OutOfMemory) old new n a law h = let e = ap (λ s. number_owed s.core) h in omega arith
+takes_of result old new n a law h = ap (λ s. number_owed s.core + unless_refused result n) h.1 ∙ ap (λ x. number_owed a.1.core + unless_refused x n) h.0 ∙ law

@@ -19,11 +19,10 @@ use Rattle.mqtt5_inflight.specs.InUse.{InUse, IsWithin}
 use Rattle.mqtt5_inflight.specs.Aliases.{alias_of, alias_over}
 use Rattle.mqtt5_inflight.specs.Unacked.{again, alias_again, by_id, publish_again, release_again}
 use Rattle.mqtt5_inflight.specs.Resent.{packet_for, packets_of}
-use Rattle.mqtt5_inflight.proofs.Within.{Fits, fits}
-use Rattle.mqtt5_inflight.proofs.Parts.{is_sent, is_kept, with_slot, map_to, above, FreeFor, free_first, free_then, whole_map}
+use Rattle.mqtt5_inflight.proofs.Exports.{Fits, fits, is_sent, is_kept, with_slot, map_to, above, FreeFor, free_first, free_then, whole_map}
 use Rattle.mqtt5_session.specs.Session.{Session, Answer}
-use Rattle.mqtt5_session.specs.Requests.{on_request, alias_fault, id_for, last_after, by_alias, by_use, over_maximum, Refuse, Store, out_acked, out_identified, out_publish, out_release, out_known, stored}
-use Rattle.mqtt5_session.specs.Resuming.{cleaned, Sendings, with_reply, send_all, resume_of}
+use Rattle.mqtt5_session.specs.Requests.{on_request, alias_fault, id_for, last_after, by_alias, by_use, over_maximum, Refuse, Store, out_acked, out_identified, out_publish, out_release, out_known, with_stored}
+use Rattle.mqtt5_session.specs.Resuming.{on_clean, Sendings, with_reply, send_all, resume_of}
 use Rattle.mqtt5_session.specs.Again.{event_for, moment_after, after_sent, sent_unless, resumed}
 
 -- ---- one list of requests after another
@@ -107,7 +106,7 @@ same_last s id pos = let e : (id == 0) ≡ false = ne_eqb id 0 (λ x. absurd (om
 -- a publish that is sent again
 abbrev sent_by : Option ℕ → Session → Publish → ℕ → Answer
 sent_by (Some alias) s p at = (Err (errors.InvalidAlias alias s.core.alias_max), s)
-sent_by None s p at = (Ok (Some (packets.Publish p)), stored s p s.core.last at)
+sent_by None s p at = (Ok (Some (packets.Publish p)), with_stored s p s.core.last at)
 
 by_over : (o : Option ℕ) (s : Session) (p : Publish) (at : ℕ) → out_acked (by_alias (alias_fault s.core.alias_max o) Store) s p s.core.last at ≡ sent_by o s p at
 by_over None s p at = refl
@@ -174,12 +173,12 @@ no_aliases (suc n) h = append-nil (by_id no_alias n h) ∙ no_aliases n h
 pub resumes : (s : Session) (at : ℕ) → IsWithin s.core.limit s.core.in_use → resume_of s at ≡ resumed s at
 unfolding resume_of
 resumes s at is =
-    send_append (by_id publish_again n h) (by_id release_again n h) (cleaned s) at
-    ∙ ap (λ r. and_then r (λ t. send_all (by_id release_again n h) t at)) (all_sent is_sent publish_again (alias_again s.core.alias_max) (cleaned s) at (sent_step (cleaned s) at) h fit (free_first h) n)
-    ∙ sent_then (by_id (alias_again s.core.alias_max) n h) (by_id no_alias n h) ps qs m (map_to is_kept n h m) (cleaned s) (λ t. send_all (by_id release_again n h) t at) at (all_sent is_kept release_again no_alias (after_sent ps m (cleaned s) at) at (kept_step (after_sent ps m (cleaned s) at) at) h fit (λ k. free_then n h k (fit k)) n)
-    ∙ ap (λ xs. sent_unless xs (ps ++ qs) (map_to is_kept n h m) (cleaned s) at) (ap (λ l. by_id (alias_again s.core.alias_max) n h ++ l) (no_aliases n h) ∙ append-nil (by_id (alias_again s.core.alias_max) n h))
-    ∙ ap (λ ps. sent_unless (by_id (alias_again s.core.alias_max) n h) ps (map_to is_kept n h m) (cleaned s) at) (sym (filter_map-append packet_for (by_id publish_again n h) (by_id release_again n h)))
-    ∙ ap (λ k. sent_unless (by_id (alias_again s.core.alias_max) n h) (packets_of n h) k (cleaned s) at) (whole_map n h fit)
+    send_append (by_id publish_again n h) (by_id release_again n h) (on_clean s) at
+    ∙ ap (λ r. and_then r (λ t. send_all (by_id release_again n h) t at)) (all_sent is_sent publish_again (alias_again s.core.alias_max) (on_clean s) at (sent_step (on_clean s) at) h fit (free_first h) n)
+    ∙ sent_then (by_id (alias_again s.core.alias_max) n h) (by_id no_alias n h) ps qs m (map_to is_kept n h m) (on_clean s) (λ t. send_all (by_id release_again n h) t at) at (all_sent is_kept release_again no_alias (after_sent ps m (on_clean s) at) at (kept_step (after_sent ps m (on_clean s) at) at) h fit (λ k. free_then n h k (fit k)) n)
+    ∙ ap (λ xs. sent_unless xs (ps ++ qs) (map_to is_kept n h m) (on_clean s) at) (ap (λ l. by_id (alias_again s.core.alias_max) n h ++ l) (no_aliases n h) ∙ append-nil (by_id (alias_again s.core.alias_max) n h))
+    ∙ ap (λ ps. sent_unless (by_id (alias_again s.core.alias_max) n h) ps (map_to is_kept n h m) (on_clean s) at) (sym (filter_map-append packet_for (by_id publish_again n h) (by_id release_again n h)))
+    ∙ ap (λ k. sent_unless (by_id (alias_again s.core.alias_max) n h) (packets_of n h) k (on_clean s) at) (whole_map n h fit)
   where
     n : ℕ
     n = s.core.limit

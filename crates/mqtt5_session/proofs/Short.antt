@@ -20,16 +20,16 @@ use Rattle.mqtt5_inflight.specs.declared.slot.Slot.TheVariants.{Sent, Released}
 use Rattle.mqtt5_inflight.specs.declared.event.Outgoing.{Outgoing}
 use Rattle.mqtt5_inflight.specs.declared.error.StateError.{StateError}
 use Rattle.mqtt5_inflight.specs.InUse.{InUse, awaiting_ack}
-use Rattle.mqtt5_inflight.proofs.Within.{get_insert_same}
+use Rattle.mqtt5_inflight.proofs.Exports.{get_insert_same}
 use Rattle.mqtt5_session.specs.declared.reply.Reply.{Reply}
 use Rattle.mqtt5_session.specs.declared.reply.Reply.TheVariants as replies
 use Rattle.mqtt5_session.specs.Session.{Session, Answer, Receives, Sends}
-use Rattle.mqtt5_session.specs.Requests.{Verdict, Wait, judged, awaits, out_acked, out_identified}
+use Rattle.mqtt5_session.specs.Requests.{Verdict, Wait, verdict_of, awaits, out_acked, out_identified}
 use Rattle.mqtt5_session.specs.Packets.{on_packet, answer_to, with_notice, event_of, freed_for, on_puback, on_received, on_pubrec, on_pubcomp, on_pubrel, on_publish, on_qos, answers, on_connack, is_taken, topic_of}
 use Rattle.mqtt5_session.specs.Replies.{packet_of, in_full}
 use Rattle.mqtt5_session.specs.Short.{in_short}
 use Rattle.mqtt5_session.specs.Planned.{Stores}
-use Rattle.mqtt5_session.specs.Ledger.{accepted}
+use Rattle.mqtt5_session.specs.Ledger.{unless_refused}
 use Rattle.mqtt5_session.proofs.Owed.{choose}
 
 -- a publish that was stored is the reply of its id
@@ -124,13 +124,13 @@ stored_is id old new p last at h =
     subst (λ (v : Verdict). Sends (Ok (packet_of (replies.Publish id) new)) old new (out_acked v old p last at)) (sym h.1) (ap Ok said, h.2)
 
 -- one that has to wait waits
-pub waits_is : (r : Result Reply StateError) (old mid new : Session) (p : Publish) (last at : ℕ) → mid ≡ old → judged old.core p ≡ Wait → Sends (in_full r new) mid new (Ok None, awaits mid p last at) → Sends (in_full r new) old new (out_identified old p last at)
+pub waits_is : (r : Result Reply StateError) (old mid new : Session) (p : Publish) (last at : ℕ) → mid ≡ old → verdict_of old.core p ≡ Wait → Sends (in_full r new) mid new (Ok None, awaits mid p last at) → Sends (in_full r new) old new (out_identified old p last at)
 waits_is r old mid new p last at same waits h =
     subst (λ (v : Verdict). Sends (in_full r new) old new (out_acked v old p last at)) (sym waits)
     (subst (λ (s : Session). Sends (in_full r new) s new (Ok None, awaits s p last at)) same h)
 
 -- ---- what is said in short is accepted
 
-pub accepted_full : (r : Result Reply StateError) (s : Session) (n : ℕ) → accepted (in_full r s) n ≡ accepted r n
+pub accepted_full : (r : Result Reply StateError) (s : Session) (n : ℕ) → unless_refused (in_full r s) n ≡ unless_refused r n
 accepted_full (Ok reply) s n = refl
 accepted_full (Err e) s n = refl

@@ -11,7 +11,7 @@ use Rattle.mqtt5_inflight.specs.InUse.{InUse}
 use Rattle.mqtt5_inflight.specs.Unacked.{by_id, alias_again, in_use_again}
 use Rattle.mqtt5_inflight.specs.Resent.{packets_of}
 use Rattle.mqtt5_session.specs.Session.{Session}
-use Rattle.mqtt5_session.specs.Resuming.{cleaned, Sendings}
+use Rattle.mqtt5_session.specs.Resuming.{on_clean, Sendings}
 
 -- what is told of it
 abbrev pub event_for : Packet → Option Event
@@ -39,4 +39,6 @@ sent_unless (alias ∷ others) ps in_use s at = Err (errors.InvalidAlias alias s
 
 -- what a resume does: the ids in use stay, and their publishes have dup
 abbrev pub resumed : Session → ℕ → Sendings
-resumed s at = sent_unless (by_id (alias_again s.core.alias_max) s.core.limit s.core.in_use) (packets_of s.core.limit s.core.in_use) (in_use_again s.core.in_use) (cleaned s) at
+resumed s at =
+    sent_unless (by_id (alias_again s.core.alias_max) s.core.limit s.core.in_use)
+    (packets_of s.core.limit s.core.in_use) (in_use_again s.core.in_use) (on_clean s) at

@@ -1,5 +1,7 @@
--- This file serves the logic alone: the packets that come most, and what each does beside its event.
-use Rattle.std.specs.Prelude.{◌≡◌, ℕ, ◌<◌, ◌≤◌, Bool, false, List, [], ◌∷◌, ◌++◌, Option, Some, None, Ok}
+-- This file serves the logic alone: the packets that come most, and what each does beside its
+-- event.
+use Rattle.std.specs.Prelude.{◌≡◌, ℕ, ◌<◌, ◌≤◌, Bool, false, List, [], ◌∷◌, ◌++◌, Option, Some}
+use Rattle.std.specs.Prelude.{None, Ok}
 use Rattle.std.specs.Ordering.{nat_cmp}
 use Rattle.std.specs.FinMap as map
 use Rattle.std.specs.FinSet as set
@@ -13,7 +15,8 @@ use Rattle.mqtt5_inflight.specs.InUse.{InUse}
 use Rattle.mqtt5_session.specs.declared.reply.Reply.{Reply}
 use Rattle.mqtt5_session.specs.declared.reply.Reply.TheVariants.{PubAck, PubRec, PubRel, PubComp}
 use Rattle.mqtt5_session.specs.declared.state.frequent.Change.{Change}
-use Rattle.mqtt5_session.specs.declared.state.frequent.Change.TheVariants.{Pong, Free, Release, Keep, Complete}
+use Rattle.mqtt5_session.specs.declared.state.frequent.Change.TheVariants.{Pong, Free, Release}
+use Rattle.mqtt5_session.specs.declared.state.frequent.Change.TheVariants.{Keep, Complete}
 use Rattle.mqtt5_session.specs.declared.state.frequent.Effect.{Effect}
 use Rattle.mqtt5_session.specs.Session.{Session}
 use Rattle.mqtt5_session.specs.Packets.{with_incoming, on_packet}
@@ -52,7 +55,10 @@ events_by (Some event) es = es ++ events.Outgoing event ∷ []
 -- the session after a packet that was told
 abbrev pub does : Effect → Session → ℕ → Session
 does e s at = record s {
-  core = record s.core { in_use = in_use_by e.change s.core.in_use; incoming = ids_by e.change s.core.incoming };
+  core = record s.core {
+    in_use = in_use_by e.change s.core.in_use;
+    incoming = ids_by e.change s.core.incoming;
+  };
   awaits_ping = awaits_by e.change s.awaits_ping;
   events = events_by (outgoing_of e.reply) s.events;
   last_incoming = at;
@@ -66,4 +72,6 @@ FitsIn limit change = Unit {0}
 -- this is all that a packet does
 abbrev pub IsAll : Session → Packet → ℕ → Effect → Type 0
 IsAll s packet at e =
-    (on_packet s packet at ≡ (Ok (made_of e.reply), does e (with_incoming s packet) at)) × (packet_of e.reply (does e (with_incoming s packet) at) ≡ made_of e.reply) × FitsIn s.core.limit e.change
+    (on_packet s packet at ≡ (Ok (made_of e.reply), does e (with_incoming s packet) at))
+    × (packet_of e.reply (does e (with_incoming s packet) at) ≡ made_of e.reply)
+    × FitsIn s.core.limit e.change

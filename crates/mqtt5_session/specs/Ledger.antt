@@ -1,5 +1,6 @@
 -- What is owed, and what each call adds to it and takes from it (MQTT 5.0 section 4.3).
-use Rattle.std.specs.Prelude.{◌≡◌, ℕ, ◌+◌, Bool, List, [], ◌∷◌, drop, length, Option, Some, None, Result, Ok, Err, if◌then◌else◌}
+use Rattle.std.specs.Prelude.{◌≡◌, ℕ, ◌+◌, Bool, List, [], ◌∷◌, drop, length, Option, Some, None}
+use Rattle.std.specs.Prelude.{Result, Ok, Err, if◌then◌else◌}
 use Rattle.std.specs.FinMap as map
 use Rattle.mqtt5_base.specs.declared.quality.QoS.{QoS}
 use Rattle.mqtt5_base.specs.declared.quality.QoS.TheVariants.{AtMostOnce}
@@ -13,7 +14,7 @@ use Rattle.mqtt5_inflight.specs.Unacked.{requests_of}
 use Rattle.mqtt5_session.specs.Session.{Core, Session, fresh}
 use Rattle.mqtt5_session.specs.Requests.{id_for, on_request, protocol_error}
 use Rattle.mqtt5_session.specs.Packets.{is_taken, on_packet}
-use Rattle.mqtt5_session.specs.Resuming.{cleaned, Sendings, resume_of}
+use Rattle.mqtt5_session.specs.Resuming.{on_clean, Sendings, resume_of}
 
 -- one where there is one
 abbrev pub one_of : Option Publish → ℕ
@@ -21,8 +22,8 @@ one_of None = 0
 one_of (Some p) = 1
 
 -- what is owed: the ids in use, and the publish that waits (4.3)
-abbrev pub owed : Core → ℕ
-owed c = map.len c.in_use + one_of c.waiting
+abbrev pub number_owed : Core → ℕ
+number_owed c = map.len c.in_use + one_of c.waiting
 
 -- a publish is owed, unless it is of QoS 0 (4.3.1)
 abbrev pub owed_at : QoS → ℕ
@@ -35,7 +36,8 @@ adds c (requests.Publish p) = owed_at p.qos
 adds c (requests.PubRel p) = if map.contains_key c.in_use (id_for c p.pkid) then 0 else 1
 adds c request = 0
 
--- what a packet ends: a PubAck, a PubRec by which a publish isn't taken, or a PubComp, one (4.3.2, 4.3.3)
+-- what a packet ends: a PubAck, a PubRec by which a publish isn't taken, or a PubComp, one (4.3.2,
+-- 4.3.3)
 abbrev pub ends : Packet → ℕ
 ends (packets.PubAck p) = 1
 ends (packets.PubRec p) = if is_taken p.reason then 0 else 1
@@ -43,14 +45,14 @@ ends (packets.PubComp p) = 1
 ends packet = 0
 
 -- this, where it isn't refused
-abbrev pub accepted : {A : Type 0} → Result A StateError → ℕ → ℕ
-accepted (Ok reply) n = n
-accepted (Err e) n = 0
+abbrev pub unless_refused : {A : Type 0} → Result A StateError → ℕ → ℕ
+unless_refused (Ok reply) n = n
+unless_refused (Err e) n = 0
 
 -- ---- any list of calls
 
--- A call of the session: a request, a packet from the broker, a protocol error, a clean, a resume; the oldest event is
--- taken out; and the user sends the acks from now on, or doesn't.
+-- A call of the session: a request, a packet from the broker, a protocol error, a clean, a resume;
+-- the oldest event is taken out; and the user sends the acks from now on, or doesn't.
 pub data Call : Type 0 where
   Ask : Request → ℕ → Call
   Hear : Packet → ℕ → Call
@@ -70,21 +72,21 @@ abbrev pub after : Session → Call → Session
 after s (Ask request at) = (on_request s request at).1
 after s (Hear packet at) = (on_packet s packet at).1
 after s Error = (protocol_error s).1
-after s Clean = cleaned s
+after s Clean = on_clean s
 after s (Resume at) = kept_by s (resume_of s at)
 after s Pop = record s { events = drop 1 s.events }
 after s (SetAcks manual) = record s { core = record s.core { manual_acks = manual } }
 
 -- what a call adds
-abbrev pub added : Session → Call → ℕ
-added s (Ask request at) = accepted (on_request s request at).0 (adds s.core request)
-added s call = 0
+abbrev pub added_in : Session → Call → ℕ
+added_in s (Ask request at) = unless_refused (on_request s request at).0 (adds s.core request)
+added_in s call = 0
 
 -- what a call takes: what a packet ends, or what a clean gives back
-abbrev pub taken : Session → Call → ℕ
-taken s (Hear packet at) = accepted (on_packet s packet at).0 (ends packet)
-taken s Clean = length (requests_of s.core.limit s.core.in_use)
-taken s call = 0
+abbrev pub taken_in : Session → Call → ℕ
+taken_in s (Hear packet at) = unless_refused (on_packet s packet at).0 (ends packet)
+taken_in s Clean = length (requests_of s.core.limit s.core.in_use)
+taken_in s call = 0
 
 -- the session after calls
 abbrev pub after_all : Session → List Call → Session
@@ -94,13 +96,15 @@ after_all s (call ∷ calls) = after_all (after s call) calls
 -- what they add
 abbrev pub added_by : Session → List Call → ℕ
 added_by s [] = 0
-added_by s (call ∷ calls) = added s call + added_by (after s call) calls
+added_by s (call ∷ calls) = added_in s call + added_by (after s call) calls
 
 -- what they take
 abbrev pub taken_by : Session → List Call → ℕ
 taken_by s [] = 0
-taken_by s (call ∷ calls) = taken s call + taken_by (after s call) calls
+taken_by s (call ∷ calls) = taken_in s call + taken_by (after s call) calls
 
 -- over any calls of a new session, what is owed and what was taken are what was added
 abbrev pub IsLedger : ℕ → Bool → List Call → Type 0
-IsLedger limit manual calls = owed (after_all (fresh limit manual) calls).core + taken_by (fresh limit manual) calls ≡ added_by (fresh limit manual) calls
+IsLedger limit manual calls =
+    number_owed (after_all (fresh limit manual) calls).core + taken_by (fresh limit manual) calls
+    ≡ added_by (fresh limit manual) calls

@@ -6,7 +6,8 @@ use Rattle.mqtt5_codec.specs.declared.packet.Packet.TheVariants as packets
 use Rattle.mqtt5_inflight.specs.declared.error.StateError.{StateError}
 use Rattle.mqtt5_inflight.specs.InUse.{awaiting_ack}
 use Rattle.mqtt5_session.specs.declared.reply.Reply.{Reply}
-use Rattle.mqtt5_session.specs.declared.reply.Reply.TheVariants.{Publish, PubAck, PubRec, PubRel, PubComp, Disconnect}
+use Rattle.mqtt5_session.specs.declared.reply.Reply.TheVariants.{Publish, PubAck, PubRec, PubRel}
+use Rattle.mqtt5_session.specs.declared.reply.Reply.TheVariants.{PubComp, Disconnect}
 use Rattle.mqtt5_session.specs.Session.{Session}
 use Rattle.mqtt5_session.specs.Requests.{release_of, disconnect_of}
 use Rattle.mqtt5_session.specs.Packets.{puback_of, pubrec_of, pubcomp_of}

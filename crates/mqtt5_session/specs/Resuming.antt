@@ -1,4 +1,5 @@
--- What a client sends again when it takes up a kept session (MQTT 5.0 section 4.4), and the session then.
+-- What a client sends again when it takes up a kept session (MQTT 5.0 section 4.4), and the session
+-- then.
 use Rattle.std.specs.Prelude.{◌≡◌, ℕ, false, List, [], ◌∷◌, ◌++◌, Option, Result, Ok, Err, IsOk}
 use Rattle.std.specs.Option.{option_to_list}
 use Rattle.std.specs.Global.{Vec}
@@ -12,12 +13,16 @@ use Rattle.mqtt5_session.specs.Session.{Core, Session}
 use Rattle.mqtt5_session.specs.Requests.{on_request}
 
 -- the session without it: no id is in use, and no ping is awaited
-abbrev pub cleaned : Session → Session
-cleaned s = record s { core = record s.core { in_use = map.empty }; awaits_ping = false; collision_pings = 0 }
+abbrev pub on_clean : Session → Session
+on_clean s = record s {
+  core = record s.core { in_use = map.empty };
+  awaits_ping = false;
+  collision_pings = 0;
+}
 
 -- the core with dup of each publish that awaits its ack (3.3.1.1)
-abbrev pub marked : Core → Core
-marked c = record c { in_use = in_use_again c.in_use }
+abbrev pub with_dup : Core → Core
+with_dup c = record c { in_use = in_use_again c.in_use }
 
 -- packets to send and the session after them, or a refusal
 abbrev pub Sendings : Type 0
@@ -36,9 +41,10 @@ send_all (r ∷ rest) s at = with_reply (on_request s r at).0 (send_all rest (on
 
 -- to resume is to clean, and to send what that gives (4.4)
 unfoldable pub resume_of : Session → ℕ → Sendings
-resume_of s at = send_all (requests_of s.core.limit s.core.in_use) (cleaned s) at
+resume_of s at = send_all (requests_of s.core.limit s.core.in_use) (on_clean s) at
 
--- these packets are sent; a refusal changes nothing, and memory is refused only where nothing else is
+-- these packets are sent; a refusal changes nothing, and memory is refused only where nothing else
+-- is
 abbrev pub Resumes : Result (Vec Packet) StateError → Session → Session → Sendings → Type 0
 Resumes (Ok packets) old new sendings = sendings ≡ Ok (packets.items, new)
 Resumes (Err errors.OutOfMemory) old new sendings = (new ≡ old) × IsOk sendings

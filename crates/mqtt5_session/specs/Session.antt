@@ -1,5 +1,6 @@
 -- The session of a client (MQTT 5.0 section 4.1), and what a call of it answers.
-use Rattle.std.specs.Prelude.{◌≡◌, ℕ, Bool, false, List, [], ◌∷◌, ◌++◌, Option, None, Result, Err, IsOk}
+use Rattle.std.specs.Prelude.{◌≡◌, ℕ, Bool, false, List, [], ◌∷◌, ◌++◌, Option, None, Result, Err}
+use Rattle.std.specs.Prelude.{IsOk}
 use Rattle.std.specs.Ordering.{nat_cmp}
 use Rattle.std.specs.FinMap as map
 use Rattle.std.specs.FinSet as set
@@ -16,9 +17,10 @@ use Rattle.mqtt5_inflight.specs.InUse.{InUse}
 abbrev pub Topics : Type 0
 Topics = map.FinMap nat_cmp (List ℕ)
 
--- what decides the ids and the deliveries (4.1): the limit on ids in use, the current maximum, the last id that was given,
--- the ids in use, the publish that waits for its id, the topics of aliases, the broker's maximum of them, whether the
--- user sends the acks, and the ids of publishes of QoS 2 that the broker hasn't released
+-- what decides the ids and the deliveries (4.1): the limit on ids in use, the current maximum, the
+-- last id that was given, the ids in use, the publish that waits for its id, the topics of aliases,
+-- the broker's maximum of them, whether the user sends the acks, and the ids of publishes of QoS 2
+-- that the broker hasn't released
 pub record Core : Type 0 where
   pub limit : ℕ
   pub current : ℕ
@@ -30,8 +32,8 @@ pub record Core : Type 0 where
   pub manual_acks : Bool
   pub incoming : set.FinSet nat_cmp
 
--- the session (4.1): a core, whether a ping isn't answered, how many pings were asked for while a publish waits, what
--- happened, and the moments of the last packet in and the last request out
+-- the session (4.1): a core, whether a ping isn't answered, how many pings were asked for while a
+-- publish waits, what happened, and the moments of the last packet in and the last request out
 pub record Session : Type 0 where
   pub core : Core
   pub awaits_ping : Bool
@@ -43,7 +45,17 @@ pub record Session : Type 0 where
 -- the session of a client that has sent nothing (4.1)
 abbrev pub fresh : ℕ → Bool → Session
 fresh limit manual = record {
-  core = record { limit = limit; current = limit; last = 0; in_use = map.empty; waiting = None; aliases = map.empty; alias_max = 0; manual_acks = manual; incoming = set.empty };
+  core = record {
+    limit = limit;
+    current = limit;
+    last = 0;
+    in_use = map.empty;
+    waiting = None;
+    aliases = map.empty;
+    alias_max = 0;
+    manual_acks = manual;
+    incoming = set.empty;
+  };
   awaits_ping = false;
   collision_pings = 0;
   events = [];

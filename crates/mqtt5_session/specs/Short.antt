@@ -3,7 +3,8 @@ use Rattle.std.specs.Prelude.{Option, Some}
 use Rattle.mqtt5_codec.specs.declared.packet.Packet.{Packet}
 use Rattle.mqtt5_codec.specs.declared.packet.Packet.TheVariants as packets
 use Rattle.mqtt5_session.specs.declared.reply.Reply.{Reply}
-use Rattle.mqtt5_session.specs.declared.reply.Reply.TheVariants.{Nothing, Publish, PubAck, PubRec, PubRel, PubComp, Disconnect}
+use Rattle.mqtt5_session.specs.declared.reply.Reply.TheVariants.{Nothing, Publish, PubAck, PubRec}
+use Rattle.mqtt5_session.specs.declared.reply.Reply.TheVariants.{PubRel, PubComp, Disconnect}
 
 -- what an answer of the session is in short
 abbrev pub in_short : Option Packet → Reply

@@ -13,9 +13,9 @@ ghost use Rattle.mqtt5_session.specs.Packets.{on_packet};
 ghost use Rattle.mqtt5_session.specs.Replies.{in_full};
 ghost use Rattle.mqtt5_session.specs.Frequent.{IsAll};
 ghost use Rattle.mqtt5_session.specs.Planned.{IsLeft, sent_as};
-ghost use Rattle.mqtt5_session.specs.Resuming.{cleaned, resume_of, Resumes};
-ghost use Rattle.mqtt5_session.specs.Ledger.{owed, adds, ends, accepted};
-ghost use Rattle.mqtt5_session.specs.Once.{kept_id, notified, releases};
+ghost use Rattle.mqtt5_session.specs.Resuming.{on_clean, resume_of, Resumes};
+ghost use Rattle.mqtt5_session.specs.Ledger.{number_owed, adds, ends, unless_refused};
+ghost use Rattle.mqtt5_session.specs.Once.{kept_id, new_notices, releases};
 
 /// The packets that come most.
 mod frequent;
@@ -264,7 +264,7 @@ impl MqttState {
         at: u64,
     ) -> Result<Option<Packet>, StateError>
         ensures step { Sends result self.old self.new (on_request self.old request at) }
-        ensures ledger { owed self.new.core ≡ owed self.old.core + accepted result
+        ensures ledger { number_owed self.new.core ≡ number_owed self.old.core + unless_refused result
             (adds self.old.core request) }
         ensures once { (id : ℕ) → kept_id id self.new.core ≡ kept_id id self.old.core }
     {
@@ -320,10 +320,10 @@ impl MqttState {
         at: u64,
     ) -> Result<Option<Packet>, StateError>
         ensures step { Receives result self.old self.new (on_packet self.old packet at) }
-        ensures ledger { owed self.new.core + accepted result (ends packet) ≡ owed self.old.core }
-        ensures once { (id : ℕ) → kept_id id self.new.core + accepted result
+        ensures ledger { number_owed self.new.core + unless_refused result (ends packet) ≡ number_owed self.old.core }
+        ensures once { (id : ℕ) → kept_id id self.new.core + unless_refused result
             (releases id self.old.core packet)
-            ≡ kept_id id self.old.core + notified id self.old result self.new }
+            ≡ kept_id id self.old.core + new_notices id self.old result self.new }
     {
         self.receive_packet(packet, at)
     }
@@ -379,9 +379,9 @@ impl MqttState {
     pub fn hear_packet(&mut self, packet: Incoming, at: u64) -> Result<Reply, StateError>
         ensures step { Receives (in_full result self.new) self.old self.new
             (on_packet self.old packet at) }
-        ensures ledger { owed self.new.core + accepted result (ends packet) ≡ owed self.old.core }
-        ensures once { (id : ℕ) → kept_id id self.new.core + accepted result
-            (releases id self.old.core packet) ≡ kept_id id self.old.core + notified id self.old
+        ensures ledger { number_owed self.new.core + unless_refused result (ends packet) ≡ number_owed self.old.core }
+        ensures once { (id : ℕ) → kept_id id self.new.core + unless_refused result
+            (releases id self.old.core packet) ≡ kept_id id self.old.core + new_notices id self.old
             (in_full result self.new) self.new }
     {
         self.hear_in_short(packet, at)
@@ -437,7 +437,7 @@ impl MqttState {
         ensures step { publish.now.qos ≢ AtMostOnce
             → Sends (in_full result self.new) self.old self.new
             (on_request self.old (Request.Publish publish.now) at) }
-        ensures ledger { owed self.new.core ≡ owed self.old.core + accepted result
+        ensures ledger { number_owed self.new.core ≡ number_owed self.old.core + unless_refused result
             (adds self.old.core (Request.Publish publish.now)) }
         ensures once { (id : ℕ) → kept_id id self.new.core ≡ kept_id id self.old.core }
         ensures unstored { publish.now.qos ≡ AtMostOnce → (result ≡ Err StateError.InvalidState)
@@ -454,7 +454,7 @@ impl MqttState {
         ensures step { publish.qos ≢ AtMostOnce
             → Sends (in_full result self.new) self.old self.new
             (on_request self.old (Request.Publish publish) at) }
-        ensures ledger { owed self.new.core ≡ owed self.old.core + accepted result
+        ensures ledger { number_owed self.new.core ≡ number_owed self.old.core + unless_refused result
             (adds self.old.core (Request.Publish publish)) }
         ensures once { (id : ℕ) → kept_id id self.new.core ≡ kept_id id self.old.core }
         ensures unstored { publish.qos ≡ AtMostOnce → (result ≡ Err StateError.InvalidState)
@@ -471,7 +471,7 @@ impl MqttState {
     /// Tells of a Disconnect with ProtocolError, and answers it to send. S12; the session is then unchanged.
     pub fn handle_protocol_error(&mut self) -> Result<Option<Packet>, StateError>
         ensures step { Sends result self.old self.new (protocol_error self.old) }
-        ensures ledger { owed self.new.core ≡ owed self.old.core }
+        ensures ledger { number_owed self.new.core ≡ number_owed self.old.core }
         ensures once { (id : ℕ) → kept_id id self.new.core ≡ kept_id id self.old.core }
     {
         self.tell(Outgoing::Disconnect)?;
@@ -484,9 +484,9 @@ impl MqttState {
     pub fn clean(&mut self) -> Result<Vec<Request>, StateError>
         ensures ok { IfOk result
             (λ v. v.items ≡ requests_of self.old.core.limit self.old.core.in_use) }
-        ensures cleaned { OnOk result (self.new ≡ cleaned self.old) }
-        ensures ledger { IfOk result (λ v. owed self.new.core + length v.items
-            ≡ owed self.old.core) }
+        ensures cleaned { OnOk result (self.new ≡ on_clean self.old) }
+        ensures ledger { IfOk result (λ v. number_owed self.new.core + length v.items
+            ≡ number_owed self.old.core) }
         ensures once { (id : ℕ) → kept_id id self.new.core ≡ kept_id id self.old.core }
         ensures err { IfErr result (λ e. e ≡ StateError.OutOfMemory) }
         ensures kept { OnErr result (self.new ≡ self.old) }
@@ -509,7 +509,7 @@ impl MqttState {
     /// A copy of the session as `clean` would leave it, in which no publish is copied that awaits an ack. Err where
     /// memory is refused.
     pub fn cleaned(&self, alloc: Global) -> Result<MqttState, AllocError>
-        ensures { IfOk result (λ s. s ≡ cleaned self.now) }
+        ensures { IfOk result (λ s. s ≡ on_clean self.now) }
     {
         Ok(MqttState {
             slots: Slots::new(alloc, self.slots.limit()),
@@ -534,7 +534,7 @@ impl MqttState {
     /// the session is unchanged.
     pub fn resume(&mut self, at: u64) -> Result<Vec<Packet>, StateError>
         ensures sends { Resumes result self.old self.new (resume_of self.old at) }
-        ensures ledger { owed self.new.core ≡ owed self.old.core }
+        ensures ledger { number_owed self.new.core ≡ number_owed self.old.core }
         ensures once { (id : ℕ) → kept_id id self.new.core ≡ kept_id id self.old.core }
     {
         self.send_again(at)

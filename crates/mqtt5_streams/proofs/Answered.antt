@@ -18,7 +18,7 @@ use Rattle.mqtt5_session.specs.Requests.{on_request, release_of}
 use Rattle.mqtt5_session.specs.Packets.{on_packet}
 use Rattle.mqtt5_world.specs.declared.event.WorldEvent.TheVariants as plain
 use Rattle.mqtt5_world.specs.Broker.{Broker, serve, serve_publish, reason_for}
-use Rattle.mqtt5_world.specs.World.{World, start, after_reply, takes, returns, taken_back, run}
+use Rattle.mqtt5_world.specs.World.{World, start, after_reply, takes_packet, returns, taken_back, run_world}
 use Rattle.mqtt5_world.proofs.Step.{Inv}
 use Rattle.mqtt5_world.proofs.Runs.{inv_start, inv_next, inv_run}
 use Rattle.mqtt5_streams.specs.declared.event.ByteEvent.{ByteEvent}
@@ -26,7 +26,7 @@ use Rattle.mqtt5_streams.specs.declared.event.ByteEvent.TheVariants as events
 use Rattle.mqtt5_progress.specs.Packets.{IsAck, OfPublish, OfFirst, OfRelease, Every, numbered}
 use Rattle.mqtt5_streams.specs.Wire.{wire_of, remaining, IsWritable, IsTyped}
 use Rattle.mqtt5_streams.specs.Buffers.{Frames, Waits, Breaks, Takes}
-use Rattle.mqtt5_streams.specs.ByteWorld.{with_bytes, sent, reply_bytes, before, all_bytes, ByteWorld, Outcome, and_then, sends_up, sends_down, asked_bytes, arrived, go_up, heard_bytes, takes_bytes, returned, come_down, emptied, resumed_bytes, resumes_bytes, happens_bytes, run_bytes, start_bytes}
+use Rattle.mqtt5_streams.specs.ByteWorld.{with_bytes, sent, reply_wire, before, all_bytes, ByteWorld, Outcome, and_then, sends_up, sends_down, asked_bytes, arrived, go_up, heard_bytes, takes_bytes, returned, come_down, emptied, resumed_bytes, resumes_bytes, happens_bytes, run_bytes, start_bytes}
 use Rattle.mqtt5_streams.specs.Reduction.{as_events, unless_fault, IsTypedEvent, if_accepted, taken_on, all_taken_on, AllWritable, AdmitsAcks}
 use Rattle.mqtt5_streams.proofs.Wire.{wire}
 use Rattle.mqtt5_streams.proofs.Cuts.{AreCut, cuts}
@@ -60,7 +60,7 @@ serve_acks b (packets.Publish p) = publish_acks p.qos b p
 serve_acks b (packets.PubRel p) = (OfRelease p.pkid (reason_for (set.contains b.ids p.pkid)), tt {0})
 serve_acks b other = tt {0}
 
-down_answers : (b : ByteWorld) (o : Option Packet) → Every IsAck (option_to_list o) → Answers (sends_down b (reply_bytes None o))
+down_answers : (b : ByteWorld) (o : Option Packet) → Every IsAck (option_to_list o) → Answers (sends_down b (reply_wire None o))
 down_answers b None h = (record b { down = sent b.down [] }, refl)
 down_answers b (Some x) h = (record b { down = sent b.down (wire_of x) }, ap (sends_down b) (wire.acks x h.0).0)
 
@@ -112,7 +112,7 @@ module _ (codec : Codec) (limit : ℕ) (small : limit < 65536) where
       let t = all_answers ps h.1 in
       (wire_of p ++ t.0, ap (λ r. before r (all_bytes codec.max_outgoing_size ps)) (can_sent p h.0.1 h.0.0) ∙ ap (before (Ok (wire_of p))) t.1)
 
-  reply_answers : (o : Option Packet) → Every (GoesUp Can) (option_to_list o) → (bytes : List ℕ) × (reply_bytes codec.max_outgoing_size o ≡ Ok bytes)
+  reply_answers : (o : Option Packet) → Every (GoesUp Can) (option_to_list o) → (bytes : List ℕ) × (reply_wire codec.max_outgoing_size o ≡ Ok bytes)
   reply_answers None h = ([], refl)
   reply_answers (Some x) h = (wire_of x, can_sent x h.0.1 h.0.0)
 
@@ -143,7 +143,7 @@ module _ (codec : Codec) (limit : ℕ) (small : limit < 65536) where
       let b1 : ByteWorld = record b { down = record { buffer = rest; stream = b.down.stream } } in
       let w0 : World = record w { down = ds } in
       let q : Every (ComesDown Can) (x ∷ ds) = subst (Every (ComesDown Can)) eq h.down in
-      let w1 = takes w0 x in
+      let w1 = takes_packet w0 x in
       let i1 : Inv w1 = subst Inv (ap (returns w) eq) (inv_next w plain.Down i) in
       let h1 : Holds Can limit w1 = subst (Holds Can limit) (ap (returns w) eq) (holds_next Can limit closed_can w plain.Down i h (tt {0})) in
       let k = keeps_inc Can limit closed_can w.session x h.core q.0 in
@@ -210,7 +210,7 @@ module _ (codec : Codec) (limit : ℕ) (small : limit < 65536) where
       let parts = every_parts (λ p. IsWritable codec.max_outgoing_size (packets.Publish p)) (taken_on b x) _ all in
       let o = owes_can b w x t.reduces.session parts.0 in
       let a = next_answers b w x ad i f h t o in
-      let w1 = run (as_events codec b x) w in
+      let w1 = run_world (as_events codec b x) w in
       let rest : AllWritable codec (all_taken_on codec es a.0) = subst (λ o. AllWritable codec (unless_fault o (all_taken_on codec es))) a.1 parts.1 in
       let r = run_answers es a.0 w1 ad fs.1 (inv_run (as_events codec b x) w i)
       (holds_as IsTyped limit closed_typed codec b w x i f (owes_typed limit small w x f fs.0))

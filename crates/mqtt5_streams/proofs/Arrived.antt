@@ -13,7 +13,7 @@ use Rattle.mqtt5_codec.specs.declared.codec.Codec.{Codec}
 use Rattle.mqtt5_session.specs.Session.{Session}
 use Rattle.mqtt5_world.specs.declared.event.WorldEvent.{WorldEvent}
 use Rattle.mqtt5_world.specs.Broker.{Broker}
-use Rattle.mqtt5_world.specs.World.{World, run, start}
+use Rattle.mqtt5_world.specs.World.{World, run_world, start}
 use Rattle.mqtt5_world.specs.Delivery.{times}
 use Rattle.mqtt5_progress.specs.Progress.{IsIdle, Settled, all_up, all_down, downward, settle}
 use Rattle.mqtt5_progress.proofs.Settled.{at_rest}
@@ -59,7 +59,7 @@ is_clear way ps none e is =
 -- rounds change nothing where nothing is on its way
 rests : (n : ℕ) (w : World) → w.up ≡ [] → w.down ≡ [] → settle n w ≡ w
 rests zero w u d = refl
-rests (suc n) w u d = ap (λ ps. settle n (downward (run (all_up ps) w))) u ∙ ap (λ ps. settle n (run (all_down ps) w)) d ∙ rests n w u d
+rests (suc n) w u d = ap (λ ps. settle n (downward (run_world (all_up ps) w))) u ∙ ap (λ ps. settle n (run_world (all_down ps) w)) d ∙ rests n w u d
 
 -- ---- the worlds
 
@@ -68,7 +68,7 @@ module _ (codec : Codec) (limit : ℕ) (small : limit < 65536) (es : List ByteEv
   fs = plain_events codec es (start_bytes limit)
 
   abbrev v : World
-  v = run fs (start limit)
+  v = run_world fs (start limit)
 
   both : Ends codec limit b v
   both = ends codec limit small es b typed a.reached

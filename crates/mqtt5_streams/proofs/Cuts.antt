@@ -11,19 +11,19 @@ use Rattle.mqtt5_codec.specs.declared.packet.Packet.{Packet}
 use Rattle.mqtt5_codec.specs.PacketsIn.{packet_in}
 use Rattle.mqtt5_codec.specs.Norms.{norm}
 use Rattle.mqtt5_streams.specs.Wire.{wire_of, remaining, IsWritable, IsTyped}
-use Rattle.mqtt5_streams.specs.Buffers.{Frames, Waits, Breaks, Takes, cut_by, cut_in, frames}
+use Rattle.mqtt5_streams.specs.Buffers.{Frames, Waits, Breaks, Takes, cut_by, frames_in, frames}
 use Rattle.mqtt5_progress.specs.Packets.{Every}
 use Rattle.mqtt5_streams.specs.Reduction.{frames_of}
 use Rattle.mqtt5_streams.proofs.Wire.{wire}
 
 -- ---- so many are enough
 
-cut_alike : (limit : Option ℕ) (n m : ℕ) (bytes : List ℕ) → length bytes < n → length bytes < m → cut_in n limit bytes ≡ cut_in m limit bytes
+cut_alike : (limit : Option ℕ) (n m : ℕ) (bytes : List ℕ) → length bytes < n → length bytes < m → frames_in n limit bytes ≡ frames_in m limit bytes
 cut_alike limit zero m bytes h k = absurd (omega arith)
 cut_alike limit (suc n) zero bytes h k = absurd (omega arith)
 cut_alike limit (suc n) (suc m) bytes h k = by (λ rest a b. cut_alike limit n m rest a b) (front limit bytes) refl
   where
-    by : ((rest : List ℕ) → length rest < n → length rest < m → cut_in n limit rest ≡ cut_in m limit rest) → (f : Front) → front limit bytes ≡ f → cut_by f (cut_in n limit) ≡ cut_by f (cut_in m limit)
+    by : ((rest : List ℕ) → length rest < n → length rest < m → frames_in n limit rest ≡ frames_in m limit rest) → (f : Front) → front limit bytes ≡ f → cut_by f (frames_in n limit) ≡ cut_by f (frames_in m limit)
     by go_on (Bad e) is = refl
     by go_on (More j) is = refl
     by go_on (Whole frame rest) is = let s = (wire.stays limit).shorter bytes frame rest is in ap (λ others. Takes frame rest others) (go_on rest (omega arith) (omega arith))
@@ -32,15 +32,15 @@ pub frames_whole : (limit : Option ℕ) (bytes frame rest : List ℕ) → front 
 unfolding frames
 frames_whole limit bytes frame rest is =
     let s = (wire.stays limit).shorter bytes frame rest is in
-    ap (λ f. cut_by f (cut_in (length bytes) limit)) is ∙ ap (λ others. Takes frame rest others) (cut_alike limit (length bytes) (suc (length rest)) rest s (omega arith))
+    ap (λ f. cut_by f (frames_in (length bytes) limit)) is ∙ ap (λ others. Takes frame rest others) (cut_alike limit (length bytes) (suc (length rest)) rest s (omega arith))
 
 pub frames_more : (limit : Option ℕ) (bytes : List ℕ) (n : ℕ) → front limit bytes ≡ More n → frames limit bytes ≡ Waits
 unfolding frames
-frames_more limit bytes n is = ap (λ f. cut_by f (cut_in (length bytes) limit)) is
+frames_more limit bytes n is = ap (λ f. cut_by f (frames_in (length bytes) limit)) is
 
 pub frames_bad : (limit : Option ℕ) (bytes : List ℕ) (e : Error) → front limit bytes ≡ Bad e → frames limit bytes ≡ Breaks e
 unfolding frames
-frames_bad limit bytes e is = ap (λ f. cut_by f (cut_in (length bytes) limit)) is
+frames_bad limit bytes e is = ap (λ f. cut_by f (frames_in (length bytes) limit)) is
 
 -- ---- of two whole frames at the front of one stream each is the other
 
@@ -121,9 +121,9 @@ module _ (limit : Option ℕ) (Broken : Type 0) where
 
   -- so it is of each shorter buffer
   abbrev Shorter : ℕ → List ℕ → Type 0
-  Shorter n later = (rest : List ℕ) (qs : List Packet) → length rest < n → Every IsSound qs → Broken ⊎ Every Admitted qs → rest ++ later ≡ frames_of qs → AreCut limit Broken (cut_in n limit rest) rest qs later
+  Shorter n later = (rest : List ℕ) (qs : List Packet) → length rest < n → Every IsSound qs → Broken ⊎ Every Admitted qs → rest ++ later ≡ frames_of qs → AreCut limit Broken (frames_in n limit rest) rest qs later
 
-  by_front : (n : ℕ) (bytes later : List ℕ) → length bytes < suc n → Shorter n later → (f : Front) → front limit bytes ≡ f → (ps : List Packet) → Every IsSound ps → Broken ⊎ Every Admitted ps → bytes ++ later ≡ frames_of ps → AreCut limit Broken (cut_by f (cut_in n limit)) bytes ps later
+  by_front : (n : ℕ) (bytes later : List ℕ) → length bytes < suc n → Shorter n later → (f : Front) → front limit bytes ≡ f → (ps : List Packet) → Every IsSound ps → Broken ⊎ Every Admitted ps → bytes ++ later ≡ frames_of ps → AreCut limit Broken (cut_by f (frames_in n limit)) bytes ps later
   by_front n bytes later h go_on (More j) is ps g b e = ((j, is), e)
   by_front n bytes later h go_on (Bad x) is [] g b e = absurd (not_bad 2 x (sym (wire.empty limit) ∙ ap (front limit) (sym (no_bytes bytes later e)) ∙ is))
   by_front n bytes later h go_on (Bad x) is (p ∷ ps) g (inl b) e = b
@@ -136,7 +136,7 @@ module _ (limit : Option ℕ) (Broken : Type 0) where
       let s = (wire.stays limit).shorter bytes frame rest is in
       (ap packet_in first.0 ∙ wire.read p g.0.0 g.0.1, go_on rest ps (omega arith) g.1 (others_admitted p ps b) first.1)
 
-  cuts_in : (n : ℕ) (later bytes : List ℕ) (ps : List Packet) → length bytes < n → Every IsSound ps → Broken ⊎ Every Admitted ps → bytes ++ later ≡ frames_of ps → AreCut limit Broken (cut_in n limit bytes) bytes ps later
+  cuts_in : (n : ℕ) (later bytes : List ℕ) (ps : List Packet) → length bytes < n → Every IsSound ps → Broken ⊎ Every Admitted ps → bytes ++ later ≡ frames_of ps → AreCut limit Broken (frames_in n limit bytes) bytes ps later
   cuts_in zero later bytes ps h g b e = absurd (omega arith)
   cuts_in (suc n) later bytes ps h g b e = by_front n bytes later h (λ rest qs s g b e. cuts_in n later rest qs s g b e) (front limit bytes) refl ps g b e
 

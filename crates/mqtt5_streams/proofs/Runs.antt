@@ -14,7 +14,7 @@ use Rattle.mqtt5_session.specs.Session.{Core}
 use Rattle.mqtt5_session.specs.Requests.{on_request}
 use Rattle.mqtt5_world.specs.declared.event.WorldEvent.TheVariants as plain
 use Rattle.mqtt5_world.specs.Broker.{Broker}
-use Rattle.mqtt5_world.specs.World.{World, start, happens, run, losses}
+use Rattle.mqtt5_world.specs.World.{World, start, happens, run_world, losses}
 use Rattle.mqtt5_world.specs.Delivery.{IsClass, has_content, times, stored_in, stored_without, waiting_in}
 use Rattle.mqtt5_world.proofs.Step.{Inv}
 use Rattle.mqtt5_world.proofs.Runs.{inv_start, inv_next, inv_run, run_append, losses_append}
@@ -39,15 +39,15 @@ OwesByte Q w (events.Publish p) = Owes Q w (plain.Publish p)
 OwesByte Q w e = Unit {0}
 
 module _ (Q : Packet → Type 0) (limit : ℕ) (closed : Closed Q) where
-  holds_ups : (n : ℕ) (w : World) → Inv w → Holds Q limit w → Holds Q limit (run (often.times n plain.Up) w)
+  holds_ups : (n : ℕ) (w : World) → Inv w → Holds Q limit w → Holds Q limit (run_world (often.so_often n plain.Up) w)
   holds_ups zero w i h = h
   holds_ups (suc n) w i h = holds_ups n (happens w plain.Up) (inv_next w plain.Up i) (holds_next Q limit closed w plain.Up i h (tt {0}))
 
-  holds_downs : (n : ℕ) (w : World) → Inv w → Holds Q limit w → Holds Q limit (run (often.times n plain.Down) w)
+  holds_downs : (n : ℕ) (w : World) → Inv w → Holds Q limit w → Holds Q limit (run_world (often.so_often n plain.Down) w)
   holds_downs zero w i h = h
   holds_downs (suc n) w i h = holds_downs n (happens w plain.Down) (inv_next w plain.Down i) (holds_next Q limit closed w plain.Down i h (tt {0}))
 
-  pub holds_as : (codec : Codec) (b : ByteWorld) (w : World) (e : ByteEvent) → Inv w → Holds Q limit w → OwesByte Q w e → Holds Q limit (run (as_events codec b e) w)
+  pub holds_as : (codec : Codec) (b : ByteWorld) (w : World) (e : ByteEvent) → Inv w → Holds Q limit w → OwesByte Q w e → Holds Q limit (run_world (as_events codec b e) w)
   holds_as codec b w (events.Publish p) i h q = holds_next Q limit closed w (plain.Publish p) i h q
   holds_as codec b w (events.Up n) i h q = holds_ups (count (frames None (with_bytes n b.up).buffer)) w i h
   holds_as codec b w (events.Down n) i h q = holds_downs (count (frames codec.max_incoming_size (with_bytes n b.down).buffer)) w i h
@@ -89,24 +89,24 @@ on_up Q limit w h = (every_map (GoesUp Q) Q w.up (λ x q. q.0) h.up, every_map (
 pub on_down : (Q : Packet → Type 0) (limit : ℕ) (w : World) → Holds Q limit w → Every Q w.down × Every IsAck w.down
 on_down Q limit w h = (every_map (ComesDown Q) Q w.down (λ x q. q.0) h.down, every_map (ComesDown Q) IsAck w.down (λ x q. q.1) h.down)
 
-pub event_tied : (codec : Codec) (limit : ℕ) (b : ByteWorld) (w : World) (e : ByteEvent) (c : ByteWorld) → Holds IsTyped limit w → Tied codec b w → happens_bytes codec b e ≡ Ok c → Tied codec c (run (as_events codec b e) w)
+pub event_tied : (codec : Codec) (limit : ℕ) (b : ByteWorld) (w : World) (e : ByteEvent) (c : ByteWorld) → Holds IsTyped limit w → Tied codec b w → happens_bytes codec b e ≡ Ok c → Tied codec c (run_world (as_events codec b e) w)
 event_tied codec limit b w e c h t is =
     let up = on_up IsTyped limit w h in
     let down = on_down IsTyped limit w h in
     next_tied codec b w e c up.0 up.1 down.0 down.1 t is
 
-plain_next : (codec : Codec) (e : ByteEvent) (es : List ByteEvent) (b c : ByteWorld) (w : World) → happens_bytes codec b e ≡ Ok c → run (plain_events codec (e ∷ es) b) w ≡ run (plain_events codec es c) (run (as_events codec b e) w)
-plain_next codec e es b c w h = ap (λ o. run (as_events codec b e ++ unless_fault o (plain_events codec es)) w) h ∙ run_append (as_events codec b e) (plain_events codec es c) w
+plain_next : (codec : Codec) (e : ByteEvent) (es : List ByteEvent) (b c : ByteWorld) (w : World) → happens_bytes codec b e ≡ Ok c → run_world (plain_events codec (e ∷ es) b) w ≡ run_world (plain_events codec es c) (run_world (as_events codec b e) w)
+plain_next codec e es b c w h = ap (λ o. run_world (as_events codec b e ++ unless_fault o (plain_events codec es)) w) h ∙ run_append (as_events codec b e) (plain_events codec es c) w
 
 -- what is said of the worlds that a run ends in
 abbrev pub Ends : Codec → ℕ → ByteWorld → World → Type 0
 Ends codec limit b w = Tied codec b w × Holds IsTyped limit w
 
-run_tied : (codec : Codec) (limit : ℕ) → limit < 65536 → (es : List ByteEvent) (b : ByteWorld) (w : World) (c : ByteWorld) → Every IsTypedEvent es → Inv w → Holds IsTyped limit w → Tied codec b w → run_bytes codec es b ≡ Ok c → Ends codec limit c (run (plain_events codec es b) w)
+run_tied : (codec : Codec) (limit : ℕ) → limit < 65536 → (es : List ByteEvent) (b : ByteWorld) (w : World) (c : ByteWorld) → Every IsTypedEvent es → Inv w → Holds IsTyped limit w → Tied codec b w → run_bytes codec es b ≡ Ok c → Ends codec limit c (run_world (plain_events codec es b) w)
 run_tied codec limit small [] b w c f i h t e = (subst (λ z. Tied codec z w) (ok_one b c e) t, h)
 run_tied codec limit small (x ∷ es) b w c f i h t e =
     let g = then_ok (happens_bytes codec b x) (run_bytes codec es) c e in
-    let w1 = run (as_events codec b x) w in
+    let w1 = run_world (as_events codec b x) w in
     let r = run_tied codec limit small es g.0 w1 c f.1 (inv_run (as_events codec b x) w i)
     (holds_as IsTyped limit closed_typed codec b w x i h (owes_typed limit small w x h f.0))
     (event_tied codec limit b w x g.0 h t g.1) g.2 in
@@ -119,10 +119,10 @@ tied_start codec limit = record {
   down_written = tt {0};
 }
 
-pub ends : (codec : Codec) (limit : ℕ) → limit < 65536 → (es : List ByteEvent) (b : ByteWorld) → Every IsTypedEvent es → run_bytes codec es (start_bytes limit) ≡ Ok b → Ends codec limit b (run (plain_events codec es (start_bytes limit)) (start limit))
+pub ends : (codec : Codec) (limit : ℕ) → limit < 65536 → (es : List ByteEvent) (b : ByteWorld) → Every IsTypedEvent es → run_bytes codec es (start_bytes limit) ≡ Ok b → Ends codec limit b (run_world (plain_events codec es (start_bytes limit)) (start limit))
 ends codec limit small es b f e = run_tied codec limit small es (start_bytes limit) (start limit) b f (inv_start limit) (holds_start IsTyped limit) (tied_start codec limit) e
 
-pub reduces : (codec : Codec) (limit : ℕ) → limit < 65536 → (es : List ByteEvent) (b : ByteWorld) → Every IsTypedEvent es → run_bytes codec es (start_bytes limit) ≡ Ok b → Reduces codec b (run (plain_events codec es (start_bytes limit)) (start limit))
+pub reduces : (codec : Codec) (limit : ℕ) → limit < 65536 → (es : List ByteEvent) (b : ByteWorld) → Every IsTypedEvent es → run_bytes codec es (start_bytes limit) ≡ Ok b → Reduces codec b (run_world (plain_events codec es (start_bytes limit)) (start limit))
 reduces codec limit small es b f e = (ends codec limit small es b f e).0.reduces
 
 -- ---- counts
@@ -134,11 +134,11 @@ fold_map g f k (x ∷ xs) = fold_map g f (g k (f x)) xs
 count_map : (test : Publish → Bool) (f : Publish → Publish) (xs : List Publish) → count_by test (map f xs) ≡ count_by (λ x. test (f x)) xs
 count_map test f xs = fold_map (λ a x. a + cond (test x) 1 0) f 0 xs
 
-losses_ups : (n : ℕ) → losses (often.times n plain.Up) ≡ 0
+losses_ups : (n : ℕ) → losses (often.so_often n plain.Up) ≡ 0
 losses_ups zero = refl
 losses_ups (suc n) = losses_ups n
 
-losses_downs : (n : ℕ) → losses (often.times n plain.Down) ≡ 0
+losses_downs : (n : ℕ) → losses (often.so_often n plain.Down) ≡ 0
 losses_downs zero = refl
 losses_downs (suc n) = losses_downs n
 
@@ -175,12 +175,12 @@ counts codec limit small es b c f e =
     let fs = plain_events codec es (start_bytes limit) in
     let test = after_norm c in
     let n = losses_plain codec es (start_bytes limit) b e in
-    let hand = handed_count codec b (run fs (start limit)) c r in
-    let accept = accepted_count codec b (run fs (start limit)) c r in
-    let store : times c (norms (stored_in b.session.core)) ≡ count_by test (stored_in (run fs (start limit)).session.core) = ap (λ s. times c (norms (stored_in s.core))) r.session ∙ count_map (has_content c) publish_norm (stored_in (run fs (start limit)).session.core) in
-    let wait : times c (norms (waiting_in b.session.core)) ≡ count_by test (waiting_in (run fs (start limit)).session.core) = ap (λ s. times c (norms (waiting_in s.core))) r.session ∙ count_map (has_content c) publish_norm (waiting_in (run fs (start limit)).session.core) in
-    let left : times c (norms (stored_without b.broker.ids b.session.core)) ≡ count_by test (stored_without (run fs (start limit)).broker.ids (run fs (start limit)).session.core) =
-    ap (λ (x : Broker). times c (norms (stored_without x.ids b.session.core))) r.broker ∙ ap (λ s. times c (norms (stored_without (run fs (start limit)).broker.ids s.core))) r.session ∙ count_map (has_content c) publish_norm (stored_without (run fs (start limit)).broker.ids (run fs (start limit)).session.core) in
+    let hand = handed_count codec b (run_world fs (start limit)) c r in
+    let accept = accepted_count codec b (run_world fs (start limit)) c r in
+    let store : times c (norms (stored_in b.session.core)) ≡ count_by test (stored_in (run_world fs (start limit)).session.core) = ap (λ s. times c (norms (stored_in s.core))) r.session ∙ count_map (has_content c) publish_norm (stored_in (run_world fs (start limit)).session.core) in
+    let wait : times c (norms (waiting_in b.session.core)) ≡ count_by test (waiting_in (run_world fs (start limit)).session.core) = ap (λ s. times c (norms (waiting_in s.core))) r.session ∙ count_map (has_content c) publish_norm (waiting_in (run_world fs (start limit)).session.core) in
+    let left : times c (norms (stored_without b.broker.ids b.session.core)) ≡ count_by test (stored_without (run_world fs (start limit)).broker.ids (run_world fs (start limit)).session.core) =
+    ap (λ (x : Broker). times c (norms (stored_without x.ids b.session.core))) r.broker ∙ ap (λ s. times c (norms (stored_without (run_world fs (start limit)).broker.ids s.core))) r.session ∙ count_map (has_content c) publish_norm (stored_without (run_world fs (start limit)).broker.ids (run_world fs (start limit)).session.core) in
     record {
       at_most_once = λ q. rw (hand, accept) (at_most test limit fs c.qos q (norm_class c c.qos refl));
       at_least_once = λ q. rw (hand, accept, store, wait) (at_least test limit fs c.qos q (norm_class c c.qos refl));

@@ -22,14 +22,14 @@ use Rattle.mqtt5_session.specs.Packets.{puback_of, pubrec_of, on_packet}
 use Rattle.mqtt5_session.specs.Resuming.{Sendings, resume_of}
 use Rattle.mqtt5_world.specs.declared.event.WorldEvent.TheVariants as plain
 use Rattle.mqtt5_world.specs.Broker.{Broker, Served, serve, serve_publish}
-use Rattle.mqtt5_world.specs.World.{World, asked, served, arrives, after_reply, takes, returns, taken_back, resumed, happens, run}
+use Rattle.mqtt5_world.specs.World.{World, after_request, after_serving, arrives, after_reply, takes_packet, returns, taken_back, after_resume, happens, run_world}
 use Rattle.mqtt5_streams.specs.declared.event.ByteEvent.{ByteEvent}
 use Rattle.mqtt5_streams.specs.declared.event.ByteEvent.TheVariants as events
 use Rattle.mqtt5_progress.specs.Packets.{IsAck, OfPublish, OfFirst, OfRelease, Every}
 use Rattle.mqtt5_streams.specs.Wire.{wire_of, bytes_of, IsWritable, IsTyped}
 use Rattle.mqtt5_streams.specs.Buffers.{Frames, Waits, Breaks, Takes, count}
-use Rattle.mqtt5_streams.specs.ByteWorld.{Way, clear, with_bytes, sent, reply_bytes, before, all_bytes, ByteWorld, Outcome, and_then, sends_up, sends_down, asked_bytes, served_bytes, arrived, go_up, heard_bytes, takes_bytes, returned, come_down, emptied, resumed_bytes, resumes_bytes, happens_bytes}
-use Rattle.mqtt5_streams.specs.Reduction.{times, as_events, norms, normed, frames_of, Reduces}
+use Rattle.mqtt5_streams.specs.ByteWorld.{Way, clear, with_bytes, sent, reply_wire, before, all_bytes, ByteWorld, Outcome, and_then, sends_up, sends_down, asked_bytes, served_bytes, arrived, go_up, heard_bytes, takes_bytes, returned, come_down, emptied, resumed_bytes, resumes_bytes, happens_bytes}
+use Rattle.mqtt5_streams.specs.Reduction.{so_often, as_events, norms, normed, frames_of, Reduces}
 use Rattle.mqtt5_streams.proofs.Wire.{wire}
 use Rattle.mqtt5_streams.proofs.Cuts.{AreCut, cuts}
 use Rattle.mqtt5_progress.proofs.Closed.{every_append, IsSent, APublish, ARelease}
@@ -73,7 +73,7 @@ every_map P R (x ∷ xs) f h = (f x h.0, every_map P R xs f h.1)
 abbrev pub IsWritten : Packet → Type 0
 IsWritten p = IsWritable None p
 
-reply_written : (limit : Option ℕ) (o : Option Packet) (bytes : List ℕ) → reply_bytes limit o ≡ Ok bytes → (bytes ≡ frames_of (option_to_list o)) × Every IsWritten (option_to_list o)
+reply_written : (limit : Option ℕ) (o : Option Packet) (bytes : List ℕ) → reply_wire limit o ≡ Ok bytes → (bytes ≡ frames_of (option_to_list o)) × Every IsWritten (option_to_list o)
 reply_written limit None bytes e = (sym (ok_one _ _ e), tt {0})
 reply_written limit (Some p) bytes e = let h = wire.written limit p bytes e in (h.0 ∙ sym (append-nil (wire_of p)), (h.1, tt {0}))
 
@@ -167,19 +167,19 @@ record ButDown (b : ByteWorld) (w : World) : Type 0 where
 module _ (codec : Codec) where
   -- ---- a request
 
-  asked_tied : (b : ByteWorld) (w : World) (p : Publish) (a : Result (Option Packet) StateError) (s : Session) (c : ByteWorld) → Tied codec b w → asked_bytes codec b p a s ≡ Ok c → Tied codec c (asked w p a s)
+  asked_tied : (b : ByteWorld) (w : World) (p : Publish) (a : Result (Option Packet) StateError) (s : Session) (c : ByteWorld) → Tied codec b w → asked_bytes codec b p a s ≡ Ok c → Tied codec c (after_request w p a s)
   asked_tied b w p (Err f) s c t e =
       let r = t.reduces in
-      subst (λ z. Tied codec z (asked w p (Err f) s)) (ok_one _ c e) (record {
+      subst (λ z. Tied codec z (after_request w p (Err f) s)) (ok_one _ c e) (record {
         reduces = record { session = refl; broker = r.broker; accepted = r.accepted; refused = ap (λ z. z ++ (p, f) ∷ []) r.refused; up = r.up; down = r.down; up_waits = r.up_waits; down_waits = r.down_waits };
         up_written = t.up_written;
         down_written = t.down_written;
       })
   asked_tied b w p (Ok o) s c t e =
       let r = t.reduces in
-      let u = up_ok (record b { session = s; accepted = b.accepted ++ p ∷ [] }) (reply_bytes codec.max_outgoing_size o) c e in
+      let u = up_ok (record b { session = s; accepted = b.accepted ++ p ∷ [] }) (reply_wire codec.max_outgoing_size o) c e in
       let h = reply_written codec.max_outgoing_size o u.0 u.1 in
-      subst (λ z. Tied codec z (asked w p (Ok o) s)) u.2 (record {
+      subst (λ z. Tied codec z (after_request w p (Ok o) s)) u.2 (record {
         reduces = record {
           session = refl;
           broker = r.broker;
@@ -196,14 +196,14 @@ module _ (codec : Codec) where
 
   -- ---- to the broker
 
-  served_on : (b : ByteWorld) (w : World) (x : Packet) (rest : List ℕ) (c : ByteWorld) → IsSent x → ButUp codec b w → arrived (record b { up = record { buffer = rest; stream = b.up.stream } }) (Ok (norm x)) ≡ Ok c → (ps : List Packet) → ButUp codec c (served (record w { up = ps }) (serve w.broker x)) × (c.up ≡ record { buffer = rest; stream = b.up.stream })
+  served_on : (b : ByteWorld) (w : World) (x : Packet) (rest : List ℕ) (c : ByteWorld) → IsSent x → ButUp codec b w → arrived (record b { up = record { buffer = rest; stream = b.up.stream } }) (Ok (norm x)) ≡ Ok c → (ps : List Packet) → ButUp codec c (after_serving (record w { up = ps }) (serve w.broker x)) × (c.up ≡ record { buffer = rest; stream = b.up.stream })
   served_on b w x rest c sends t e ps =
       let a = serve w.broker x in
       let b1 : ByteWorld = record b { up = record { buffer = rest; stream = b.up.stream } } in
       let same : serve b.broker (norm x) ≡ norm_served a = ap (λ z. serve z (norm x)) t.broker ∙ serve_norm w.broker x sends in
-      let u = down_ok (record b1 { broker = normed a.1 }) (reply_bytes None a.0) c (sym (ap (served_bytes b1) same) ∙ e) in
+      let u = down_ok (record b1 { broker = normed a.1 }) (reply_wire None a.0) c (sym (ap (served_bytes b1) same) ∙ e) in
       let h = reply_written None a.0 u.0 u.1 in
-      subst (λ z. ButUp codec z (served (record w { up = ps }) a) × (z.up ≡ record { buffer = rest; stream = b.up.stream })) u.2 (
+      subst (λ z. ButUp codec z (after_serving (record w { up = ps }) a) × (z.up ≡ record { buffer = rest; stream = b.up.stream })) u.2 (
         record {
           session = t.session;
           broker = refl;
@@ -216,7 +216,7 @@ module _ (codec : Codec) where
         refl,
       )
 
-  up_tied : (Broken : Type 0) (fs : Frames) (b : ByteWorld) (w : World) (c : ByteWorld) (ps : List Packet) → w.up ≡ ps → ButUp codec b w → AreCut None Broken fs b.up.buffer ps b.up.stream → Every IsWritten ps → Every IsSent ps → go_up fs b ≡ Ok c → Tied codec c (run (times (count fs) plain.Up) w)
+  up_tied : (Broken : Type 0) (fs : Frames) (b : ByteWorld) (w : World) (c : ByteWorld) (ps : List Packet) → w.up ≡ ps → ButUp codec b w → AreCut None Broken fs b.up.buffer ps b.up.stream → Every IsWritten ps → Every IsSent ps → go_up fs b ≡ Ok c → Tied codec c (run_world (so_often (count fs) plain.Up) w)
   up_tied Broken Waits b w c ps eq t cut wr se e =
       subst (λ z. Tied codec z w) (ok_one _ c e) (record {
         reduces = record {
@@ -238,17 +238,17 @@ module _ (codec : Codec) where
       let b1 : ByteWorld = record b { up = record { buffer = rest; stream = b.up.stream } } in
       let g = then_ok (arrived b1 (packet_in frame)) (go_up others) c e in
       let s = served_on b w x rest g.0 se.0 t (sym (ap (arrived b1) cut.0) ∙ g.1) ps in
-      let w1 = served (record w { up = ps }) (serve w.broker x) in
+      let w1 = after_serving (record w { up = ps }) (serve w.broker x) in
       let k : AreCut None Broken others g.0.up.buffer ps g.0.up.stream = subst (λ (z : Way). AreCut None Broken others z.buffer ps z.stream) (sym s.1) cut.1 in
       let r = up_tied Broken others g.0 w1 c ps refl s.0 k wr.1 se.1 g.2 in
-      subst (λ z. Tied codec c (run (times (count others) plain.Up) z)) (sym (ap (arrives w) eq)) r
+      subst (λ z. Tied codec c (run_world (so_often (count others) plain.Up) z)) (sym (ap (arrives w) eq)) r
 
   -- ---- to the client
 
   heard_on : (b : ByteWorld) (w : World) (a : Result (Option Packet) StateError) (s : Session) (c : ByteWorld) → ButDown b w → heard_bytes codec b a s ≡ Ok c → ButDown c (after_reply w a s) × (c.down ≡ b.down)
   heard_on b w (Err f) s c t e = absurd (not_ok _ c e)
   heard_on b w (Ok o) s c t e =
-      let u = up_ok (record b { session = s }) (reply_bytes codec.max_outgoing_size o) c e in
+      let u = up_ok (record b { session = s }) (reply_wire codec.max_outgoing_size o) c e in
       let h = reply_written codec.max_outgoing_size o u.0 u.1 in
       subst (λ z. ButDown z (after_reply w (Ok o) s) × (z.down ≡ b.down)) u.2 (
         record {
@@ -263,13 +263,13 @@ module _ (codec : Codec) where
         refl,
       )
 
-  taken_on : (b : ByteWorld) (w : World) (x : Packet) (c : ByteWorld) → ButDown b w → takes_bytes codec b x ≡ Ok c → ButDown c (takes w x) × (c.down ≡ b.down)
+  taken_on : (b : ByteWorld) (w : World) (x : Packet) (c : ByteWorld) → ButDown b w → takes_bytes codec b x ≡ Ok c → ButDown c (takes_packet w x) × (c.down ≡ b.down)
   taken_on b w x c t e = heard_on b w (on_packet w.session x 0).0 (on_packet w.session x 0).1 c t (sym (ap (λ s. heard_bytes codec b (on_packet s x 0).0 (on_packet s x 0).1) t.session) ∙ e)
 
   without_down : (b : ByteWorld) (w : World) (way : Way) (ds : List Packet) → ButDown b w → ButDown (record b { down = way }) (record w { down = ds })
   without_down b w way ds t = record { session = t.session; broker = t.broker; accepted = t.accepted; refused = t.refused; up = t.up; up_waits = t.up_waits; up_written = t.up_written }
 
-  down_tied : (Broken : Type 0) (fs : Frames) (b : ByteWorld) (w : World) (c : ByteWorld) (ds : List Packet) → w.down ≡ ds → ButDown b w → AreCut codec.max_incoming_size Broken fs b.down.buffer ds b.down.stream → Every IsWritten ds → Every IsAck ds → come_down codec fs b ≡ Ok c → Tied codec c (run (times (count fs) plain.Down) w)
+  down_tied : (Broken : Type 0) (fs : Frames) (b : ByteWorld) (w : World) (c : ByteWorld) (ds : List Packet) → w.down ≡ ds → ButDown b w → AreCut codec.max_incoming_size Broken fs b.down.buffer ds b.down.stream → Every IsWritten ds → Every IsAck ds → come_down codec fs b ≡ Ok c → Tied codec c (run_world (so_often (count fs) plain.Down) w)
   down_tied Broken Waits b w c ds eq t cut wr ac e =
       subst (λ z. Tied codec z w) (ok_one _ c e) (record {
         reduces = record {
@@ -295,17 +295,17 @@ module _ (codec : Codec) where
       let w0 : World = record w { down = ds } in
       let s = taken_on b1 w0 x g.0 (without_down b w way ds t) (sym (ap (returned codec b1) is) ∙ g.1) in
       let k : AreCut codec.max_incoming_size Broken others g.0.down.buffer ds g.0.down.stream = subst (λ (z : Way). AreCut codec.max_incoming_size Broken others z.buffer ds z.stream) (sym s.1) cut.1 in
-      let r = down_tied Broken others g.0 (takes w0 x) c ds (heard_left w0 (on_packet w.session x 0).0 (on_packet w.session x 0).1) s.0 k wr.1 ac.1 g.2 in
-      subst (λ z. Tied codec c (run (times (count others) plain.Down) z)) (sym (ap (returns w) eq)) r
+      let r = down_tied Broken others g.0 (takes_packet w0 x) c ds (heard_left w0 (on_packet w.session x 0).0 (on_packet w.session x 0).1) s.0 k wr.1 ac.1 g.2 in
+      subst (λ z. Tied codec c (run_world (so_often (count others) plain.Down) z)) (sym (ap (returns w) eq)) r
 
   -- ---- a loss
 
-  resumed_tied : (b : ByteWorld) (w : World) (r : Sendings) (c : ByteWorld) → ButDown b w → b.down ≡ clear → w.down ≡ [] → resumed_bytes codec b r ≡ Ok c → Tied codec c (resumed w r)
+  resumed_tied : (b : ByteWorld) (w : World) (r : Sendings) (c : ByteWorld) → ButDown b w → b.down ≡ clear → w.down ≡ [] → resumed_bytes codec b r ≡ Ok c → Tied codec c (after_resume w r)
   resumed_tied b w (Err f) c t none nothing e = absurd (not_ok _ c e)
   resumed_tied b w (Ok again) c t none nothing e =
       let u = up_ok (record b { session = again.1 }) (all_bytes codec.max_outgoing_size again.0) c e in
       let h = all_written codec.max_outgoing_size again.0 u.0 u.1 in
-      subst (λ z. Tied codec z (resumed w (Ok again))) u.2 (record {
+      subst (λ z. Tied codec z (after_resume w (Ok again))) u.2 (record {
         reduces = record {
           session = refl;
           broker = t.broker;
@@ -327,7 +327,7 @@ module _ (codec : Codec) where
       let g = then_ok (takes_bytes codec (emptied b) (taken_back m)) (resumes_bytes codec) c e in
       let start : ButDown (emptied b) lost = record { session = r.session; broker = r.broker; accepted = r.accepted; refused = r.refused; up = refl; up_waits = (2, wire.empty None); up_written = tt {0} } in
       let s = taken_on (emptied b) lost (taken_back m) g.0 start g.1 in
-      resumed_tied g.0 (takes lost (taken_back m)) (resume_of (takes lost (taken_back m)).session 0) c s.0 s.1 (heard_left lost (on_packet w.session (taken_back m) 0).0 (on_packet w.session (taken_back m) 0).1)
+      resumed_tied g.0 (takes_packet lost (taken_back m)) (resume_of (takes_packet lost (taken_back m)).session 0) c s.0 s.1 (heard_left lost (on_packet w.session (taken_back m) 0).0 (on_packet w.session (taken_back m) 0).1)
       (sym (ap (λ z. resumed_bytes codec g.0 (resume_of z 0)) s.0.session) ∙ g.2)
 
   -- ---- any event
@@ -335,7 +335,7 @@ module _ (codec : Codec) where
   pub moved_whole : (n : ℕ) (way : Way) → (with_bytes n way).buffer ++ (with_bytes n way).stream ≡ way.buffer ++ way.stream
   moved_whole n way = append_assoc way.buffer (take n way.stream) (drop n way.stream) ∙ ap (λ z. way.buffer ++ z) (take-append-drop n way.stream)
 
-  pub next_tied : (b : ByteWorld) (w : World) (e : ByteEvent) (c : ByteWorld) → Every IsTyped w.up → Every IsSent w.up → Every IsTyped w.down → Every IsAck w.down → Tied codec b w → happens_bytes codec b e ≡ Ok c → Tied codec c (run (as_events codec b e) w)
+  pub next_tied : (b : ByteWorld) (w : World) (e : ByteEvent) (c : ByteWorld) → Every IsTyped w.up → Every IsSent w.up → Every IsTyped w.down → Every IsAck w.down → Tied codec b w → happens_bytes codec b e ≡ Ok c → Tied codec c (run_world (as_events codec b e) w)
   next_tied b w (events.Publish p) c ut us dt da t e =
       asked_tied b w p (on_request w.session (requests.Publish p) 0).0 (on_request w.session (requests.Publish p) 0).1 c t
       (sym (ap (λ s. asked_bytes codec b p (on_request s (requests.Publish p) 0).0 (on_request s (requests.Publish p) 0).1) t.reduces.session) ∙ e)

@@ -7,7 +7,8 @@ use Rattle.mqtt5_streams.specs.declared.event.ByteEvent.{ByteEvent}
 use Rattle.mqtt5_streams.specs.ByteWorld.{ByteWorld, clear, start_bytes, run_bytes}
 
 -- a run without a fault, after which no byte is on its way
-pub record AllArrived (codec : Codec) (limit : ℕ) (es : List ByteEvent) (w : ByteWorld) : Type 0 where
+pub record AllArrived (codec : Codec) (limit : ℕ) (es : List ByteEvent) (w : ByteWorld) :
+    Type 0 where
   pub reached : run_bytes codec es (start_bytes limit) ≡ Ok w
   pub up : w.up.stream ≡ []
   pub down : w.down.stream ≡ []

@@ -4,7 +4,8 @@ use Rattle.mqtt5_base.specs.declared.error.Error.{Error}
 use Rattle.mqtt5_base.specs.Front.{Front, Bad, More, Whole}
 use Rattle.mqtt5_base.specs.FrontAt.{front}
 
--- whole frames, each with the bytes after it; then bytes that wait for more, or that can't be a frame
+-- whole frames, each with the bytes after it; then bytes that wait for more, or that can't be a
+-- frame
 pub data Frames : Type 0 where
   Waits : Frames
   Breaks : Error → Frames
@@ -17,13 +18,13 @@ cut_by (More n) go_on = Waits
 cut_by (Whole frame rest) go_on = Takes frame rest (go_on rest)
 
 -- so many frames at most
-abbrev pub cut_in : ℕ → Option ℕ → List ℕ → Frames
-cut_in zero limit bytes = Waits
-cut_in (suc n) limit bytes = cut_by (front limit bytes) (cut_in n limit)
+abbrev pub frames_in : ℕ → Option ℕ → List ℕ → Frames
+frames_in zero limit bytes = Waits
+frames_in (suc n) limit bytes = cut_by (front limit bytes) (frames_in n limit)
 
 -- all: each takes a byte at least
 unfoldable pub frames : Option ℕ → List ℕ → Frames
-frames limit bytes = cut_in (suc (length bytes)) limit bytes
+frames limit bytes = frames_in (suc (length bytes)) limit bytes
 
 -- how many they are
 abbrev pub count : Frames → ℕ

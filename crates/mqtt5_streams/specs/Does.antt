@@ -1,4 +1,5 @@
--- What a function that plays events over bytes answers, and what a report is of (MQTT 5.0 section 4.3).
+-- What a function that plays events over bytes answers, and what a report is of (MQTT 5.0 section
+-- 4.3).
 use Rattle.std.specs.Prelude.{◌≡◌, ℕ, List, Option, Result, Ok, Err, ◌⊎◌}
 use Rattle.mqtt5_base.specs.declared.error.Error.{Error}
 use Rattle.mqtt5_codec.specs.declared.codec.Codec.{Codec}
@@ -18,9 +19,10 @@ Does (Ok done) outcome w = outcome ≡ Ok w
 Does (Err e) outcome w = (e ≡ errors.OutOfMemory) ⊎ (outcome ≡ Err e)
 
 -- the bytes are sent; or memory was refused, or else this is why there are none
-abbrev pub Sends : Result Unit StateError → Result (List ℕ) Error → Way → Way → Type 0
-Sends (Ok done) value old new = (bytes : List ℕ) × (value ≡ Ok bytes) × (new ≡ sent old bytes)
-Sends (Err e) value old new = (e ≡ errors.OutOfMemory) ⊎ ((f : Error) × (value ≡ Err f) × (e ≡ state_error f))
+abbrev pub SendsBytes : Result Unit StateError → Result (List ℕ) Error → Way → Way → Type 0
+SendsBytes (Ok done) value old new = (bytes : List ℕ) × (value ≡ Ok bytes) × (new ≡ sent old bytes)
+SendsBytes (Err e) value old new =
+    (e ≡ errors.OutOfMemory) ⊎ ((f : Error) × (value ≡ Err f) × (e ≡ state_error f))
 
 -- a report of a world
 pub record IsByteReport (r : Report) (w : ByteWorld) : Type 0 where

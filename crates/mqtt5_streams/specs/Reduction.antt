@@ -1,5 +1,6 @@
 -- A run over bytes as a run over packets (MQTT 5.0 sections 4.2 to 4.4).
-use Rattle.std.specs.Prelude.{◌≡◌, ℕ, ◌≤◌, zero, suc, List, [], ◌∷◌, ◌++◌, map, Option, None, Result, Ok, Err, IfSome}
+use Rattle.std.specs.Prelude.{◌≡◌, ℕ, ◌≤◌, zero, suc, List, [], ◌∷◌, ◌++◌, map, Option, None}
+use Rattle.std.specs.Prelude.{Result, Ok, Err, IfSome}
 use Rattle.mqtt5_base.specs.Front.{Front, More, NeedsMore}
 use Rattle.mqtt5_base.specs.FrontAt.{front}
 use Rattle.mqtt5_publish.specs.declared.publish.Publish.{Publish}
@@ -24,15 +25,16 @@ use Rattle.mqtt5_streams.specs.ByteWorld.{ByteWorld, Outcome, with_bytes, happen
 -- ---- the events
 
 -- an event so often
-abbrev pub times : ℕ → WorldEvent → List WorldEvent
-times zero e = []
-times (suc n) e = e ∷ times n e
+abbrev pub so_often : ℕ → WorldEvent → List WorldEvent
+so_often zero e = []
+so_often (suc n) e = e ∷ so_often n e
 
 -- an event as those of the world of packets: one delivery for each frame that the bytes complete
 abbrev pub as_events : Codec → ByteWorld → ByteEvent → List WorldEvent
 as_events codec w (events.Publish p) = plain.Publish p ∷ []
-as_events codec w (events.Up n) = times (count (frames None (with_bytes n w.up).buffer)) plain.Up
-as_events codec w (events.Down n) = times (count (frames codec.max_incoming_size (with_bytes n w.down).buffer)) plain.Down
+as_events codec w (events.Up n) = so_often (count (frames None (with_bytes n w.up).buffer)) plain.Up
+as_events codec w (events.Down n) =
+    so_often (count (frames codec.max_incoming_size (with_bytes n w.down).buffer)) plain.Down
 as_events codec w (events.Loss m) = plain.Loss m ∷ []
 
 -- of the world after, if it is reached
@@ -43,7 +45,8 @@ unless_fault (Err e) go_on = []
 -- the events of a run, up to a fault
 abbrev pub plain_events : Codec → List ByteEvent → ByteWorld → List WorldEvent
 plain_events codec [] w = []
-plain_events codec (e ∷ es) w = as_events codec w e ++ unless_fault (happens_bytes codec w e) (plain_events codec es)
+plain_events codec (e ∷ es) w =
+    as_events codec w e ++ unless_fault (happens_bytes codec w e) (plain_events codec es)
 
 -- ---- the worlds
 
@@ -60,8 +63,8 @@ abbrev pub frames_of : List Packet → List ℕ
 frames_of [] = []
 frames_of (p ∷ ps) = wire_of p ++ frames_of ps
 
--- The world of bytes is that of packets, but the broker handed on norms: each buffer with its stream is the frames of the
--- packets on that way, and no frame in a buffer is whole.
+-- The world of bytes is that of packets, but the broker handed on norms: each buffer with its
+-- stream is the frames of the packets on that way, and no frame in a buffer is whole.
 pub record Reduces (codec : Codec) (b : ByteWorld) (w : World) : Type 0 where
   pub session : b.session ≡ w.session
   pub broker : b.broker ≡ normed w.broker
@@ -86,13 +89,15 @@ if_accepted (Err e) p = []
 
 -- the publish that an event has accepted, with its id
 abbrev pub taken_on : ByteWorld → ByteEvent → List Publish
-taken_on w (events.Publish p) = if_accepted (on_request w.session (requests.Publish p) 0).0 (numbered p.qos w.session.core p)
+taken_on w (events.Publish p) =
+    if_accepted (on_request w.session (requests.Publish p) 0).0 (numbered p.qos w.session.core p)
 taken_on w e = []
 
 -- those that a run has accepted, up to a fault
 abbrev pub all_taken_on : Codec → List ByteEvent → ByteWorld → List Publish
 all_taken_on codec [] w = []
-all_taken_on codec (e ∷ es) w = taken_on w e ++ unless_fault (happens_bytes codec w e) (all_taken_on codec es)
+all_taken_on codec (e ∷ es) w =
+    taken_on w e ++ unless_fault (happens_bytes codec w e) (all_taken_on codec es)
 
 -- each can be written under the outgoing limit
 abbrev pub AllWritable : Codec → List Publish → Type 0

@@ -4,7 +4,7 @@ ghost use Rattle.std.specs.Prelude.{◌≡◌, ◌<◌, ◌≤◌, ℕ, List, Ok
 ghost use Rattle.mqtt5_base.specs.declared.quality.QoS.TheVariants.{AtLeastOnce, ExactlyOnce};
 ghost use Rattle.mqtt5_publish.specs.declared.publish.Publish.{Publish};
 ghost use Rattle.mqtt5_codec.specs.declared.codec.Codec.{Codec};
-ghost use Rattle.mqtt5_world.specs.World.{start, run};
+ghost use Rattle.mqtt5_world.specs.World.{start, run_world};
 ghost use Rattle.mqtt5_world.specs.Delivery.{times};
 ghost use Rattle.mqtt5_streams.specs.declared.event.ByteEvent.{ByteEvent};
 ghost use Rattle.mqtt5_streams.specs.Wire.{IsWire};
@@ -25,7 +25,7 @@ pub fn reduction_law()
     ensures { (codec : Codec) (limit : ℕ) → limit < 65536
         → (events : List ByteEvent) (w : ByteWorld) → Every IsTypedEvent events
         → run_bytes codec events (start_bytes limit) ≡ Ok w
-        → Reduces codec w (run (plain_events codec events (start_bytes limit)) (start limit)) }
+        → Reduces codec w (run_world (plain_events codec events (start_bytes limit)) (start limit)) }
 {}
 
 /// A law, which does nothing when it is called: so each content is handed on as often as its QoS promises.

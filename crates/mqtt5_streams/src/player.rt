@@ -4,7 +4,7 @@ ghost use Rattle.std.specs.Prelude.{◌≡◌, ◌≢◌, ◌<◌, ◌≤◌, �
 ghost use Rattle.mqtt5_base.specs.declared.quality.QoS.TheVariants.{AtMostOnce, AtLeastOnce, ExactlyOnce};
 ghost use Rattle.mqtt5_publish.specs.declared.publish.Publish.{Publish};
 ghost use Rattle.mqtt5_codec.specs.declared.packet.Packet.TheVariants as packets;
-ghost use Rattle.mqtt5_world.specs.World.{start, run};
+ghost use Rattle.mqtt5_world.specs.World.{start, run_world};
 ghost use Rattle.mqtt5_world.specs.Delivery.{times, stored_in, waiting_in};
 ghost use Rattle.mqtt5_progress.specs.Progress.{IsIdle};
 ghost use Rattle.mqtt5_streams.specs.Wire.{IsTyped};
@@ -46,7 +46,7 @@ pub fn play_bytes(
     ensures reduction { (w : ByteWorld)
         → run_bytes (codec_of incoming outgoing) events.now (start_bytes limit) ≡ Ok w
         → Reduces (codec_of incoming outgoing) w
-        (run (plain_events (codec_of incoming outgoing) events.now (start_bytes limit))
+        (run_world (plain_events (codec_of incoming outgoing) events.now (start_bytes limit))
         (start limit)) }
     // So each content is, after norm, handed on as often as its QoS promises.
     ensures counts { (w : ByteWorld) (c : Publish)

@@ -3,8 +3,8 @@
 ghost use Rattle.std.specs.Prelude.{◌≡◌, ◌<◌, length, IfOk, IfSome, OnOk};
 ghost use Rattle.mqtt5_codec.specs.Codecs.{Decodes};
 ghost use Rattle.mqtt5_streams.specs.Wire.{bytes_of};
-ghost use Rattle.mqtt5_streams.specs.ByteWorld.{clear, with_bytes, reply_bytes, all_bytes};
-ghost use Rattle.mqtt5_streams.specs.Does.{Sends};
+ghost use Rattle.mqtt5_streams.specs.ByteWorld.{clear, with_bytes, reply_wire, all_bytes};
+ghost use Rattle.mqtt5_streams.specs.Does.{SendsBytes};
 
 use bytes::BytesMut;
 use mqtt5_base::Error;
@@ -79,7 +79,7 @@ impl Way {
     /// Sends a packet, under a limit on its frame.
     #[tactic(auto, unfolding(crate::specs::Wire::bytes_of))]
     pub fn send(&mut self, limit: Option<u32>, packet: &Packet) -> Result<(), StateError>
-        ensures { Sends result (bytes_of limit packet.now) self.old self.new }
+        ensures { SendsBytes result (bytes_of limit packet.now) self.old self.new }
     {
         let codec = Codec {
             max_incoming_size: None,
@@ -93,7 +93,7 @@ impl Way {
 
     /// Sends a reply, if there is one.
     pub fn reply(&mut self, limit: Option<u32>, reply: &Option<Packet>) -> Result<(), StateError>
-        ensures { Sends result (reply_bytes limit reply.now) self.old self.new }
+        ensures { SendsBytes result (reply_wire limit reply.now) self.old self.new }
     {
         match reply {
             Some(packet) => self.send(limit, packet),
@@ -103,7 +103,7 @@ impl Way {
 
     /// Sends packets.
     pub fn send_all(&mut self, limit: Option<u32>, packets: &[Packet]) -> Result<(), StateError>
-        ensures { Sends result (all_bytes limit packets.now) self.old self.new }
+        ensures { SendsBytes result (all_bytes limit packets.now) self.old self.new }
     {
         for packet in packets {
             self.send(limit, packet)?;

@@ -3,7 +3,7 @@
 ghost use Rattle.std.specs.Prelude.{◌≡◌, ◌<◌, ◌∷◌, ◌++◌, [], None, length, IfOk, IfErr, IfSome, OnOk, Ok};
 ghost use Rattle.mqtt5_codec.specs.Codecs.{Decodes};
 ghost use Rattle.mqtt5_streams.specs.declared.event.ByteEvent.TheVariants as events;
-ghost use Rattle.mqtt5_streams.specs.ByteWorld.{start_bytes, with_bytes, reply_bytes, sends_up, asks_bytes, arrived, drain_up, takes_bytes, drain_down, resumes_bytes, happens_bytes, run_bytes};
+ghost use Rattle.mqtt5_streams.specs.ByteWorld.{start_bytes, with_bytes, reply_wire, sends_up, asks_bytes, arrived, drain_up, takes_bytes, drain_down, resumes_bytes, happens_bytes, run_bytes};
 ghost use Rattle.mqtt5_streams.specs.Does.{Does};
 
 use crate::event::ByteEvent;
@@ -141,7 +141,7 @@ impl ByteWorld {
     ) -> Result<(), StateError>
         ensures { Does result
             (sends_up (record self.old { accepted = self.old.accepted ++ publish ∷ [] })
-            (reply_bytes codec.now.max_outgoing_size reply.now)) self.new }
+            (reply_wire codec.now.max_outgoing_size reply.now)) self.new }
     {
         self.accepted.push(publish)?;
         self.up.reply(codec.max_outgoing_size, reply)

@@ -2,9 +2,12 @@
 use Rattle.std.specs.Prelude.{ℕ, ◌==◌, List, [], ◌∷◌, map, option_map, if◌then◌else◌}
 use Rattle.mqtt5_base.specs.Grammar.{Found, Value, Group, optional, several, Content, number_in}
 use Rattle.mqtt5_base.specs.Texts.{text_of, Utf8}
-use Rattle.mqtt5_base.specs.FromValues.{qos_of, one_number, all_pairs, here_in, content_in, found_in}
+use Rattle.mqtt5_base.specs.FromValues.{qos_of, one_number, all_pairs, here_in, content_in}
+use Rattle.mqtt5_base.specs.FromValues.{found_in}
 use Rattle.mqtt5_subscribe.specs.declared.filter.RetainForwardRule.{RetainForwardRule}
-use Rattle.mqtt5_subscribe.specs.declared.filter.RetainForwardRule.TheVariants.{OnEverySubscribe, OnNewSubscribe, Never}
+use Rattle.mqtt5_subscribe.specs.declared.filter.RetainForwardRule.TheVariants.{OnEverySubscribe}
+use Rattle.mqtt5_subscribe.specs.declared.filter.RetainForwardRule.TheVariants.{OnNewSubscribe}
+use Rattle.mqtt5_subscribe.specs.declared.filter.RetainForwardRule.TheVariants.{Never}
 use Rattle.mqtt5_subscribe.specs.declared.filter.Filter.{Filter}
 use Rattle.mqtt5_subscribe.specs.declared.subscribe.SubscribeProperties.{SubscribeProperties}
 use Rattle.mqtt5_subscribe.specs.declared.subscribe.Subscribe.{Subscribe}
@@ -44,11 +47,18 @@ filter_of vs = record {
 
 -- the properties of their values
 abbrev pub subscribe_set : Found → SubscribeProperties
-subscribe_set f = record { id = one_number (here_in f 0); user_properties = all_pairs (here_in f 1) }
+subscribe_set f = record {
+  id = one_number (here_in f 0);
+  user_properties = all_pairs (here_in f 1);
+}
 
 -- the Subscribe of the row's values
 abbrev pub subscribe_of : Content → Subscribe
-subscribe_of c = record { pkid = number_in c.0 0; filters = map filter_of (items_in c.1); properties = option_map subscribe_set (found_in c.0 1) }
+subscribe_of c = record {
+  pkid = number_in c.0 0;
+  filters = map filter_of (items_in c.1);
+  properties = option_map subscribe_set (found_in c.0 1);
+}
 
 -- ---- SubAck
 
@@ -72,7 +82,11 @@ suback_reason_in vs = suback_reason (number_in vs 0)
 
 -- the SubAck of the row's values
 abbrev pub suback_of : Content → SubAck
-suback_of c = record { pkid = number_in c.0 0; return_codes = map suback_reason_in (items_in c.1); properties = option_map ack_set (found_in c.0 1) }
+suback_of c = record {
+  pkid = number_in c.0 0;
+  return_codes = map suback_reason_in (items_in c.1);
+  properties = option_map ack_set (found_in c.0 1);
+}
 
 -- ---- Unsubscribe
 
@@ -86,7 +100,11 @@ unsubscribe_set f = record { user_properties = all_pairs (here_in f 0) }
 
 -- the Unsubscribe of the row's values
 abbrev pub unsubscribe_of : Content → Unsubscribe
-unsubscribe_of c = record { pkid = number_in c.0 0; filters = map path_of (items_in c.1); properties = option_map unsubscribe_set (found_in c.0 1) }
+unsubscribe_of c = record {
+  pkid = number_in c.0 0;
+  filters = map path_of (items_in c.1);
+  properties = option_map unsubscribe_set (found_in c.0 1);
+}
 
 -- ---- UnsubAck
 
@@ -107,4 +125,8 @@ unsuback_reason_in vs = unsuback_reason (number_in vs 0)
 
 -- the UnsubAck of the row's values
 abbrev pub unsuback_of : Content → UnsubAck
-unsuback_of c = record { pkid = number_in c.0 0; reasons = map unsuback_reason_in (items_in c.1); properties = option_map ack_set (found_in c.0 1) }
+unsuback_of c = record {
+  pkid = number_in c.0 0;
+  reasons = map unsuback_reason_in (items_in c.1);
+  properties = option_map ack_set (found_in c.0 1);
+}

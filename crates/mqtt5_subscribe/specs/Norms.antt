@@ -17,7 +17,10 @@ subscribe_norm p = record p { properties = tidy subscribe_found p.properties }
 
 -- the same, and a failure is read as unspecified (3.9.3)
 abbrev pub suback_norm : SubAck → SubAck
-suback_norm p = record p { return_codes = map suback_settled p.return_codes; properties = tidy ack_found p.properties }
+suback_norm p = record p {
+  return_codes = map suback_settled p.return_codes;
+  properties = tidy ack_found p.properties;
+}
 
 -- the same as of a Subscribe
 abbrev pub unsubscribe_norm : Unsubscribe → Unsubscribe

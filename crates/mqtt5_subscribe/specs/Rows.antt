@@ -1,12 +1,18 @@
 -- The rows of Subscribe, SubAck, Unsubscribe and UnsubAck (MQTT 5.0 sections 3.8 to 3.11).
 use Rattle.std.specs.Prelude.{false, List, [], ◌∷◌}
-use Rattle.mqtt5_base.specs.declared.error.Error.TheVariants.{EmptySubscription, InvalidQoS, InvalidRetainForwardRule, InvalidSubscribeReasonCode, MalformedPacket}
-use Rattle.mqtt5_base.specs.Grammar.{u8, u16, text, Entry, single, several_of, Test, any_of, Field, one, checked, block, read, bits, always, Step, raw, note, judge, more, each, Row, there, bit_of, is_qos}
+use Rattle.mqtt5_base.specs.declared.error.Error.TheVariants.{EmptySubscription, InvalidQoS}
+use Rattle.mqtt5_base.specs.declared.error.Error.TheVariants.{InvalidRetainForwardRule}
+use Rattle.mqtt5_base.specs.declared.error.Error.TheVariants.{InvalidSubscribeReasonCode}
+use Rattle.mqtt5_base.specs.declared.error.Error.TheVariants.{MalformedPacket}
+use Rattle.mqtt5_base.specs.Grammar.{u8, u16, text, Entry, single, several_of, Test, any_of, Field}
+use Rattle.mqtt5_base.specs.Grammar.{one, checked, block, read, bits, always, Step, raw, note}
+use Rattle.mqtt5_base.specs.Grammar.{judge, more, each, Row, there, bit_of, is_qos}
 use Rattle.mqtt5_base.specs.AckSets.{ack_table}
 
 -- ---- what they share
 
--- the identifier, the properties, whether an item is wanted, and a field and steps again and again to the end (3.8 to 3.11)
+-- the identifier, the properties, whether an item is wanted, and a field and steps again and again
+-- to the end (3.8 to 3.11)
 abbrev pub listed_row : List Entry → List Step → Field → List Step → Row
 listed_row table wanted first others = record {
   steps = there (one u16) ∷ there (block table) ∷ wanted;
@@ -25,8 +31,8 @@ subscribe_table = single 11 ∷ several_of 38 ∷ []
 abbrev pub is_rule : Test
 is_rule = any_of (0 ∷ 1 ∷ 2 ∷ [])
 
--- The options behind a filter's path: retain handling and then the QoS are judged; QoS, no local, retain as published and
--- retain handling are kept. The two reserved bits are ignored (3.8.3.1).
+-- The options behind a filter's path: retain handling and then the QoS are judged; QoS, no local,
+-- retain as published and retain handling are kept. The two reserved bits are ignored (3.8.3.1).
 abbrev pub option_steps : List Step
 option_steps =
     raw u8
@@ -46,7 +52,9 @@ subscribe_row = listed_row subscribe_table (more EmptySubscription ∷ []) (one 
 
 -- one reason code at least, each of which is judged (3.9.3, 3.11.3)
 abbrev pub codes_row : Test → Row
-codes_row codes = listed_row ack_table (more MalformedPacket ∷ []) (checked u8 codes InvalidSubscribeReasonCode) []
+codes_row codes =
+    listed_row ack_table (more MalformedPacket ∷ []) (checked u8 codes InvalidSubscribeReasonCode)
+    []
 
 -- the reason codes of a SubAck (3.9.3)
 abbrev pub suback_codes : Test

@@ -29,7 +29,8 @@ suback_item r = just (plain (number (suback_code r)) ∷ [])
 
 -- a SubAck as it is written
 abbrev pub suback_packet : SubAck → WrittenPacket
-suback_packet p = listed_packet 144 p.pkid (option_map ack_found p.properties) (map suback_item p.return_codes)
+suback_packet p =
+    listed_packet 144 p.pkid (option_map ack_found p.properties) (map suback_item p.return_codes)
 
 -- the same reason as it is read: a failure has the code of an unspecified one
 abbrev pub suback_settled : SubscribeReasonCode → SubscribeReasonCode

@@ -1,12 +1,14 @@
 -- A Subscribe as the values of its row (MQTT 5.0 section 3.8).
-use Rattle.std.specs.Prelude.{ℕ, ◌+◌, ◌*◌, List, [], ◌∷◌, map, option_map, Result}
+use Rattle.std.specs.Prelude.{ℕ, ◌+◌, ◌*◌, List, [], ◌∷◌, map, option_map, Result, None}
 use Rattle.mqtt5_base.specs.declared.error.Error.{Error}
 use Rattle.mqtt5_base.specs.Grammar.{text, number, Found, plain, one, Group, several, Part, each}
 use Rattle.mqtt5_base.specs.Fields.{repeated}
 use Rattle.mqtt5_base.specs.Views.{qos_number, bit, numbers, pairs, text_atom}
 use Rattle.mqtt5_base.specs.Layout.{Written, WrittenPacket, all_kept, steps_writing}
 use Rattle.mqtt5_subscribe.specs.declared.filter.RetainForwardRule.{RetainForwardRule}
-use Rattle.mqtt5_subscribe.specs.declared.filter.RetainForwardRule.TheVariants.{OnEverySubscribe, OnNewSubscribe, Never}
+use Rattle.mqtt5_subscribe.specs.declared.filter.RetainForwardRule.TheVariants.{OnEverySubscribe}
+use Rattle.mqtt5_subscribe.specs.declared.filter.RetainForwardRule.TheVariants.{OnNewSubscribe}
+use Rattle.mqtt5_subscribe.specs.declared.filter.RetainForwardRule.TheVariants.{Never}
 use Rattle.mqtt5_subscribe.specs.declared.filter.Filter.{Filter}
 use Rattle.mqtt5_subscribe.specs.declared.subscribe.SubscribeProperties.{SubscribeProperties}
 use Rattle.mqtt5_subscribe.specs.declared.subscribe.Subscribe.{Subscribe}
@@ -23,7 +25,9 @@ rule_number Never = 2
 
 -- the byte of the options, whose reserved bits are 0 (3.8.3.1)
 abbrev pub filter_options : Filter → ℕ
-filter_options f = qos_number f.qos + 4 * bit f.nolocal + 8 * bit f.preserve_retain + 16 * rule_number f.retain_forward_rule
+filter_options f =
+    qos_number f.qos + 4 * bit f.nolocal + 8 * bit f.preserve_retain
+    + 16 * rule_number f.retain_forward_rule
 
 -- the path and the options; the byte is written, its bits are read
 abbrev pub filter_written : Filter → Written
@@ -52,10 +56,16 @@ filter_writing f = steps_writing (repeated (one text) option_steps) 0 (filter_wr
 
 -- ---- the packet
 
+-- the set without values (3.8.2.1)
+abbrev pub no_subscribe_properties : SubscribeProperties
+no_subscribe_properties = record { id = None; user_properties = [] }
+
 -- the values of the properties (3.8.2.1)
 abbrev pub subscribe_found : SubscribeProperties → Found
 subscribe_found s = numbers s.id ∷ pairs s.user_properties ∷ []
 
 -- a Subscribe as it is written; the first byte has a flag that is always set (3.8.1)
 abbrev pub subscribe_packet : Subscribe → WrittenPacket
-subscribe_packet p = listed_packet 130 p.pkid (option_map subscribe_found p.properties) (map filter_written p.filters)
+subscribe_packet p =
+    listed_packet 130 p.pkid (option_map subscribe_found p.properties)
+    (map filter_written p.filters)

@@ -24,4 +24,5 @@ unsuback_item r = just (plain (number (unsuback_code r)) ∷ [])
 
 -- an UnsubAck as it is written
 abbrev pub unsuback_packet : UnsubAck → WrittenPacket
-unsuback_packet p = listed_packet 176 p.pkid (option_map ack_found p.properties) (map unsuback_item p.reasons)
+unsuback_packet p =
+    listed_packet 176 p.pkid (option_map ack_found p.properties) (map unsuback_item p.reasons)

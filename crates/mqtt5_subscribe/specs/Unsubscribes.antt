@@ -12,10 +12,16 @@ use Rattle.mqtt5_subscribe.specs.Lists.{listed_packet}
 abbrev pub path_written : Utf8 → Written
 path_written t = just (plain (text_atom t) ∷ [])
 
+-- the set without values (3.10.2.1)
+abbrev pub no_unsubscribe_properties : UnsubscribeProperties
+no_unsubscribe_properties = record { user_properties = [] }
+
 -- the values of the properties (3.10.2.1)
 abbrev pub unsubscribe_found : UnsubscribeProperties → Found
 unsubscribe_found s = pairs s.user_properties ∷ []
 
 -- an Unsubscribe as it is written; the first byte has a flag that is always set (3.10.1)
 abbrev pub unsubscribe_packet : Unsubscribe → WrittenPacket
-unsubscribe_packet p = listed_packet 162 p.pkid (option_map unsubscribe_found p.properties) (map path_written p.filters)
+unsubscribe_packet p =
+    listed_packet 162 p.pkid (option_map unsubscribe_found p.properties)
+    (map path_written p.filters)

@@ -1,13 +1,13 @@
 //! A request for subscriptions.
 
-ghost use Rattle.std.specs.Prelude.{◌≡◌, ◌+◌, [], None, ◌∷◌, List, drop, length, min, IfOk, IfErr};
+ghost use Rattle.std.specs.Prelude.{◌≡◌, ◌+◌, [], ◌∷◌, List, drop, length, min, IfOk, IfErr};
 ghost use Rattle.std.specs.Iterator.{Drains, IsFinite};
 ghost use Rattle.mqtt5_base.specs.Answers.{Gives, ReadsRow};
 ghost use Rattle.mqtt5_base.specs.Reading.{values_in};
 ghost use Rattle.mqtt5_base.specs.Puts.{Writes};
 ghost use Rattle.mqtt5_base.specs.Layout.{layout, writing, content_of_packet};
 ghost use Rattle.mqtt5_subscribe.specs.Rows.{subscribe_table, subscribe_row};
-ghost use Rattle.mqtt5_subscribe.specs.Subscribes.{subscribe_found, subscribe_packet};
+ghost use Rattle.mqtt5_subscribe.specs.Subscribes.{subscribe_found, subscribe_packet, no_subscribe_properties};
 
 use crate::filter::Filter;
 use crate::list_body::{listed_size, read_some, write_some};
@@ -29,7 +29,7 @@ pub struct SubscribeProperties {
 impl SubscribeProperties {
     /// The set without values. Takes no memory.
     pub fn new(alloc: Global) -> SubscribeProperties
-        ensures { result ≡ record { id = None; user_properties = [] } }
+        ensures { result ≡ no_subscribe_properties }
     {
         SubscribeProperties {
             id: None,

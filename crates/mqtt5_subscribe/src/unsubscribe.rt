@@ -8,7 +8,7 @@ ghost use Rattle.mqtt5_base.specs.Reading.{values_in};
 ghost use Rattle.mqtt5_base.specs.Puts.{Writes};
 ghost use Rattle.mqtt5_base.specs.Layout.{layout, writing, content_of_packet};
 ghost use Rattle.mqtt5_subscribe.specs.Rows.{unsubscribe_table, unsubscribe_row};
-ghost use Rattle.mqtt5_subscribe.specs.Unsubscribes.{path_written, unsubscribe_found, unsubscribe_packet};
+ghost use Rattle.mqtt5_subscribe.specs.Unsubscribes.{path_written, unsubscribe_found, unsubscribe_packet, no_unsubscribe_properties};
 
 use crate::list_body::{listed_size, writable_len, write_listed};
 use crate::listed::{Listed, read_list};
@@ -29,7 +29,7 @@ pub struct UnsubscribeProperties {
 impl UnsubscribeProperties {
     /// The set without values. Takes no memory.
     pub fn new(alloc: Global) -> UnsubscribeProperties
-        ensures { result ≡ record { user_properties = [] } }
+        ensures { result ≡ no_unsubscribe_properties }
     {
         UnsubscribeProperties {
             user_properties: Sequence::new(alloc),

@@ -6,7 +6,7 @@ use Rattle.std.specs.Prelude.{Option, OnOk}
 use Rattle.mqtt5_inflight.specs.declared.event.Request.{Request}
 use Rattle.mqtt5_session.specs.Session.{Session}
 use Rattle.mqtt5_drive.specs.Run.{piece}
-use Rattle.mqtt5_drive.specs.Limit.{allowed}
+use Rattle.mqtt5_drive.specs.Limit.{codec_after}
 use Rattle.mqtt5_client.specs.declared.client.Client.{Client}
 use Rattle.mqtt5_pipe.specs.declared.error.PipeError.{PipeError}
 use Rattle.mqtt5_pipe.specs.Pipe.{Leaves}
@@ -41,13 +41,13 @@ join p q r said said' came came' sent sent' t (Takes s c b x u) =
 
 -- a turn
 heard : {T : Type 0} (result : Result T PipeError) (p : Client) (at : ℕ) (came sent : List ℕ) (q : Client) → Leaves result p (piece at came ∷ []) sent q
-    → q.codec ≡ allowed (drop (length p.state.events) q.state.events) p.codec → Heard p at came sent q
+    → q.codec ≡ codec_after (drop (length p.state.events) q.state.events) p.codec → Heard p at came sent q
 heard (Ok x) p at came sent q h k = (inl h.0, k)
 heard (Err fault) p at came sent q h k = (inr (fault, h), k)
 
 pub as_turned : {T : Type 0} (a b x y : Option (List ℕ)) (result : Result T PipeError) (p q : Client) (came sent : List ℕ)
     → Consumes a b came → Appends x y sent → Leaves result p (piece 0 came ∷ []) sent q
-    → q.codec ≡ allowed (drop (length p.state.events) q.state.events) p.codec → Talked a b x y p [] q
+    → q.codec ≡ codec_after (drop (length p.state.events) q.state.events) p.codec → Talked a b x y p [] q
 as_turned a b x y result p q came sent consumed appended h k =
     record { came = came; sent = sent; consumed = consumed; appended = appended; talks = Hears [] [] [] came sent p q 0 Begins (heard result p 0 came sent q h k) }
 

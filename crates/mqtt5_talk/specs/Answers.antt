@@ -1,5 +1,6 @@
 -- What the broker's answers say, and what the user answers.
-use Rattle.std.specs.Prelude.{◌≡◌, ℕ, List, [], ◌∷◌, ◌++◌, Option, Some, None, ⊤}
+use Rattle.std.specs.Prelude.{◌≡◌, ℕ, List, [], ◌∷◌, ◌++◌, length, Option, Some, None, Result, IfOk}
+use Rattle.std.specs.Prelude.{⊤}
 use Rattle.mqtt5_base.specs.declared.quality.QoS.{QoS}
 use Rattle.mqtt5_base.specs.declared.quality.QoS.TheVariants as quality
 use Rattle.mqtt5_publish.specs.declared.publish.Publish.{Publish}
@@ -13,17 +14,22 @@ use Rattle.mqtt5_inflight.specs.declared.event.Request.TheVariants as requests
 use Rattle.mqtt5_inflight.specs.declared.event.Request.{Request}
 use Rattle.mqtt5_subscribe.specs.declared.suback.SubscribeReasonCode.{SubscribeReasonCode}
 use Rattle.mqtt5_subscribe.specs.declared.suback.SubscribeReasonCode.TheVariants as subscribes
-use Rattle.mqtt5_talk.specs.Conversation.{Saying, Asks}
+use Rattle.mqtt5_client.specs.declared.client.Client.{Client}
+use Rattle.mqtt5_talk.specs.declared.error.TalkError.{TalkError}
+use Rattle.mqtt5_talk.specs.Conversation.{Saying, Asks, SendsOnly}
 
 -- the first event is a ConnAck (MQTT 5.0 section 3.2)
 abbrev pub IsAnswered : List Event → Type 0
-IsAnswered told = (ack : ConnAck) × (rest : List Event) × (told ≡ events.Incoming (packets.ConnAck ack) ∷ rest)
+IsAnswered told =
+    (ack : ConnAck) × (rest : List Event) × (told ≡ events.Incoming (packets.ConnAck ack) ∷ rest)
 
 -- the answer to a message by its QoS: none, a PubAck or a PubRec, with Success (4.3)
 abbrev pub ack_under : QoS → ℕ → List Saying
 ack_under quality.AtMostOnce id = []
-ack_under quality.AtLeastOnce id = Asks (requests.PubAck (record { pkid = id; reason = reasons.Success; properties = None })) ∷ []
-ack_under quality.ExactlyOnce id = Asks (requests.PubRec (record { pkid = id; reason = reasons.Success; properties = None })) ∷ []
+ack_under quality.AtLeastOnce id =
+    Asks (requests.PubAck (record { pkid = id; reason = reasons.Success; properties = None })) ∷ []
+ack_under quality.ExactlyOnce id =
+    Asks (requests.PubRec (record { pkid = id; reason = reasons.Success; properties = None })) ∷ []
 
 abbrev pub ack_of : Publish → List Saying
 ack_of p = ack_under p.qos p.pkid
@@ -41,6 +47,14 @@ ShowsAll {S} shows s (p ∷ ps) t = (next : S) × shows s p next × ShowsAll sho
 -- a screen to which these messages were shown, in order, and maybe more after them
 abbrev pub Showed : {S : Type 0} → (S → Publish → S → Type 0) → S → List Publish → Type 0
 Showed {S} shows s ps = (t : S) × ShowsAll shows s ps t
+
+-- Messages were shown, in order, and nothing is said but their acks; after Ok those are all that
+-- were shown, and so many as is said of their number and of the answer.
+abbrev pub Acknowledges : {S : Type 0} → (S → Publish → S → Type 0) → (ℕ → ℕ → Type 0)
+    → Result ℕ TalkError → (held written : Option (List ℕ)) → (p q : Client) → (s t : S) → Type 0
+Acknowledges shows AreSoMany result held written p q s t =
+    (ps : List Publish) × SendsOnly held written p (acks_of ps) q × Showed shows s ps
+    × IfOk result (λ n. ShowsAll shows s ps t × AreSoMany (length ps) n)
 
 -- why a message is refused, if it is (3.4.2.1, 3.5.2.1)
 abbrev pub refusal_by : PubAckReason → Option PubAckReason

@@ -7,7 +7,8 @@ use Rattle.mqtt5_pipe.specs.declared.error.PipeError.TheVariants as faults
 use Rattle.mqtt5_talk.specs.declared.error.TalkError.{TalkError}
 use Rattle.mqtt5_talk.specs.declared.error.TalkError.TheVariants.{Refused, Ended, Failed}
 
--- what the broker said, where it refused the connection (MQTT 5.0 section 3.2.2.2) or ended it (3.14.2.1)
+-- what the broker said, where it refused the connection (MQTT 5.0 section 3.2.2.2) or ended it
+-- (3.14.2.1)
 abbrev pub broker_said : StateError → Option TalkError
 broker_said (errors.ConnFail reason) = Some (Refused reason)
 broker_said (errors.ServerDisconnect reason text) = Some (Ended reason)

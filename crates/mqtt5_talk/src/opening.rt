@@ -5,7 +5,7 @@ ghost use Rattle.std.specs.Io.KnownBytes.{Consumes, IsAtEnd};
 ghost use Rattle.std.specs.declared.io.Error.{Error as IoError};
 ghost use Rattle.mqtt5_pipe.specs.declared.error.PipeError.TheVariants as faults;
 ghost use Rattle.mqtt5_inflight.specs.declared.event.Request.TheVariants.{Disconnect};
-ghost use Rattle.mqtt5_drive.specs.Limit.{allowed};
+ghost use Rattle.mqtt5_drive.specs.Limit.{codec_after};
 ghost use Rattle.mqtt5_client.specs.Client.{IsReady};
 ghost use Rattle.mqtt5_talk.specs.declared.error.TalkError.TheVariants.{Failed};
 ghost use Rattle.mqtt5_talk.specs.Answers.{IsAnswered};
@@ -34,7 +34,7 @@ pub fn open<R: Read, W: Write>(
         × OnOk result (said ≡ Opens connect.now ∷ []) }
     ensures answered { OnOk result (IsAnswered client.new.state.events) }
     ensures limit { OnOk result
-        (client.new.codec ≡ allowed client.new.state.events client.old.codec) }
+        (client.new.codec ≡ codec_after client.new.state.events client.old.codec) }
     // So another call may follow.
     ensures ready { OnOk result (IsReady client.new) }
 {
@@ -58,7 +58,7 @@ fn start<R: Read, W: Write>(
         (W.contents writer.old) (W.contents writer.new) client.old [] client.new }
     ensures answered { OnOk result (IsAnswered client.new.state.events) }
     ensures limit { OnOk result
-        (client.new.codec ≡ allowed client.new.state.events client.old.codec) }
+        (client.new.codec ≡ codec_after client.new.state.events client.old.codec) }
     ensures ready { OnOk result (IsReady client.new) }
 {
     send(client, writer)?;
@@ -77,7 +77,7 @@ fn await_answer<R: Read, W: Write>(
         (W.contents writer.old) (W.contents writer.new) client.old [] client.new }
     ensures answered { OnOk result (IsAnswered client.new.state.events) }
     ensures limit { OnOk result
-        (client.new.codec ≡ allowed client.new.state.events client.old.codec) }
+        (client.new.codec ≡ codec_after client.new.state.events client.old.codec) }
     ensures ready { OnOk result (IsReady client.new) }
 {
     for _ in 0..u64::MAX {
@@ -118,7 +118,7 @@ pub(crate) fn hear<R: Read, W: Write>(
     ensures talked { Talked (R.remaining reader.old) (R.remaining reader.new)
         (W.contents writer.old) (W.contents writer.new) client.old [] client.new }
     ensures codec { client.new.codec
-        ≡ allowed (drop (length client.old.state.events) client.new.state.events) client.old.codec }
+        ≡ codec_after (drop (length client.old.state.events) client.new.state.events) client.old.codec }
     ensures ready { OnOk result (IsReady client.new) }
 {
     match turn(client, 0, reader, writer) {

@@ -6,7 +6,7 @@ ghost use Rattle.mqtt5_publish.specs.declared.publish.Publish.{Publish as Messag
 ghost use Rattle.mqtt5_inflight.specs.declared.event.Request.TheVariants.{Subscribe as OfSubscribe};
 ghost use Rattle.mqtt5_client.specs.Client.{IsReady};
 ghost use Rattle.mqtt5_talk.specs.Conversation.{Asks, Talked, SendsOnly};
-ghost use Rattle.mqtt5_talk.specs.Answers.{ack_of, acks_of, asked_by, ShowsAll, Showed, IsSuccess};
+ghost use Rattle.mqtt5_talk.specs.Answers.{ack_of, acks_of, asked_by, ShowsAll, Showed, Acknowledges, IsSuccess};
 
 use crate::error::TalkError;
 use crate::opening::{ask, endless, hear};
@@ -113,11 +113,9 @@ fn show_events<W: Write, S: Screen>(
     writer: &mut W,
 ) -> Result<u64, TalkError>
     requires ready { IsReady client.old }
-    ensures told { (ps : List Message) × SendsOnly (W.contents writer.old)
-        (W.contents writer.new) client.old (acks_of ps) client.new
-        × Showed S.shows screen.old ps
-        × IfOk result (λ left. ShowsAll S.shows screen.old ps screen.new
-        × (length ps + left ≡ count)) }
+    ensures told { Acknowledges S.shows (λ shown left. shown + left ≡ count) result
+        (W.contents writer.old) (W.contents writer.new) client.old client.new screen.old
+        screen.new }
     ensures ready { OnOk result (IsReady client.new) }
 {
     let mut left = count;
@@ -137,10 +135,8 @@ fn take_first<W: Write, S: Screen>(
     writer: &mut W,
 ) -> Result<u64, TalkError>
     requires ready { IsReady client.old }
-    ensures told { (ps : List Message) × SendsOnly (W.contents writer.old)
-        (W.contents writer.new) client.old (acks_of ps) client.new
-        × Showed S.shows screen.old ps
-        × IfOk result (λ shown. ShowsAll S.shows screen.old ps screen.new × (length ps ≡ shown)) }
+    ensures told { Acknowledges S.shows (λ shown n. shown ≡ n) result (W.contents writer.old)
+        (W.contents writer.new) client.old client.new screen.old screen.new }
     ensures most { IfOk result (λ shown. shown ≤ 1) }
     ensures ready { OnOk result (IsReady client.new) }
 {
@@ -161,10 +157,8 @@ fn take_event<W: Write, S: Screen>(
     writer: &mut W,
 ) -> Result<u64, TalkError>
     requires ready { IsReady client.old }
-    ensures told { (ps : List Message) × SendsOnly (W.contents writer.old)
-        (W.contents writer.new) client.old (acks_of ps) client.new
-        × Showed S.shows screen.old ps
-        × IfOk result (λ shown. ShowsAll S.shows screen.old ps screen.new × (length ps ≡ shown)) }
+    ensures told { Acknowledges S.shows (λ shown n. shown ≡ n) result (W.contents writer.old)
+        (W.contents writer.new) client.old client.new screen.old screen.new }
     ensures most { IfOk result (λ shown. shown ≤ 1) }
     ensures ready { OnOk result (IsReady client.new) }
 {
@@ -201,10 +195,8 @@ fn show<W: Write, S: Screen>(
     writer: &mut W,
 ) -> Result<u64, TalkError>
     requires ready { IsReady client.old }
-    ensures told { (ps : List Message) × SendsOnly (W.contents writer.old)
-        (W.contents writer.new) client.old (acks_of ps) client.new
-        × Showed S.shows screen.old ps
-        × IfOk result (λ shown. ShowsAll S.shows screen.old ps screen.new × (length ps ≡ shown)) }
+    ensures told { Acknowledges S.shows (λ shown n. shown ≡ n) result (W.contents writer.old)
+        (W.contents writer.new) client.old client.new screen.old screen.new }
     ensures most { IfOk result (λ shown. shown ≤ 1) }
     ensures ready { OnOk result (IsReady client.new) }
 {

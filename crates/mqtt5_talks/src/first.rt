@@ -3,7 +3,7 @@
 ghost use Rattle.std.specs.Prelude.{◌≡◌, ◌⊎◌, [], ◌∷◌, drop, length, IfOk, IfErr, OnOk, OnErr};
 ghost use Rattle.std.specs.FinMap as map;
 ghost use Rattle.mqtt5_inflight.specs.declared.event.Request.TheVariants as requests;
-ghost use Rattle.mqtt5_drive.specs.Limit.{allowed};
+ghost use Rattle.mqtt5_drive.specs.Limit.{codec_after};
 ghost use Rattle.mqtt5_drive.specs.Run.{piece};
 ghost use Rattle.mqtt5_client.specs.Asked.{NotAsked};
 ghost use Rattle.mqtt5_client.specs.Client.{IsReady, Runs, Fails, asking};
@@ -39,7 +39,7 @@ pub fn hear(client: &mut Client, bytes: &[u8]) -> Result<u16, StateError>
     ensures heard { OnOk result (Runs client.old (piece 2 bytes.now ∷ []) [] client.new) }
     ensures err { IfErr result (λ e. Fails e client.old (piece 2 bytes.now ∷ []) [] client.new) }
     ensures codec { client.new.codec
-        ≡ allowed (drop (length client.old.state.events) client.new.state.events) client.old.codec }
+        ≡ codec_after (drop (length client.old.state.events) client.new.state.events) client.old.codec }
     ensures lost { OnErr result (client.new.input.items ≡ []) }
     ensures over { client.new.disconnected ≡ client.old.disconnected }
     ensures awaited { IfOk result (λ count. count ≡ map.len client.new.state.core.in_use) }

@@ -75,10 +75,7 @@ fn drive_steps(
     written: &mut BytesMut,
     steps: &[Step],
 ) -> Result<(), StateError> {
-    let mut codec = Codec {
-        max_incoming_size: None,
-        max_outgoing_size: None,
-    };
+    let mut codec = Codec::new();
     let mut input = BytesMut::new(alloc);
     empty_needs_more();
     drive(alloc, state, &mut codec, &mut input, written, steps)

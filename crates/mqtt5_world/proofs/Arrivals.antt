@@ -10,10 +10,10 @@ use Rattle.mqtt5_codec.specs.declared.packet.Packet.{Packet}
 use Rattle.mqtt5_codec.specs.declared.packet.Packet.TheVariants as packets
 use Rattle.mqtt5_inflight.specs.declared.slot.Slot.{Slot}
 use Rattle.mqtt5_inflight.specs.declared.slot.Slot.TheVariants.{Sent, Released}
-use Rattle.mqtt5_inflight.proofs.Within.{Fits, IsUsed}
+use Rattle.mqtt5_inflight.proofs.Exports.{Fits, IsUsed}
 use Rattle.mqtt5_session.specs.Packets.{puback_of, pubrec_of, pubcomp_of}
 use Rattle.mqtt5_world.specs.Broker.{serve, serve_publish, reason_for}
-use Rattle.mqtt5_world.specs.World.{World, served, arrives}
+use Rattle.mqtt5_world.specs.World.{World, after_serving, arrives}
 use Rattle.mqtt5_world.specs.Delivery.{is_acked, is_token_up, is_token_down, PubAckDown, PubRecDown, PubCompDown}
 use Rattle.mqtt5_world.proofs.Places.{view_of, place, TokenAt, then_turn, add_id, take_id, push_down, pop_up, publish_token, token_here, front_none}
 use Rattle.mqtt5_world.proofs.Tokens.{once_up, twice_up, release_up, goes_up, place_up}
@@ -32,7 +32,7 @@ stays : (w w' : World) → Inv w → w'.session ≡ w.session → w'.faults ≡ 
 stays w w' i e f =
     subst (λ s. Stays w (record w' { session = s })) (sym e) (record { sound = i.sound; limit = refl; max = refl; none = f ∙ i.none; waits = i.waits })
 
-publish_step : (w : World) (p : Publish) (rest : List Packet) (q : QoS) → p.qos ≡ q → w.up ≡ packets.Publish p ∷ rest → Inv w → Step w (served (record w { up = rest }) (serve_publish q w.broker p))
+publish_step : (w : World) (p : Publish) (rest : List Packet) (q : QoS) → p.qos ≡ q → w.up ≡ packets.Publish p ∷ rest → Inv w → Step w (after_serving (record w { up = rest }) (serve_publish q w.broker p))
 publish_step w p rest AtMostOnce e u i =
     quiet_step w _ i
     (record {
@@ -154,7 +154,7 @@ publish_step w p rest ExactlyOnce e u i =
         let n = ap one (and_no (test p)) in
         omega (arith, a, y, n)
 
-release_step : (w : World) (a : PubRel) (rest : List Packet) → w.up ≡ packets.PubRel a ∷ rest → Inv w → Step w (served (record w { up = rest }) (serve w.broker (packets.PubRel a)))
+release_step : (w : World) (a : PubRel) (rest : List Packet) → w.up ≡ packets.PubRel a ∷ rest → Inv w → Step w (after_serving (record w { up = rest }) (serve w.broker (packets.PubRel a)))
 release_step w a rest u i =
     let t1 = pop_up x rest (λ j. refl) u at in
     let t2 = take_id t1.after in

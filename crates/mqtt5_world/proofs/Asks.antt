@@ -12,9 +12,8 @@ use Rattle.mqtt5_inflight.specs.declared.event.Outgoing.TheVariants as outgoing
 use Rattle.mqtt5_inflight.specs.declared.error.StateError.{StateError}
 use Rattle.mqtt5_session.specs.Session.{Answer}
 use Rattle.mqtt5_session.specs.Requests.{on_request, Verdict, Refuse, Wait, Store, out_acked, out_once, out_publish, unless, over_maximum, alias_fault, id_for, last_after, with_event_at}
-use Rattle.mqtt5_session.proofs.Owed.{Judges, judges}
-use Rattle.mqtt5_session.proofs.Keeps.{Sound, out_sound, id_positive}
-use Rattle.mqtt5_world.specs.World.{World, asked, asks}
+use Rattle.mqtt5_session.proofs.Exports.{Judges, judges, Sound, out_sound, id_positive}
+use Rattle.mqtt5_world.specs.World.{World, after_request, asks}
 use Rattle.mqtt5_world.specs.Delivery.{is_acked, is_token_up}
 use Rattle.mqtt5_world.proofs.Places.{View, view_of, place, TokenAt, then_turn, set_slot, push_up, publish_token, back_none}
 use Rattle.mqtt5_world.proofs.Tokens.{none_free, stored_token}
@@ -57,7 +56,7 @@ module _ (w : World) (i : Inv w) (p : Publish) (id last : ℕ) (low : 0 < id) (a
   abbrev with_id : Publish
   with_id = record p { pkid = id }
 
-  identified_step : (v : Verdict) → Judges w.session.core with_id v → Sound (out_acked v w.session with_id last 0).1.core → Step w (asked w p (out_acked v w.session with_id last 0).0 (out_acked v w.session with_id last 0).1)
+  identified_step : (v : Verdict) → Judges w.session.core with_id v → Sound (out_acked v w.session with_id last 0).1.core → Step w (after_request w p (out_acked v w.session with_id last 0).0 (out_acked v w.session with_id last 0).1)
   identified_step (Refuse e) told sound = refused_step w (w.refused ++ (p, e) ∷ []) i
   identified_step Wait told sound =
       quiet_step w _ i
@@ -106,13 +105,13 @@ module _ (w : World) (i : Inv w) (p : Publish) (id last : ℕ) (low : 0 < id) (a
       })
 
 -- a publish of QoS 0
-once_step : (w : World) (p : Publish) → p.qos ≡ AtMostOnce → Inv w → Step w (asked w p (out_once w.session p 0).0 (out_once w.session p 0).1)
+once_step : (w : World) (p : Publish) → p.qos ≡ AtMostOnce → Inv w → Step w (after_request w p (out_once w.session p 0).0 (out_once w.session p 0).1)
 once_step w p e i = by (over_maximum w.session.core p)
   where
     sent : Answer
     sent = (Ok (Some (packets.Publish p)), with_event_at w.session (outgoing.Publish p.pkid) 0)
 
-    by : (o : Option StateError) → Step w (asked w p (unless o w.session sent).0 (unless o w.session sent).1)
+    by : (o : Option StateError) → Step w (after_request w p (unless o w.session sent).0 (unless o w.session sent).1)
     by (Some f) = refused_step w (w.refused ++ (p, f) ∷ []) i
     by None =
         quiet_step w _ i
@@ -130,7 +129,7 @@ once_step w p e i = by (over_maximum w.session.core p)
               omega (arith, a, n);
         })
 
-ask_as : (w : World) (p : Publish) (q : QoS) → p.qos ≡ q → Inv w → Sound (out_publish q w.session p 0).1.core → Step w (asked w p (out_publish q w.session p 0).0 (out_publish q w.session p 0).1)
+ask_as : (w : World) (p : Publish) (q : QoS) → p.qos ≡ q → Inv w → Sound (out_publish q w.session p 0).1.core → Step w (after_request w p (out_publish q w.session p 0).0 (out_publish q w.session p 0).1)
 ask_as w p AtMostOnce e i sound = once_step w p e i
 ask_as w p AtLeastOnce e i sound = identified_step w i p (id_for w.session.core p.pkid) (last_after w.session.core p.pkid) (id_positive w.session.core p.pkid) (ap is_acked e) _ (judges w.session.core (record p { pkid = id_for w.session.core p.pkid })) sound
 ask_as w p ExactlyOnce e i sound = identified_step w i p (id_for w.session.core p.pkid) (last_after w.session.core p.pkid) (id_positive w.session.core p.pkid) (ap is_acked e) _ (judges w.session.core (record p { pkid = id_for w.session.core p.pkid })) sound

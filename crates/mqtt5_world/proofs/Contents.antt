@@ -18,7 +18,7 @@ use Rattle.mqtt5_inflight.specs.InUse.{InUse, awaiting_ack}
 use Rattle.mqtt5_inflight.specs.Unacked.{by_id}
 use Rattle.mqtt5_world.specs.declared.event.WorldEvent.{WorldEvent}
 use Rattle.mqtt5_world.specs.declared.event.Report.{Report}
-use Rattle.mqtt5_world.specs.World.{World, start, run, losses}
+use Rattle.mqtt5_world.specs.World.{World, start, run_world, losses}
 use Rattle.mqtt5_world.specs.Happens.{IsReport}
 use Rattle.mqtt5_world.specs.Delivery.{IsClass, stored_in, stored_without, waiting_in, has_content, times}
 use Rattle.mqtt5_world.proofs.Step.{one, is_sent, passes, sum_to, sum_same, sum_less, stored, due, waiting, count_push}
@@ -85,7 +85,7 @@ without_less test w = sum_less w.session.core.limit _ _ (λ j. one_less (is_sent
 -- ---- the counts of a class
 
 abbrev pub played : ℕ → List WorldEvent → World
-played limit es = run es (start limit)
+played limit es = run_world es (start limit)
 
 module _ (test : Publish → Bool) (limit : ℕ) (es : List WorldEvent) where
   abbrev all_handed : ℕ

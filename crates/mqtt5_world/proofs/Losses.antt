@@ -18,16 +18,15 @@ use Rattle.mqtt5_inflight.specs.declared.event.Request.{Request}
 use Rattle.mqtt5_inflight.specs.InUse.{InUse}
 use Rattle.mqtt5_inflight.specs.Unacked.{again, slot_again, in_use_again, alias_again, by_id, publish_again, release_again}
 use Rattle.mqtt5_inflight.specs.Resent.{packet_for, packets_of}
-use Rattle.mqtt5_inflight.proofs.Within.{Fits, within_fits}
-use Rattle.mqtt5_inflight.proofs.Marked.{get_again}
+use Rattle.mqtt5_inflight.proofs.Exports.{Fits, within_fits, get_again}
 use Rattle.mqtt5_session.specs.Session.{Core, Session}
 use Rattle.mqtt5_session.specs.Requests.{release_of}
 use Rattle.mqtt5_session.specs.Packets.{on_packet}
-use Rattle.mqtt5_session.specs.Resuming.{cleaned, marked, resume_of}
+use Rattle.mqtt5_session.specs.Resuming.{on_clean, with_dup, resume_of}
 use Rattle.mqtt5_session.specs.Again.{after_sent, sent_unless}
-use Rattle.mqtt5_session.proofs.Resume as session
-use Rattle.mqtt5_session.proofs.Keeps.{Sound, marked_sound}
-use Rattle.mqtt5_world.specs.World.{World, takes, taken_back, resumed, resumes}
+use Rattle.mqtt5_session.proofs.Exports as session
+use Rattle.mqtt5_session.proofs.Exports.{Sound, marked_sound}
+use Rattle.mqtt5_world.specs.World.{World, takes_packet, taken_back, after_resume, resumes}
 use Rattle.mqtt5_world.specs.Delivery.{is_token_up, Token, Free, PublishUp, PubAckDown, PublishTwiceUp, PubRecDown, PubRelUp, PubCompDown, IsClass}
 use Rattle.mqtt5_world.proofs.Places.{token_here, token_other, front_here, front_none, publish_token}
 use Rattle.mqtt5_world.proofs.Step.{Inv, SlotAllowed, sum_same, sum_less, one, is_sent, is_due, waiting, stored, due, on_way, way_append, of_acked}
@@ -140,10 +139,10 @@ none_over max h allowed (suc n) = ap₂ (λ x y. x ++ y) (none_over max h allowe
     by id (Some Released) a = refl
     by id (Some (Sent p)) a = ap option_to_list a
 
-pub sends_again : (s : Session) → Sound s.core → ((id : ℕ) → SlotAllowed s.core.alias_max (get s.core.in_use id)) → resume_of s 0 ≡ Ok (packets_of s.core.limit s.core.in_use, after_sent (packets_of s.core.limit s.core.in_use) (in_use_again s.core.in_use) (cleaned s) 0)
+pub sends_again : (s : Session) → Sound s.core → ((id : ℕ) → SlotAllowed s.core.alias_max (get s.core.in_use id)) → resume_of s 0 ≡ Ok (packets_of s.core.limit s.core.in_use, after_sent (packets_of s.core.limit s.core.in_use) (in_use_again s.core.in_use) (on_clean s) 0)
 sends_again s i allowed =
     session.resumes s 0 (within_fits s.core.limit s.core.in_use i.0)
-    ∙ ap (λ xs. sent_unless xs (packets_of s.core.limit s.core.in_use) (in_use_again s.core.in_use) (cleaned s) 0) (none_over s.core.alias_max s.core.in_use allowed s.core.limit)
+    ∙ ap (λ xs. sent_unless xs (packets_of s.core.limit s.core.in_use) (in_use_again s.core.in_use) (on_clean s) 0) (none_over s.core.alias_max s.core.in_use allowed s.core.limit)
 
 -- ---- the counts over a loss
 
@@ -215,7 +214,7 @@ still_due : (test : Publish → Bool) (k : ℕ) (x : Option Slot) (s b : Bool) (
 still_due test k x s b us vs same e = subst (λ y. one (is_sent test x && is_due AtLeastOnce b us) ≤ one (y && is_due AtLeastOnce b vs)) (sym same) (more_due test k x b us vs e)
 
 -- the session is the same but for its current maximum, dup of what awaits an ack, and what isn't of the core
-sent_on : (w : World) (s : Session) (m : ℕ) → s.core ≡ record (marked w.session.core) { current = m } → Inv w → Again w (record w { session = s; up = packets_of w.session.core.limit w.session.core.in_use; down = [] })
+sent_on : (w : World) (s : Session) (m : ℕ) → s.core ≡ record (with_dup w.session.core) { current = m } → Inv w → Again w (record w { session = s; up = packets_of w.session.core.limit w.session.core.in_use; down = [] })
 sent_on w s m e i =
     subst (λ c. Again w (record w { session = record s { core = c }; up = packets_of w.session.core.limit w.session.core.in_use; down = [] })) (sym e)
     (record {
@@ -250,10 +249,10 @@ back_step w s m e i =
     let sound : Sound s.core = subst Sound (sym e) i.sound in
     let allowed : (id : ℕ) → SlotAllowed s.core.alias_max (get s.core.in_use id) = subst (λ (c : Core). (id : ℕ) → SlotAllowed c.alias_max (get c.in_use id)) (sym e) i.allowed in
     let same : packets_of s.core.limit s.core.in_use ≡ packets_of w.session.core.limit w.session.core.in_use = ap (λ (c : Core). packets_of c.limit c.in_use) e in
-    subst (λ r. Again w (resumed (record w { session = s; up = []; down = [] }) r)) (sym (sends_again s sound allowed))
-    (subst (λ ps. Again w (record w { session = after_sent (packets_of s.core.limit s.core.in_use) (in_use_again s.core.in_use) (cleaned s) 0; up = ps; down = [] })) (sym same) (sent_on w (after_sent (packets_of s.core.limit s.core.in_use) (in_use_again s.core.in_use) (cleaned s) 0) m (ap marked e) i))
+    subst (λ r. Again w (after_resume (record w { session = s; up = []; down = [] }) r)) (sym (sends_again s sound allowed))
+    (subst (λ ps. Again w (record w { session = after_sent (packets_of s.core.limit s.core.in_use) (in_use_again s.core.in_use) (on_clean s) 0; up = ps; down = [] })) (sym same) (sent_on w (after_sent (packets_of s.core.limit s.core.in_use) (in_use_again s.core.in_use) (on_clean s) 0) m (ap with_dup e) i))
 
-pub loss_step : (w : World) (m : Option ℕ) → Inv w → Again w (resumes (takes (record w { up = []; down = [] }) (taken_back m)))
+pub loss_step : (w : World) (m : Option ℕ) → Inv w → Again w (resumes (takes_packet (record w { up = []; down = [] }) (taken_back m)))
 unfolding on_packet
 loss_step w None i = back_step w _ w.session.core.current refl i
 loss_step w (Some m) i = back_step w _ _ refl i

@@ -12,7 +12,7 @@ use Rattle.mqtt5_codec.specs.declared.packet.Packet.{Packet}
 use Rattle.mqtt5_codec.specs.declared.packet.Packet.TheVariants as packets
 use Rattle.mqtt5_inflight.specs.declared.slot.Slot.{Slot}
 use Rattle.mqtt5_inflight.specs.InUse.{InUse}
-use Rattle.mqtt5_inflight.proofs.Within.{get_insert_same, get_insert_other}
+use Rattle.mqtt5_inflight.proofs.Exports.{get_insert_same, get_insert_other}
 use Rattle.mqtt5_world.specs.World.{World}
 use Rattle.mqtt5_world.specs.Delivery.{is_acked, is_token_up, is_token_down, Token}
 

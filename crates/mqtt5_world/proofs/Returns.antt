@@ -16,14 +16,13 @@ use Rattle.mqtt5_inflight.specs.declared.slot.Slot.{Slot}
 use Rattle.mqtt5_inflight.specs.declared.slot.Slot.TheVariants.{Sent, Released}
 use Rattle.mqtt5_inflight.specs.declared.event.Event.{Event}
 use Rattle.mqtt5_inflight.specs.declared.event.Outgoing.TheVariants as outgoing
-use Rattle.mqtt5_inflight.proofs.Within.{IsUsed}
+use Rattle.mqtt5_inflight.proofs.Exports.{IsUsed}
 use Rattle.mqtt5_session.specs.Freeing.{IsCounted}
 use Rattle.mqtt5_session.specs.Session.{Session, Answer, with_event}
 use Rattle.mqtt5_session.specs.Requests.{release_of}
 use Rattle.mqtt5_session.specs.Packets.{on_packet, with_incoming, freed_for, on_puback, on_received, on_pubrec, on_pubcomp, is_taken}
 use Rattle.mqtt5_session.specs.Packets as session
-use Rattle.mqtt5_session.proofs.Owed.{choose}
-use Rattle.mqtt5_session.proofs.Keeps.{Sound, inc_sound}
+use Rattle.mqtt5_session.proofs.Exports.{choose, Sound, inc_sound}
 use Rattle.mqtt5_world.specs.World.{World, after_reply, returns}
 use Rattle.mqtt5_world.specs.Delivery.{is_acked, is_token_up, is_token_down, Free, PubRelUp}
 use Rattle.mqtt5_world.proofs.Places.{view_of, Place, place, TokenAt, IsTokenOf, then_turn, set_slot, unset_slot, push_up, pop_down, publish_token, more_up}

@@ -6,10 +6,10 @@ use Rattle.std.specs.FinSet as set
 use Rattle.mqtt5_base.specs.declared.quality.QoS.{QoS}
 use Rattle.mqtt5_base.specs.declared.quality.QoS.TheVariants.{AtMostOnce, AtLeastOnce, ExactlyOnce}
 use Rattle.mqtt5_publish.specs.declared.publish.Publish.{Publish}
-use Rattle.mqtt5_inflight.proofs.Within.{no_ids, Fits}
+use Rattle.mqtt5_inflight.proofs.Exports.{no_ids, Fits}
 use Rattle.mqtt5_world.specs.declared.event.WorldEvent.{WorldEvent}
 use Rattle.mqtt5_world.specs.declared.event.WorldEvent.TheVariants as events
-use Rattle.mqtt5_world.specs.World.{World, start, happens, run, losses}
+use Rattle.mqtt5_world.specs.World.{World, start, happens, run_world, losses}
 use Rattle.mqtt5_world.specs.Delivery.{IsClass, Token, Free}
 use Rattle.mqtt5_world.proofs.Step.{Inv, SlotAllowed, AckedClass, Balance, one, sum_less, sum_none, is_sent, is_due, handed, accepted, waiting, stored, due, on_way}
 use Rattle.mqtt5_world.proofs.Asks.{ask_step}
@@ -44,12 +44,12 @@ inv_next w events.Up i = (up_step w w.up refl i).inv
 inv_next w events.Down i = (down_step w w.down refl i).inv
 inv_next w (events.Loss m) i = (loss_step w m i).inv
 
-pub inv_run : (es : List WorldEvent) (w : World) → Inv w → Inv (run es w)
+pub inv_run : (es : List WorldEvent) (w : World) → Inv w → Inv (run_world es w)
 inv_run [] w i = i
 inv_run (e ∷ es) w i = inv_run es (happens w e) (inv_next w e i)
 
 -- one run after another
-pub run_append : (es fs : List WorldEvent) (w : World) → run (es ++ fs) w ≡ run fs (run es w)
+pub run_append : (es fs : List WorldEvent) (w : World) → run_world (es ++ fs) w ≡ run_world fs (run_world es w)
 run_append [] fs w = refl
 run_append (e ∷ es) fs w = run_append es fs (happens w e)
 
@@ -80,7 +80,7 @@ twice_next test c w (events.Loss m) i t =
     let d = a.due_twice test c.class in
     omega (arith, h, g, v, d, t)
 
-twice_run : (test : Publish → Bool) → AckedClass ExactlyOnce test → (es : List WorldEvent) (w : World) → Inv w → Twice test w → Twice test (run es w)
+twice_run : (test : Publish → Bool) → AckedClass ExactlyOnce test → (es : List WorldEvent) (w : World) → Inv w → Twice test w → Twice test (run_world es w)
 twice_run test c [] w i t = t
 twice_run test c (e ∷ es) w i t = twice_run test c es (happens w e) (inv_next w e i) (twice_next test c w e i t)
 
@@ -128,13 +128,13 @@ once_loss n test c w w' a o =
       bounded = omega (arith, g, v, s, o.bounded);
     }
 
-once_run : (n : ℕ) (test : Publish → Bool) → AckedClass AtLeastOnce test → (es : List WorldEvent) (w : World) → Inv w → Once n test w → Once (losses es + n) test (run es w)
+once_run : (n : ℕ) (test : Publish → Bool) → AckedClass AtLeastOnce test → (es : List WorldEvent) (w : World) → Inv w → Once n test w → Once (losses es + n) test (run_world es w)
 once_run n test c [] w i o = subst (λ k. Once k test w) (omega arith) o
 once_run n test c (events.Publish p ∷ es) w i o = once_run n test c es _ (inv_next w (events.Publish p) i) (once_step n test w _ ((ask_step w p i).balance AtLeastOnce test c) o)
 once_run n test c (events.Up ∷ es) w i o = once_run n test c es _ (inv_next w events.Up i) (once_step n test w _ ((up_step w w.up refl i).balance AtLeastOnce test c) o)
 once_run n test c (events.Down ∷ es) w i o = once_run n test c es _ (inv_next w events.Down i) (once_step n test w _ ((down_step w w.down refl i).balance AtLeastOnce test c) o)
 once_run n test c (events.Loss m ∷ es) w i o =
-    subst (λ k. Once k test (run es (happens w (events.Loss m)))) (omega arith)
+    subst (λ k. Once k test (run_world es (happens w (events.Loss m)))) (omega arith)
     (once_run (n + 1) test c es _ (inv_next w (events.Loss m) i) (once_loss n test c.class w _ (loss_step w m i) o))
 
 -- ---- QoS 0
@@ -153,7 +153,7 @@ light_next test c w (events.Loss m) i t =
     let n = a.none_light test c in
     omega (arith, h, g, n, t)
 
-light_run : (test : Publish → Bool) → IsClass AtMostOnce test → (es : List WorldEvent) (w : World) → Inv w → Light test w → Light test (run es w)
+light_run : (test : Publish → Bool) → IsClass AtMostOnce test → (es : List WorldEvent) (w : World) → Inv w → Light test w → Light test (run_world es w)
 light_run test c [] w i t = t
 light_run test c (e ∷ es) w i t = light_run test c es (happens w e) (inv_next w e i) (light_next test c w e i t)
 
@@ -166,30 +166,30 @@ none_stored : (test : Publish → Bool) (limit : ℕ) → stored test (start lim
 none_stored test limit = sum_none limit _ (λ j. ap (λ x. one (is_sent test x)) (none_in_use j))
 
 -- of QoS 0
-pub most : (test : Publish → Bool) → IsClass AtMostOnce test → (limit : ℕ) (es : List WorldEvent) → handed test (run es (start limit)) ≤ accepted test (run es (start limit))
+pub most : (test : Publish → Bool) → IsClass AtMostOnce test → (limit : ℕ) (es : List WorldEvent) → handed test (run_world es (start limit)) ≤ accepted test (run_world es (start limit))
 most test c limit es = let l = light_run test c es (start limit) (inv_start limit) (omega arith) in omega (arith, l)
 
 -- of QoS 1
-once : (test : Publish → Bool) → IsClass AtLeastOnce test → (limit : ℕ) (es : List WorldEvent) → Once (losses es + 0) test (run es (start limit))
+once : (test : Publish → Bool) → IsClass AtLeastOnce test → (limit : ℕ) (es : List WorldEvent) → Once (losses es + 0) test (run_world es (start limit))
 once test c limit es =
     let d = none_due AtLeastOnce test limit in
     let s = none_stored test limit in
     once_run 0 test (record { class = c; acked = refl }) es (start limit) (inv_start limit) (record { lower = omega arith; upper = omega (arith, d); bounded = omega (arith, s) })
 
-pub least : (test : Publish → Bool) → IsClass AtLeastOnce test → (limit : ℕ) (es : List WorldEvent) → accepted test (run es (start limit)) ≤ handed test (run es (start limit)) + stored test (run es (start limit)) + waiting test (run es (start limit))
+pub least : (test : Publish → Bool) → IsClass AtLeastOnce test → (limit : ℕ) (es : List WorldEvent) → accepted test (run_world es (start limit)) ≤ handed test (run_world es (start limit)) + stored test (run_world es (start limit)) + waiting test (run_world es (start limit))
 least test c limit es =
     let o = once test c limit es in
-    let d = due_stored AtLeastOnce test (run es (start limit)) in
+    let d = due_stored AtLeastOnce test (run_world es (start limit)) in
     omega (arith, o.lower, d)
 
-pub each_loss : (test : Publish → Bool) → IsClass AtLeastOnce test → (limit : ℕ) (es : List WorldEvent) → handed test (run es (start limit)) ≤ (losses es + 1) * accepted test (run es (start limit))
+pub each_loss : (test : Publish → Bool) → IsClass AtLeastOnce test → (limit : ℕ) (es : List WorldEvent) → handed test (run_world es (start limit)) ≤ (losses es + 1) * accepted test (run_world es (start limit))
 each_loss test c limit es =
     let o = once test c limit es in
     let u = rw add-zero at o.upper in
     omega (arith, u)
 
 -- of QoS 2
-pub twice : (test : Publish → Bool) → IsClass ExactlyOnce test → (limit : ℕ) (es : List WorldEvent) → handed test (run es (start limit)) + due ExactlyOnce test (run es (start limit)) + waiting test (run es (start limit)) ≡ accepted test (run es (start limit))
+pub twice : (test : Publish → Bool) → IsClass ExactlyOnce test → (limit : ℕ) (es : List WorldEvent) → handed test (run_world es (start limit)) + due ExactlyOnce test (run_world es (start limit)) + waiting test (run_world es (start limit)) ≡ accepted test (run_world es (start limit))
 twice test c limit es =
     let d = none_due ExactlyOnce test limit in
     twice_run test (record { class = c; acked = refl }) es (start limit) (inv_start limit) (omega (arith, d))

@@ -12,7 +12,7 @@ use Rattle.mqtt5_codec.specs.declared.packet.Packet.TheVariants as packets
 use Rattle.mqtt5_inflight.specs.declared.slot.Slot.{Slot}
 use Rattle.mqtt5_inflight.specs.declared.slot.Slot.TheVariants.{Sent}
 use Rattle.mqtt5_inflight.specs.Aliases.{alias_of, alias_over}
-use Rattle.mqtt5_session.proofs.Keeps.{Sound}
+use Rattle.mqtt5_session.proofs.Exports.{Sound}
 use Rattle.mqtt5_world.specs.World.{World}
 use Rattle.mqtt5_world.specs.Delivery.{is_acked, IsClass}
 use Rattle.mqtt5_world.proofs.Places.{view_of, Place, place, TokenAt, Turn, turned}

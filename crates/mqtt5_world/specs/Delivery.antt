@@ -1,6 +1,7 @@
--- What is said of every run of a world: the packets under way for each id, and how often each publish is handed on
--- (MQTT 5.0 section 4.3).
-use Rattle.std.specs.Prelude.{◌≡◌, ℕ, Bool, true, false, ◌&&◌, ◌==◌, List, [], ◌∷◌, filter, count_by, Option, Some, None, if◌then◌else◌}
+-- What is said of every run of a world: the packets under way for each id, and how often each
+-- publish is handed on (MQTT 5.0 section 4.3).
+use Rattle.std.specs.Prelude.{◌≡◌, ℕ, Bool, true, false, ◌&&◌, ◌==◌, List, [], ◌∷◌, filter}
+use Rattle.std.specs.Prelude.{count_by, Option, Some, None, if◌then◌else◌}
 use Rattle.std.specs.Option.{option_to_list}
 use Rattle.std.specs.Ordering.{nat_cmp}
 use Rattle.std.specs.FinMap as map
@@ -28,8 +29,8 @@ abbrev pub is_acked : QoS → Bool
 is_acked AtMostOnce = false
 is_acked qos = true
 
--- whether a packet on its way up is a token of this id: a publish of QoS 1 or 2, or a PubRel; what a client never sends up
--- would be one of each id
+-- whether a packet on its way up is a token of this id: a publish of QoS 1 or 2, or a PubRel; what
+-- a client never sends up would be one of each id
 abbrev pub is_token_up : ℕ → Packet → Bool
 is_token_up id (packets.Publish p) = is_acked p.qos && (p.pkid == id)
 is_token_up id (packets.PubRel p) = p.pkid == id
@@ -42,20 +43,27 @@ is_token_down id (packets.PubRec p) = p.pkid == id
 is_token_down id (packets.PubComp p) = p.pkid == id
 is_token_down id other = true
 
--- an id has one token where it is in use, and else none: by what the session knows of it, whether the broker has it, and its
--- tokens on their way up and down (4.3.2, 4.3.3)
+-- an id has one token where it is in use, and else none: by what the session knows of it, whether
+-- the broker has it, and its tokens on their way up and down (4.3.2, 4.3.3)
 pub data Token (id : ℕ) : Option Slot → Bool → List Packet → List Packet → Type 0 where
   Free : Token id None false [] []
-  PublishUp : (p : Publish) → p.qos ≡ AtLeastOnce → Token id (Some (Sent p)) false (packets.Publish p ∷ []) []
-  PubAckDown : (p : Publish) → p.qos ≡ AtLeastOnce → Token id (Some (Sent p)) false [] (puback_of id ∷ [])
-  PublishTwiceUp : (p : Publish) (has : Bool) → p.qos ≡ ExactlyOnce → Token id (Some (Sent p)) has (packets.Publish p ∷ []) []
-  PubRecDown : (p : Publish) → p.qos ≡ ExactlyOnce → Token id (Some (Sent p)) true [] (pubrec_of id ∷ [])
+  PublishUp : (p : Publish) → p.qos ≡ AtLeastOnce
+      → Token id (Some (Sent p)) false (packets.Publish p ∷ []) []
+  PubAckDown : (p : Publish) → p.qos ≡ AtLeastOnce
+      → Token id (Some (Sent p)) false [] (puback_of id ∷ [])
+  PublishTwiceUp : (p : Publish) (has : Bool) → p.qos ≡ ExactlyOnce
+      → Token id (Some (Sent p)) has (packets.Publish p ∷ []) []
+  PubRecDown : (p : Publish) → p.qos ≡ ExactlyOnce
+      → Token id (Some (Sent p)) true [] (pubrec_of id ∷ [])
   PubRelUp : (has : Bool) → Token id (Some Released) has (release_of id ∷ []) []
-  PubCompDown : (had : Bool) → Token id (Some Released) false [] (pubcomp_of id (reason_for had) ∷ [])
+  PubCompDown : (had : Bool)
+      → Token id (Some Released) false [] (pubcomp_of id (reason_for had) ∷ [])
 
 -- so it is with an id of a world
 abbrev pub HasOneToken : World → ℕ → Type 0
-HasOneToken w id = Token id (map.get w.session.core.in_use id) (set.contains w.broker.ids id) (filter (is_token_up id) w.up) (filter (is_token_down id) w.down)
+HasOneToken w id =
+    Token id (map.get w.session.core.in_use id) (set.contains w.broker.ids id)
+    (filter (is_token_up id) w.up) (filter (is_token_down id) w.down)
 
 -- ---- counts
 
@@ -65,7 +73,9 @@ stored_in c = by_id (λ id slot. option_to_list (awaiting_ack slot)) c.limit c.i
 
 -- of them those under an id that isn't among these
 abbrev pub stored_without : set.FinSet nat_cmp → Core → List Publish
-stored_without ids c = by_id (λ id slot. if set.contains ids id then [] else option_to_list (awaiting_ack slot)) c.limit c.in_use
+stored_without ids c =
+    by_id (λ id slot. if set.contains ids id then [] else option_to_list (awaiting_ack slot))
+    c.limit c.in_use
 
 -- the publish that waits for its id
 abbrev pub waiting_in : Core → List Publish

@@ -3,7 +3,7 @@
 ghost use Rattle.std.specs.Prelude.{◌≡◌, ◌≢◌, ◌<◌, ◌≤◌, ◌+◌, ◌*◌, IfOk, IfErr};
 ghost use Rattle.mqtt5_base.specs.declared.quality.QoS.TheVariants.{AtMostOnce, AtLeastOnce, ExactlyOnce};
 ghost use Rattle.mqtt5_publish.specs.declared.publish.Publish.{Publish};
-ghost use Rattle.mqtt5_world.specs.World.{start, run, losses};
+ghost use Rattle.mqtt5_world.specs.World.{start, run_world, losses};
 ghost use Rattle.mqtt5_world.specs.Delivery.{times, stored_in, stored_without, waiting_in};
 ghost use Rattle.mqtt5_world.specs.Happens.{IsReport};
 
@@ -18,11 +18,11 @@ pub fn play(alloc: Global, limit: u16, events: &[WorldEvent]) -> Result<Report, 
     requires { 0 < limit }
     // All is the world's after the events.
     ensures handed { IfOk result (λ r. r.handed.items
-        ≡ (run events.now (start limit)).broker.handed) }
+        ≡ (run_world events.now (start limit)).broker.handed) }
     ensures accepted { IfOk result (λ r. r.accepted.items
-        ≡ (run events.now (start limit)).accepted) }
-    ensures refused { IfOk result (λ r. r.refused.items ≡ (run events.now (start limit)).refused) }
-    ensures state { IfOk result (λ r. r.state ≡ (run events.now (start limit)).session) }
+        ≡ (run_world events.now (start limit)).accepted) }
+    ensures refused { IfOk result (λ r. r.refused.items ≡ (run_world events.now (start limit)).refused) }
+    ensures state { IfOk result (λ r. r.state ≡ (run_world events.now (start limit)).session) }
     ensures memory { IfErr result (λ e. e ≡ StateError.OutOfMemory) }
     // A content of QoS 0 or 2 is handed on at most as often as it was accepted.
     ensures at_most_once { IfOk result (λ r. (c : Publish) → c.qos ≢ AtLeastOnce
@@ -37,7 +37,7 @@ pub fn play(alloc: Global, limit: u16, events: &[WorldEvent]) -> Result<Report, 
     // One of QoS 2 is handed on, or waits, or is stored under an id that the broker hasn't, for each time it was accepted.
     ensures ledger { IfOk result (λ r. (c : Publish) → c.qos ≡ ExactlyOnce
         → times c r.handed.items + times c (waiting_in r.state.core) + times c
-        (stored_without (run events.now (start limit)).broker.ids r.state.core)
+        (stored_without (run_world events.now (start limit)).broker.ids r.state.core)
         ≡ times c r.accepted.items) }
     // So where none is stored or waiting it was handed on exactly as often as it was accepted.
     ensures exactly_once { IfOk result (λ r. (c : Publish) → c.qos ≡ ExactlyOnce
@@ -49,7 +49,7 @@ pub fn play(alloc: Global, limit: u16, events: &[WorldEvent]) -> Result<Report, 
 
 fn played(alloc: Global, limit: u16, events: &[WorldEvent]) -> Result<Report, StateError>
     requires { 0 < limit }
-    ensures ok { IfOk result (λ r. IsReport r (run events.now (start limit))) }
+    ensures ok { IfOk result (λ r. IsReport r (run_world events.now (start limit))) }
     ensures err { IfErr result (λ e. e ≡ StateError.OutOfMemory) }
 {
     let mut world = World::new(alloc, limit)?;

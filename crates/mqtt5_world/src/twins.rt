@@ -2,9 +2,9 @@
 
 ghost use Rattle.std.specs.Prelude.{◌≡◌, ◌≢◌, ◌<◌, ◌⊎◌, ℕ, Bool, List, [], ◌∷◌, ◌++◌, IfOk, IfErr, OnOk, IsOk};
 ghost use Rattle.mqtt5_session.specs.Session.{Session, fresh};
-ghost use Rattle.mqtt5_session.specs.Resuming.{marked, resume_of};
+ghost use Rattle.mqtt5_session.specs.Resuming.{with_dup, resume_of};
 ghost use Rattle.mqtt5_world.specs.declared.calls.Call.{Call};
-ghost use Rattle.mqtt5_world.specs.Twins.{Answered, said, all_said, reply_of, after_call, after_calls, replies_of, taken_up, aliases_over, SameReplies};
+ghost use Rattle.mqtt5_world.specs.Twins.{Answered, said_by, all_said, reply_of, after_call, after_calls, replies_of, taken_up, aliases_over, SameReplies};
 
 use crate::calls::{Call, Reply, Twin};
 use mqtt5_base::copied;
@@ -27,10 +27,10 @@ pub fn twin_law()
         (StateError.InvalidAlias alias (after_calls calls (fresh limit manual)).core.alias_max) }
     // It keeps the core, but for dup of the publishes that await their acks.
     ensures core { (limit at : ℕ) (manual : Bool) (calls : List Call)
-        → marked (taken_up (after_calls calls (fresh limit manual)) at).core
-        ≡ marked (after_calls calls (fresh limit manual)).core }
+        → with_dup (taken_up (after_calls calls (fresh limit manual)) at).core
+        ≡ with_dup (after_calls calls (fresh limit manual)).core }
     // Sessions of one core, but for that, reply the same to any calls.
-    ensures alike { (calls : List Call) (s t : Session) → marked s.core ≡ marked t.core
+    ensures alike { (calls : List Call) (s t : Session) → with_dup s.core ≡ with_dup t.core
         → SameReplies calls (replies_of calls s) (replies_of calls t) }
 {}
 
@@ -158,7 +158,7 @@ fn run_one(state: &mut MqttState, call: &Call, replies: &mut Vec<Reply>) -> Resu
 
 /// The reply to a call. S12.
 fn reply_of(state: &mut MqttState, call: &Call) -> Result<Reply, StateError>
-    ensures ok { IfOk result (λ r. said r ≡ reply_of state.old call.now) }
+    ensures ok { IfOk result (λ r. said_by r ≡ reply_of state.old call.now) }
     ensures state { OnOk result (state.new ≡ after_call state.old call.now) }
     ensures err { IfErr result (λ e. e ≡ StateError.OutOfMemory) }
 {
@@ -171,7 +171,7 @@ fn reply_of(state: &mut MqttState, call: &Call) -> Result<Reply, StateError>
 }
 
 fn send_request(state: &mut MqttState, request: &Request, at: u64) -> Result<Reply, StateError>
-    ensures ok { IfOk result (λ r. said r ≡ reply_of state.old (Call.Outgoing request.now at)) }
+    ensures ok { IfOk result (λ r. said_by r ≡ reply_of state.old (Call.Outgoing request.now at)) }
     ensures state { OnOk result (state.new ≡ after_call state.old (Call.Outgoing request.now at)) }
     ensures err { IfErr result (λ e. e ≡ StateError.OutOfMemory) }
 {
@@ -180,7 +180,7 @@ fn send_request(state: &mut MqttState, request: &Request, at: u64) -> Result<Rep
 }
 
 fn receive_packet(state: &mut MqttState, packet: &Packet, at: u64) -> Result<Reply, StateError>
-    ensures ok { IfOk result (λ r. said r ≡ reply_of state.old (Call.Incoming packet.now at)) }
+    ensures ok { IfOk result (λ r. said_by r ≡ reply_of state.old (Call.Incoming packet.now at)) }
     ensures state { OnOk result (state.new ≡ after_call state.old (Call.Incoming packet.now at)) }
     ensures err { IfErr result (λ e. e ≡ StateError.OutOfMemory) }
 {
@@ -190,7 +190,7 @@ fn receive_packet(state: &mut MqttState, packet: &Packet, at: u64) -> Result<Rep
 
 /// A reply, unless memory was refused. S12.
 fn unless_memory(answer: Result<Option<Packet>, StateError>) -> Result<Reply, StateError>
-    ensures ok { IfOk result (λ r. said r ≡ Answered answer) }
+    ensures ok { IfOk result (λ r. said_by r ≡ Answered answer) }
     ensures other { OnOk result (answer ≢ Err StateError.OutOfMemory) }
     ensures err { IfErr result (λ e. e ≡ StateError.OutOfMemory) }
 {

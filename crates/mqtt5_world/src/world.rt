@@ -2,7 +2,7 @@
 
 ghost use Rattle.std.specs.Prelude.{◌≡◌, ◌<◌, ◌∷◌, ◌++◌, [], IfOk, IfErr, OnOk, drop, length};
 ghost use Rattle.std.specs.Option.{option_to_list};
-ghost use Rattle.mqtt5_world.specs.World.{start, asks, served, arrives, returns, takes, resumes, happens, run, taken_back, with_receive_max};
+ghost use Rattle.mqtt5_world.specs.World.{start, asks, after_serving, arrives, returns, takes_packet, resumes, happens, run_world, taken_back, with_receive_max};
 ghost use Rattle.mqtt5_world.specs.Broker.{serve};
 ghost use Rattle.mqtt5_world.specs.Happens.{Happens};
 
@@ -101,7 +101,7 @@ impl World {
 
     /// Events, one after another.
     pub fn play_all(&mut self, alloc: Global, events: &[WorldEvent]) -> Result<(), StateError>
-        ensures { Happens result self.new (run events.now self.old) }
+        ensures { Happens result self.new (run_world events.now self.old) }
     {
         for event in events {
             self.play(alloc, event)?;
@@ -182,7 +182,7 @@ impl World {
     }
 
     fn arrive(&mut self, packet: &Packet) -> Result<(), StateError>
-        ensures { Happens result self.new (served self.old (serve self.old.broker packet.now)) }
+        ensures { Happens result self.new (after_serving self.old (serve self.old.broker packet.now)) }
     {
         let reply = self.broker.serve(packet)?;
         send(&mut self.down, reply)?;
@@ -199,7 +199,7 @@ impl World {
     }
 
     fn take(&mut self, packet: Packet) -> Result<(), StateError>
-        ensures { Happens result self.new (takes self.old packet) }
+        ensures { Happens result self.new (takes_packet self.old packet) }
     {
         let reply = self.state.handle_incoming_packet(packet, 0)?;
         send(&mut self.up, reply)?;

@@ -147,22 +147,15 @@ pub(super) fn request(alloc: Global, mark: u8, name: u8) -> Result<Request, Erro
 
 /// Adds a fault by its number, with what it carries.
 pub(super) fn add_fault(fault: &StateError, text: &mut String) -> Result<(), AllocError> {
+    write!(text, "S{}", fault.number())?;
     match fault {
-        StateError::InvalidState => text.push_str("S1"),
-        StateError::Unsolicited(id) => write!(text, "S2({id})"),
-        StateError::AwaitPingResp => text.push_str("S3"),
-        StateError::WrongPacket => text.push_str("S4"),
-        StateError::CollisionTimeout => text.push_str("S5"),
-        StateError::EmptySubscription => text.push_str("S6"),
-        StateError::Deserialization(error) => write!(text, "S7({error:?})"),
-        StateError::InvalidAlias { alias, max } => write!(text, "S8({alias},{max})"),
-        StateError::OutgoingPacketTooLarge { pkt_size, max } => write!(
-            text,
-            "S9({pkt_size},{max})"
-        ),
-        StateError::ServerDisconnect { reason_code, .. } => write!(text, "S10({reason_code:?})"),
-        StateError::ConnFail { reason } => write!(text, "S11({reason:?})"),
-        _other => text.push_str("S12"),
+        StateError::Unsolicited(id) => write!(text, "({id})"),
+        StateError::Deserialization(error) => write!(text, "({error:?})"),
+        StateError::InvalidAlias { alias, max } => write!(text, "({alias},{max})"),
+        StateError::OutgoingPacketTooLarge { pkt_size, max } => write!(text, "({pkt_size},{max})"),
+        StateError::ServerDisconnect { reason_code, .. } => write!(text, "({reason_code:?})"),
+        StateError::ConnFail { reason } => write!(text, "({reason:?})"),
+        _other => Ok(()),
     }
 }
 

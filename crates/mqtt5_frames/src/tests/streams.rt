@@ -13,11 +13,6 @@ use std::test::Fail;
 /// The first bytes of the longest frame.
 const LONGEST: &[u8] = &[0x30, 0xFF, 0xFF, 0xFF, 0x7F];
 
-const UNLIMITED: Codec = Codec {
-    max_incoming_size: None,
-    max_outgoing_size: None,
-};
-
 /// All frames that are written as they are read, one after the other: their bytes, their forms, and where each ends.
 #[derive(Drop)]
 struct Frames {
@@ -64,7 +59,7 @@ fn whole_in(ends: &[usize], len: usize) -> usize {
 
 /// Takes the frame at the front of a stream out, and notes its packet. Whether it was whole.
 fn decode_one(alloc: Global, stream: &mut BytesMut, notes: &mut Notes) -> Result<bool, Error> {
-    match UNLIMITED.decode(alloc, stream)? {
+    match Codec::new().decode(alloc, stream)? {
         Some(packet) => {
             let added = notes.add_packet(&packet, None);
             drop(packet);

@@ -5,7 +5,7 @@ ghost use Rattle.mqtt5_base.specs.declared.quality.QoS.TheVariants.{AtMostOnce};
 ghost use Rattle.mqtt5_session.specs.Session.{Session, Sends};
 ghost use Rattle.mqtt5_session.specs.Replies.{in_full};
 ghost use Rattle.mqtt5_session.specs.Planned.{Stores, Plans, IsLeft};
-ghost use Rattle.mqtt5_session.specs.Requests.{id_for, last_after, with_event_at, judged, Verdict, out_publish, stored, awaits, on_request, out_identified, out_release, out_subscribe, out_unsubscribe, pings_with, disconnect_of};
+ghost use Rattle.mqtt5_session.specs.Requests.{id_for, last_after, with_event_at, verdict_of, Verdict, out_publish, with_stored, awaits, on_request, out_identified, out_release, out_subscribe, out_unsubscribe, pings_with, disconnect_of};
 
 use super::MqttState;
 use crate::packed::{
@@ -179,7 +179,7 @@ impl MqttState {
         requires counted { publish.qos ≢ AtMostOnce }
         requires last { last < self.old.core.limit }
         ensures id { IfOk result (λ id. id ≡ publish.pkid) }
-        ensures ok { OnOk result (self.new ≡ stored self.old publish last at) }
+        ensures ok { OnOk result (self.new ≡ with_stored self.old publish last at) }
         ensures err { OnErr result (self.new ≡ self.old) }
     {
         let id = publish.pkid;
@@ -230,10 +230,10 @@ impl MqttState {
     /// Whether the id of a publish is free; where it isn't, nothing waits. Takes no memory.
     fn is_free_for(&self, id: u16, publish: &Publish) -> Result<bool, StateError>
         ensures judged { IfOk result
-            (λ free. judged self.now.core (record publish.now { pkid = id })
+            (λ free. verdict_of self.now.core (record publish.now { pkid = id })
             ≡ cond free Verdict.Store Verdict.Wait) }
         ensures high { IsOk result → id ≤ self.now.core.limit }
-        ensures err { IfErr result (λ e. judged self.now.core (record publish.now { pkid = id })
+        ensures err { IfErr result (λ e. verdict_of self.now.core (record publish.now { pkid = id })
             ≡ Verdict.Refuse e) }
     {
         if id > self.slots.limit() {
@@ -259,7 +259,7 @@ impl MqttState {
         requires counted { publish.now.qos ≢ AtMostOnce }
         requires last { last < self.old.core.limit }
         ensures ok { OnOk result
-            (self.new ≡ stored self.old (record publish.now { pkid = id }) last at) }
+            (self.new ≡ with_stored self.old (record publish.now { pkid = id }) last at) }
         ensures err { OnErr result (self.new ≡ self.old) }
     {
         self.events.reserve(1)?;

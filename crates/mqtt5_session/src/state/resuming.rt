@@ -4,7 +4,7 @@ ghost use Rattle.std.specs.Prelude.{◌≡◌, ◌+◌, ◌≤◌, ◌++◌, IfO
 ghost use Rattle.std.specs.List.{filter_map};
 ghost use Rattle.std.specs.VecDeque.{deque_len, deque_capacity};
 ghost use Rattle.mqtt5_inflight.specs.InUse.{IsWithin};
-ghost use Rattle.mqtt5_session.specs.Resuming.{marked, Resumes};
+ghost use Rattle.mqtt5_session.specs.Resuming.{with_dup, Resumes};
 ghost use Rattle.mqtt5_session.specs.Again.{event_for, moment_after, resumed};
 
 use super::MqttState;
@@ -16,7 +16,7 @@ impl MqttState {
     /// Sends again what a clean would give, and leaves it in place as it was sent.
     pub(super) fn send_again(&mut self, at: u64) -> Result<Vec<Packet>, StateError>
         ensures sends { Resumes result self.old self.new (resumed self.old at) }
-        ensures core { OnOk result (self.new.core ≡ marked self.old.core) }
+        ensures core { OnOk result (self.new.core ≡ with_dup self.old.core) }
         ensures kept { OnErr result (self.new.core ≡ self.old.core) }
         ensures within { IsWithin self.old.core.limit self.old.core.in_use }
     {

@@ -21,11 +21,6 @@ const WORDS: &str = "-=100D00044D51545405020000000000 AtMostOnce
 --nothing=2
 ";
 
-const NO_LIMITS: Codec = Codec {
-    max_incoming_size: None,
-    max_outgoing_size: None,
-};
-
 fn words_of(alloc: Global, row: &'static str) -> Result<Vec<&'static str>, AllocError> {
     let mut words = Vec::new(alloc);
     for word in row.split(' ') {
@@ -38,7 +33,7 @@ fn words_of(alloc: Global, row: &'static str) -> Result<Vec<&'static str>, Alloc
 
 fn add_frame(alloc: Global, packet: &Packet, text: &mut String) -> Result<(), Error> {
     let mut frame = BytesMut::new(alloc);
-    NO_LIMITS.write(packet, &mut frame)?;
+    Codec::new().write(packet, &mut frame)?;
     Ok(add_bytes(alloc, frame.as_slice(), text)?)
 }
 

@@ -5,4 +5,4 @@ pub returns-clause-session : goal.returns-clause-session
 returns-clause-session c = run_leaves
 
 pub returns-clause-once : goal.returns-clause-once
-returns-clause-once c = once_over
+returns-clause-once c = λ codec. once_over codec c.once_law.ensures.counts

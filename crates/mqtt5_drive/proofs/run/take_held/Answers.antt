@@ -1,4 +1,5 @@
 use Rattle.std.proofs.Common.{refl}
+use Rattle.mqtt5_drive.proofs.Settles.{fronts_of}
 use Rattle.mqtt5_drive.proofs.Taking.{holds}
 use Rattle.mqtt5_drive.proofs.run.take_held.Goals as goal
 
@@ -6,4 +7,4 @@ pub returns-then-needs_more-clause-more : goal.returns-then-needs_more-clause-mo
 returns-then-needs_more-clause-more c = c.if-needs_more.ensures.0 refl
 
 pub returns-then-needs_more-clause-ok : goal.returns-then-needs_more-clause-ok
-returns-then-needs_more-clause-ok c = λ rest. holds _ _ rest _ _ _ (c.if-needs_more.ensures.0 refl)
+returns-then-needs_more-clause-ok c = λ rest. holds (fronts_of c.front_laws.ensures.found c.front_laws.ensures.stays) _ _ rest _ _ _ (c.if-needs_more.ensures.0 refl)

@@ -1,4 +1,4 @@
-use Rattle.mqtt5_world.specs.World.{start, run}
+use Rattle.mqtt5_world.specs.World.{start, run_world}
 use Rattle.mqtt5_progress.specs.Progress.{settle}
 use Rattle.mqtt5_progress.proofs.Settled.{settled_four, settle_run, deliveries_alone}
 use Rattle.mqtt5_progress.proofs.Counted.{exactly, least, again, without_loss, nothing_back}
@@ -21,7 +21,7 @@ pub returns-clause-without_loss : goal.returns-clause-without_loss
 returns-clause-without_loss c = λ limit events qos test class none. without_loss qos test class limit events none
 
 pub returns-clause-nothing_back : goal.returns-clause-nothing_back
-returns-clause-nothing_back c = λ limit events. nothing_back (settle 4 (run events (start limit))).session.core (settled_four limit events).core
+returns-clause-nothing_back c = λ limit events. nothing_back (settle 4 (run_world events (start limit))).session.core (settled_four limit events).core
 
 pub returns-clause-nothing_again : goal.returns-clause-nothing_again
 returns-clause-nothing_again c = nothing_again
