@@ -1,6 +1,6 @@
 -- What a call leaves of a handle's client, and the number that it answers.
 use Rattle.std.specs.Prelude.{◌≡◌, ◌≢◌, ◌⊎◌, ℕ, List, [], ◌∷◌, Option, None, Some, IsOk, IfErr}
-use Rattle.std.specs.Prelude.{OnOk, OnErr, drop, length, Bool, false}
+use Rattle.std.specs.Prelude.{OnOk, OnErr, drop, Bool, false}
 use Rattle.mqtt5_base.specs.Texts.{text_of}
 use Rattle.mqtt5_options.specs.Options.{defaults}
 use Rattle.mqtt5_inflight.specs.declared.event.Request.{Request}
@@ -11,8 +11,7 @@ use Rattle.mqtt5_codec.specs.Codecs.{no_limits}
 use Rattle.mqtt5_client.specs.declared.client.Client.{Client}
 use Rattle.mqtt5_holder.specs.declared.holder.Holder.{Holder}
 use Rattle.mqtt5_session.specs.Session.{fresh}
-use Rattle.mqtt5_client.specs.Client.{asking, Runs, Fails}
-use Rattle.mqtt5_drive.specs.Limit.{codec_after}
+use Rattle.mqtt5_client.specs.Client.{asking, Runs, Fails, codec_since}
 use Rattle.mqtt5_client.specs.Again.{SendsAgain, Refuses}
 use Rattle.mqtt5_client.specs.Asked.{NotAsked}
 use Rattle.mqtt5_client.specs.TakingUp.{NotTakenUp}
@@ -41,7 +40,7 @@ Receives bytes at old outcome new =
     OnOk outcome (Runs old (piece at bytes ∷ []) [] new)
     × IfErr outcome (λ e. Fails e old (piece at bytes ∷ []) [] new)
     × OnErr outcome (new.input.items ≡ [])
-    × (new.codec ≡ codec_after (drop (length old.state.events) new.state.events) old.codec)
+    × (new.codec ≡ codec_since old new)
     × (new.disconnected ≡ old.disconnected)
 
 -- a request, before which no Disconnect was asked for (3.14.4): session and output are the run's;

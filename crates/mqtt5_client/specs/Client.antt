@@ -1,9 +1,11 @@
 -- What a call leaves of a client: a run of its session over what came in and what was asked, whose
 -- output is what was taken to be sent and what still waits (MQTT 5.0 section 4.2).
-use Rattle.std.specs.Prelude.{◌≡◌, ℕ, Bool, true, false, ◌||◌, List, [], ◌∷◌, ◌++◌, option_map}
+use Rattle.std.specs.Prelude.{◌≡◌, ℕ, Bool, true, false, ◌||◌, List, [], ◌∷◌, ◌++◌, drop, length}
+use Rattle.std.specs.Prelude.{option_map}
 use Rattle.std.specs.Option.{option_to_list}
 use Rattle.mqtt5_base.specs.Front.{NeedsMore}
 use Rattle.mqtt5_base.specs.FrontAt.{front}
+use Rattle.mqtt5_codec.specs.declared.codec.Codec.{Codec}
 use Rattle.mqtt5_inflight.specs.declared.event.Request.{Request}
 use Rattle.mqtt5_inflight.specs.declared.event.Request.TheVariants as requests
 use Rattle.mqtt5_inflight.specs.declared.error.StateError.{StateError}
@@ -14,6 +16,7 @@ use Rattle.mqtt5_drive.specs.declared.run.Input.{Input}
 use Rattle.mqtt5_drive.specs.declared.run.Input.TheVariants as inputs
 use Rattle.mqtt5_drive.specs.Trace.{Trace, Holds, finish, Stops}
 use Rattle.mqtt5_drive.specs.Run.{turns, run}
+use Rattle.mqtt5_drive.specs.Limit.{codec_after}
 use Rattle.mqtt5_client.specs.declared.client.Client.{Client}
 
 -- the input is in want of more bytes, as an empty one is
@@ -62,6 +65,11 @@ pub record Runs (old : Client) (steps : List Step) (sent : List ℕ) (new : Clie
 abbrev pub Fails : StateError → Client → List Step → List ℕ → Client → Type 0
 Fails e old steps sent new =
     Stops e old.state old.output.items (trace old steps) new.state (sent ++ new.output.items)
+
+-- the codec of a client once a call added events: with the limit of the ConnAcks of success among
+-- these (3.2.2.3.6)
+abbrev pub codec_since : Client → Client → Codec
+codec_since old new = codec_after (drop (length old.state.events) new.state.events) old.codec
 
 -- what a session gives back: what it would send again (4.4), and the publish that waits for its id
 abbrev pub given_back : Core → List Request

@@ -1,7 +1,7 @@
 //! A client between the bytes that come in and those that go out.
 
 ghost use Rattle.std.specs.Bool.{Decides};
-ghost use Rattle.std.specs.Prelude.{◌≡◌, ◌≢◌, ◌<◌, ◌⊎◌, ℕ, true, false, List, [], ◌∷◌, ◌++◌, length, take, drop, slice_get, Some, Ok, IsOk, IfOk, IfErr, OnOk, OnErr};
+ghost use Rattle.std.specs.Prelude.{◌≡◌, ◌≢◌, ◌<◌, ◌⊎◌, ℕ, true, false, List, [], ◌∷◌, ◌++◌, take, drop, slice_get, Some, Ok, IsOk, IfOk, IfErr, OnOk, OnErr};
 ghost use Rattle.mqtt5_base.specs.declared.error.Error.{Error};
 ghost use Rattle.mqtt5_codec.specs.Packets.{packet_writing};
 ghost use Rattle.mqtt5_codec.specs.Codecs.{no_limits};
@@ -14,7 +14,7 @@ ghost use Rattle.mqtt5_drive.specs.declared.run.Input.TheVariants as inputs;
 ghost use Rattle.mqtt5_drive.specs.declared.run.Step.{Step};
 ghost use Rattle.mqtt5_drive.specs.Run.{piece};
 ghost use Rattle.mqtt5_client.specs.declared.client.Client.{Client};
-ghost use Rattle.mqtt5_client.specs.Client.{IsReady, asking, disconnects, Fed, Runs, Fails, given_back};
+ghost use Rattle.mqtt5_client.specs.Client.{IsReady, asking, disconnects, Fed, Runs, Fails, codec_since, given_back};
 ghost use Rattle.mqtt5_client.specs.Asked.{bytes_asked, NotAsked};
 ghost use Rattle.mqtt5_drive.specs.Limit.{codec_after};
 ghost use Rattle.mqtt5_client.specs.Connecting.{connect_packet, opened, IsRefused};
@@ -110,8 +110,7 @@ impl Client {
         // What was answered before the fault stands.
         ensures err { IfErr result (λ e. Fails e self.old (piece at bytes.now ∷ []) [] self.new) }
         // The limit is that of the ConnAcks among the events of this call.
-        ensures codec { self.new.codec
-            ≡ codec_after (drop (length self.old.state.events) self.new.state.events) self.old.codec }
+        ensures codec { self.new.codec ≡ codec_since self.old self.new }
         ensures lost { OnErr result (self.new.input.items ≡ []) }
         ensures over { self.new.disconnected ≡ self.old.disconnected }
         // So another call may follow.
@@ -161,7 +160,8 @@ impl Client {
     /// `receive` does with the events of its call. Takes no memory.
     pub fn take_limit(&mut self, from: usize)
         ensures { self.new
-            ≡ record self.old { codec = codec_after (drop from self.old.state.events) self.old.codec } }
+            ≡ record self.old
+            { codec = codec_after (drop from self.old.state.events) self.old.codec } }
     {
         take_limit(&mut self.codec, self.state.events(), from);
     }

@@ -1,11 +1,10 @@
 //! A client between a reader and a writer.
 
-ghost use Rattle.std.specs.Prelude.{◌≡◌, ◌≢◌, ◌<◌, ℕ, List, [], ◌++◌, length, drop, IfOk, IfErr, OnOk, OnErr};
+ghost use Rattle.std.specs.Prelude.{◌≡◌, ◌≢◌, ◌<◌, ℕ, List, [], ◌++◌, length, IfOk, IfErr, OnOk, OnErr};
 ghost use Rattle.std.specs.IoError.{error_kind};
 ghost use Rattle.std.specs.Io.KnownBytes.{Appends, Consumes, IsAtEnd, Keeps};
 ghost use Rattle.std.specs.declared.io.Error.{Error as IoError};
-ghost use Rattle.mqtt5_drive.specs.Limit.{codec_after};
-ghost use Rattle.mqtt5_client.specs.Client.{IsReady};
+ghost use Rattle.mqtt5_client.specs.Client.{IsReady, codec_since};
 ghost use Rattle.mqtt5_pipe.specs.declared.error.PipeError.TheVariants as faults;
 ghost use Rattle.mqtt5_pipe.specs.Pipe.{Carries, CarriesOne, IsRetried};
 ghost use Rattle.mqtt5_pipe.specs.Ends.{ends};
@@ -61,8 +60,9 @@ pub fn turn<R: Read, W: Write>(
         (R.remaining reader.new) (W.contents writer.old) (W.contents writer.new) client.new }
     ensures end { IfOk result (λ count. count ≡ 0 → IsAtEnd (R.remaining reader.new)) }
     // The limit is that of the ConnAcks among the events of this call.
-    ensures codec { client.new.codec
-        ≡ codec_after (drop (length client.old.state.events) client.new.state.events) client.old.codec }
+    ensures codec { client.new.codec ≡ codec_since client.old client.new }
+    // Bytes that come ask for no Disconnect.
+    ensures over { client.new.disconnected ≡ client.old.disconnected }
     // So another call may follow; after a fault of the session no input is left.
     ensures ready { IsReady client.new }
     ensures retried { IfErr result IsRetried }
@@ -87,8 +87,9 @@ pub fn run_to_end<R: Read, W: Write>(
         (R.remaining reader.new) (W.contents writer.old) (W.contents writer.new) client.new }
     ensures end { OnOk result (IsAtEnd (R.remaining reader.new)) }
     // The limit is that of the ConnAcks among the events of this call.
-    ensures codec { client.new.codec
-        ≡ codec_after (drop (length client.old.state.events) client.new.state.events) client.old.codec }
+    ensures codec { client.new.codec ≡ codec_since client.old client.new }
+    // Bytes that come ask for no Disconnect.
+    ensures over { client.new.disconnected ≡ client.old.disconnected }
     // So another call may follow; after a fault of the session no input is left.
     ensures ready { IsReady client.new }
     ensures retried { IfErr result IsRetried }
@@ -111,6 +112,7 @@ fn turns_to_end<R: Read, W: Write>(
         (R.remaining reader.new) (W.contents writer.old) (W.contents writer.new) client.new }
     ensures end { OnOk result (IsAtEnd (R.remaining reader.new)) }
     ensures codec { client.new.codec ≡ client.old.codec }
+    ensures over { client.new.disconnected ≡ client.old.disconnected }
     ensures ready { IsReady client.new }
     ensures retried { IfErr result IsRetried }
 {
@@ -134,6 +136,7 @@ fn turn_once<R: Read, W: Write>(
         (R.remaining reader.new) (W.contents writer.old) (W.contents writer.new) client.new }
     ensures end { IfOk result (λ count. count ≡ 0 → IsAtEnd (R.remaining reader.new)) }
     ensures codec { client.new.codec ≡ client.old.codec }
+    ensures over { client.new.disconnected ≡ client.old.disconnected }
     ensures ready { IsReady client.new }
     ensures retried { IfErr result IsRetried }
 {

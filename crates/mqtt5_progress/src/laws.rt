@@ -41,7 +41,8 @@ pub fn progress_law()
         → requests_of (settle 4 (run_world events (start limit))).session.core.limit
         (settle 4 (run_world events (start limit))).session.core.in_use ≡ [] }
     ensures nothing_again { (limit : ℕ) (events : List WorldEvent) (receive_max : Option ℕ)
-        → (happens (settle 4 (run_world events (start limit))) (world_events.Loss receive_max)).up ≡ [] }
+        → (happens (settle 4 (run_world events (start limit)))
+        (world_events.Loss receive_max)).up ≡ [] }
     // Rounds are a run of deliveries alone.
     ensures runs { (n : ℕ) (w : World) → settle n w ≡ run_world (deliveries n w) w }
     ensures deliveries { (n : ℕ) (w : World) → Deliveries (deliveries n w) }
@@ -58,8 +59,9 @@ pub fn any_order_law()
     // The work is bounded by what is on its way.
     ensures bound { (w : World) → work w ≤ 4 * (length w.up + length w.down + 1) }
     // Where nothing is on its way all is done, and so where as many deliveries found a packet as there was work.
-    ensures at_rest { (limit : ℕ) (events : List WorldEvent) → (run_world events (start limit)).up ≡ []
-        → (run_world events (start limit)).down ≡ [] → Settled (run_world events (start limit)) }
+    ensures at_rest { (limit : ℕ) (events : List WorldEvent)
+        → (run_world events (start limit)).up ≡ [] → (run_world events (start limit)).down ≡ []
+        → Settled (run_world events (start limit)) }
     ensures all_delivered { (limit : ℕ) (events more : List WorldEvent) → Deliveries more
         → work (run_world events (start limit)) ≤ delivered more (run_world events (start limit))
         → Settled (run_world (events ++ more) (start limit)) }

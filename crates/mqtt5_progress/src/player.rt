@@ -21,11 +21,14 @@ pub fn play_out(alloc: Global, limit: u16, events: &[WorldEvent]) -> Result<Repo
         ≡ (settle 4 (run_world events.now (start limit))).broker.handed) }
     ensures accepted { IfOk result (λ r. r.accepted.items
         ≡ (run_world events.now (start limit)).accepted) }
-    ensures refused { IfOk result (λ r. r.refused.items ≡ (run_world events.now (start limit)).refused) }
-    ensures state { IfOk result (λ r. r.state ≡ (settle 4 (run_world events.now (start limit))).session) }
+    ensures refused { IfOk result (λ r. r.refused.items
+        ≡ (run_world events.now (start limit)).refused) }
+    ensures state { IfOk result (λ r. r.state
+        ≡ (settle 4 (run_world events.now (start limit))).session) }
     ensures memory { IfErr result (λ e. e ≡ StateError.OutOfMemory) }
     // Nothing is on its way, the broker awaits no release, and no packet from it and no resume was refused.
-    ensures nothing_left { IfOk result (λ _. Settled (settle 4 (run_world events.now (start limit)))) }
+    ensures nothing_left { IfOk result (λ _.
+        Settled (settle 4 (run_world events.now (start limit)))) }
     // No id is in use, and nothing waits.
     ensures settled { IfOk result (λ r. IsIdle r.state.core) }
     // A content of QoS 2 was handed on exactly as often as it was accepted.

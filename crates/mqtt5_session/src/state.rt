@@ -264,8 +264,8 @@ impl MqttState {
         at: u64,
     ) -> Result<Option<Packet>, StateError>
         ensures step { Sends result self.old self.new (on_request self.old request at) }
-        ensures ledger { number_owed self.new.core ≡ number_owed self.old.core + unless_refused result
-            (adds self.old.core request) }
+        ensures ledger { number_owed self.new.core
+            ≡ number_owed self.old.core + unless_refused result (adds self.old.core request) }
         ensures once { (id : ℕ) → kept_id id self.new.core ≡ kept_id id self.old.core }
     {
         self.send(request, at)
@@ -320,7 +320,8 @@ impl MqttState {
         at: u64,
     ) -> Result<Option<Packet>, StateError>
         ensures step { Receives result self.old self.new (on_packet self.old packet at) }
-        ensures ledger { number_owed self.new.core + unless_refused result (ends packet) ≡ number_owed self.old.core }
+        ensures ledger { number_owed self.new.core + unless_refused result (ends packet)
+            ≡ number_owed self.old.core }
         ensures once { (id : ℕ) → kept_id id self.new.core + unless_refused result
             (releases id self.old.core packet)
             ≡ kept_id id self.old.core + new_notices id self.old result self.new }
@@ -379,7 +380,8 @@ impl MqttState {
     pub fn hear_packet(&mut self, packet: Incoming, at: u64) -> Result<Reply, StateError>
         ensures step { Receives (in_full result self.new) self.old self.new
             (on_packet self.old packet at) }
-        ensures ledger { number_owed self.new.core + unless_refused result (ends packet) ≡ number_owed self.old.core }
+        ensures ledger { number_owed self.new.core + unless_refused result (ends packet)
+            ≡ number_owed self.old.core }
         ensures once { (id : ℕ) → kept_id id self.new.core + unless_refused result
             (releases id self.old.core packet) ≡ kept_id id self.old.core + new_notices id self.old
             (in_full result self.new) self.new }
@@ -437,7 +439,8 @@ impl MqttState {
         ensures step { publish.now.qos ≢ AtMostOnce
             → Sends (in_full result self.new) self.old self.new
             (on_request self.old (Request.Publish publish.now) at) }
-        ensures ledger { number_owed self.new.core ≡ number_owed self.old.core + unless_refused result
+        ensures ledger { number_owed self.new.core
+            ≡ number_owed self.old.core + unless_refused result
             (adds self.old.core (Request.Publish publish.now)) }
         ensures once { (id : ℕ) → kept_id id self.new.core ≡ kept_id id self.old.core }
         ensures unstored { publish.now.qos ≡ AtMostOnce → (result ≡ Err StateError.InvalidState)
@@ -454,7 +457,8 @@ impl MqttState {
         ensures step { publish.qos ≢ AtMostOnce
             → Sends (in_full result self.new) self.old self.new
             (on_request self.old (Request.Publish publish) at) }
-        ensures ledger { number_owed self.new.core ≡ number_owed self.old.core + unless_refused result
+        ensures ledger { number_owed self.new.core
+            ≡ number_owed self.old.core + unless_refused result
             (adds self.old.core (Request.Publish publish)) }
         ensures once { (id : ℕ) → kept_id id self.new.core ≡ kept_id id self.old.core }
         ensures unstored { publish.qos ≡ AtMostOnce → (result ≡ Err StateError.InvalidState)

@@ -25,7 +25,8 @@ pub fn reduction_law()
     ensures { (codec : Codec) (limit : ℕ) → limit < 65536
         → (events : List ByteEvent) (w : ByteWorld) → Every IsTypedEvent events
         → run_bytes codec events (start_bytes limit) ≡ Ok w
-        → Reduces codec w (run_world (plain_events codec events (start_bytes limit)) (start limit)) }
+        → Reduces codec w
+        (run_world (plain_events codec events (start_bytes limit)) (start limit)) }
 {}
 
 /// A law, which does nothing when it is called: so each content is handed on as often as its QoS promises.

@@ -1,15 +1,14 @@
 -- A talk with a broker: turns and requests of a client, one after another, between which the user
 -- takes events out (MQTT 5.0 section 4.2).
-use Rattle.std.specs.Prelude.{◌≡◌, ◌⊎◌, ℕ, false, List, [], ◌∷◌, ◌++◌, length, drop, Option, Ok}
+use Rattle.std.specs.Prelude.{◌≡◌, ◌⊎◌, ℕ, false, List, [], ◌∷◌, ◌++◌, drop, Option, Ok}
 use Rattle.std.specs.Io.KnownBytes.{Appends, Consumes}
 use Rattle.mqtt5_codec.specs.declared.packet.Packet.{Packet}
 use Rattle.mqtt5_codec.specs.Packets.{writing_under}
 use Rattle.mqtt5_inflight.specs.declared.event.Request.{Request}
 use Rattle.mqtt5_inflight.specs.declared.error.StateError.{StateError}
 use Rattle.mqtt5_drive.specs.Run.{piece}
-use Rattle.mqtt5_drive.specs.Limit.{codec_after}
 use Rattle.mqtt5_client.specs.declared.client.Client.{Client}
-use Rattle.mqtt5_client.specs.Client.{asking, Runs}
+use Rattle.mqtt5_client.specs.Client.{asking, Runs, codec_since}
 use Rattle.mqtt5_client.specs.Asked.{NotAsked}
 use Rattle.mqtt5_pipe.specs.declared.error.PipeError.{PipeError}
 use Rattle.mqtt5_pipe.specs.Pipe.{StopsBy}
@@ -25,7 +24,7 @@ abbrev pub Heard : Client → ℕ → List ℕ → List ℕ → Client → Type 
 Heard p at bytes sent q =
     (Runs p (piece at bytes ∷ []) sent q
     ⊎ ((fault : PipeError) × StopsBy fault p (piece at bytes ∷ []) sent q))
-    × (q.codec ≡ codec_after (drop (length p.state.events) q.state.events) p.codec)
+    × (q.codec ≡ codec_since p q)
 
 -- what a request leaves: a run of the client, or it isn't taken, and nothing is to be sent for it
 abbrev pub Requested : Client → ℕ → Request → Client → Type 0

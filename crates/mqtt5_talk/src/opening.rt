@@ -1,12 +1,12 @@
 //! How a connection is opened and ended.
 
-ghost use Rattle.std.specs.Prelude.{◌≡◌, ◌⊎◌, ℕ, List, [], ◌∷◌, length, drop, OnOk, IfErr, Ok, true, false};
+ghost use Rattle.std.specs.Prelude.{◌≡◌, ◌⊎◌, ℕ, List, [], ◌∷◌, OnOk, IfErr, Ok, true, false};
 ghost use Rattle.std.specs.Io.KnownBytes.{Consumes, IsAtEnd};
 ghost use Rattle.std.specs.declared.io.Error.{Error as IoError};
 ghost use Rattle.mqtt5_pipe.specs.declared.error.PipeError.TheVariants as faults;
 ghost use Rattle.mqtt5_inflight.specs.declared.event.Request.TheVariants.{Disconnect};
 ghost use Rattle.mqtt5_drive.specs.Limit.{codec_after};
-ghost use Rattle.mqtt5_client.specs.Client.{IsReady};
+ghost use Rattle.mqtt5_client.specs.Client.{IsReady, codec_since};
 ghost use Rattle.mqtt5_talk.specs.declared.error.TalkError.TheVariants.{Failed};
 ghost use Rattle.mqtt5_talk.specs.Answers.{IsAnswered};
 ghost use Rattle.mqtt5_talk.specs.Conversation.{Saying, Opens, Asks, Conversation, Talked, SendsOnly};
@@ -117,8 +117,7 @@ pub(crate) fn hear<R: Read, W: Write>(
     requires ready { IsReady client.old }
     ensures talked { Talked (R.remaining reader.old) (R.remaining reader.new)
         (W.contents writer.old) (W.contents writer.new) client.old [] client.new }
-    ensures codec { client.new.codec
-        ≡ codec_after (drop (length client.old.state.events) client.new.state.events) client.old.codec }
+    ensures codec { client.new.codec ≡ codec_since client.old client.new }
     ensures ready { OnOk result (IsReady client.new) }
 {
     match turn(client, 0, reader, writer) {

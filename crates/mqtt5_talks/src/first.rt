@@ -1,12 +1,11 @@
 //! A client's first message.
 
-ghost use Rattle.std.specs.Prelude.{◌≡◌, ◌⊎◌, [], ◌∷◌, drop, length, IfOk, IfErr, OnOk, OnErr};
+ghost use Rattle.std.specs.Prelude.{◌≡◌, ◌⊎◌, [], ◌∷◌, IfOk, IfErr, OnOk, OnErr};
 ghost use Rattle.std.specs.FinMap as map;
 ghost use Rattle.mqtt5_inflight.specs.declared.event.Request.TheVariants as requests;
-ghost use Rattle.mqtt5_drive.specs.Limit.{codec_after};
 ghost use Rattle.mqtt5_drive.specs.Run.{piece};
 ghost use Rattle.mqtt5_client.specs.Asked.{NotAsked};
-ghost use Rattle.mqtt5_client.specs.Client.{IsReady, Runs, Fails, asking};
+ghost use Rattle.mqtt5_client.specs.Client.{IsReady, Runs, Fails, asking, codec_since};
 ghost use Rattle.mqtt5_talks.specs.First.{first_message};
 
 use bytes::Bytes;
@@ -38,8 +37,7 @@ pub fn hear(client: &mut Client, bytes: &[u8]) -> Result<u16, StateError>
     requires { IsReady client.old }
     ensures heard { OnOk result (Runs client.old (piece 2 bytes.now ∷ []) [] client.new) }
     ensures err { IfErr result (λ e. Fails e client.old (piece 2 bytes.now ∷ []) [] client.new) }
-    ensures codec { client.new.codec
-        ≡ codec_after (drop (length client.old.state.events) client.new.state.events) client.old.codec }
+    ensures codec { client.new.codec ≡ codec_since client.old client.new }
     ensures lost { OnErr result (client.new.input.items ≡ []) }
     ensures over { client.new.disconnected ≡ client.old.disconnected }
     ensures awaited { IfOk result (λ count. count ≡ map.len client.new.state.core.in_use) }

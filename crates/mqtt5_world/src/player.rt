@@ -21,7 +21,8 @@ pub fn play(alloc: Global, limit: u16, events: &[WorldEvent]) -> Result<Report, 
         ≡ (run_world events.now (start limit)).broker.handed) }
     ensures accepted { IfOk result (λ r. r.accepted.items
         ≡ (run_world events.now (start limit)).accepted) }
-    ensures refused { IfOk result (λ r. r.refused.items ≡ (run_world events.now (start limit)).refused) }
+    ensures refused { IfOk result (λ r. r.refused.items
+        ≡ (run_world events.now (start limit)).refused) }
     ensures state { IfOk result (λ r. r.state ≡ (run_world events.now (start limit)).session) }
     ensures memory { IfErr result (λ e. e ≡ StateError.OutOfMemory) }
     // A content of QoS 0 or 2 is handed on at most as often as it was accepted.

@@ -182,7 +182,8 @@ impl World {
     }
 
     fn arrive(&mut self, packet: &Packet) -> Result<(), StateError>
-        ensures { Happens result self.new (after_serving self.old (serve self.old.broker packet.now)) }
+        ensures { Happens result self.new
+            (after_serving self.old (serve self.old.broker packet.now)) }
     {
         let reply = self.broker.serve(packet)?;
         send(&mut self.down, reply)?;

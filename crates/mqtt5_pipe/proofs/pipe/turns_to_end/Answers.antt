@@ -5,7 +5,7 @@ use Rattle.mqtt5_pipe.proofs.Joined.{at_start, turn_runs, turn_stops}
 use Rattle.mqtt5_pipe.proofs.pipe.turns_to_end.Goals as goal
 
 pub loop-init : goal.loop-init
-loop-init g c = record { codec = refl; carried = ([], [], Consumes-nil _, Appends-nil _, at_start c.args.client.now c.args.at c.args.client.now.input refl c.requires.ready) }
+loop-init g c = record { codec = refl; over = refl; carried = ([], [], Consumes-nil _, Appends-nil _, at_start c.args.client.now c.args.at c.args.client.now.input refl c.requires.ready) }
 
 pub returns-in_err-turn_once-clause-carried : goal.returns-in_err-turn_once-clause-carried
 returns-in_err-turn_once-clause-carried g c =
@@ -36,6 +36,7 @@ loop-preserved g c =
     let (came', sent', consumed', appended', left, count) = c.in_ok-turn_once.ensures.carried in
     record {
       codec = c.turn_once.ensures.codec ∙ c.loop.invariant.codec;
+      over = c.turn_once.ensures.over ∙ c.loop.invariant.over;
       carried = (
         came ++ came',
         sent ++ sent',

@@ -7,6 +7,7 @@ use Rattle.mqtt5_pipe.proofs.pipe.turns_to_end.Given as goal
 abbrev pub invariant-loop : goal.invariant-loop
 invariant-loop g l = record {
   codec : l.client.codec ≡ l.fn.client.codec;
+  over : l.client.disconnected ≡ l.fn.client.disconnected;
   carried : (came sent : List ℕ) × Consumes (g.R.Read.remaining l.fn.reader) (g.R.Read.remaining l.reader) came
       × Appends (g.W.Write.contents l.fn.writer) (g.W.Write.contents l.writer) sent
       × Runs l.fn.client (piece l.at came ∷ []) sent l.client;
