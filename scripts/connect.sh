@@ -6,9 +6,9 @@
 # The words of the connection, as `take_connection` found them; `rest` has the others. `named` is the first that is of use
 # with a broker alone.
 host='' port='' socket='' tls=0 insecure=0 secure=() plain=() rest=() named=''
-# Whether help is asked for, what is shown goes to a file, which word says what the content is, whether that is parted into
-# lines, and what of standard input is published: all of it, or each line.
-asks_help=0 shows_itself=0 content='' by_lines=0 from_input=''
+# Whether help is asked for, what is shown goes to a file, which word says what the content is, which of the words in `rest`
+# is the message, whether the content is parted into lines, and what of standard input is published: all of it, or each line.
+asks_help=0 shows_itself=0 content='' message_at='' by_lines=0 from_input=''
 
 # Refuses a word's value.
 refuse_value() {
@@ -89,7 +89,7 @@ in_brackets() { case $1 in *:*) echo "[$1]" ;; *) echo "$1" ;; esac; }
 # with a value is that value, whatever it looks like.
 take_connection() {
     host='' port='' socket='' tls=0 insecure=0 secure=() plain=() rest=() named=''
-    asks_help=0 shows_itself=0 content='' by_lines=0 from_input=''
+    asks_help=0 shows_itself=0 content='' message_at='' by_lines=0 from_input=''
     while [ $# -gt 0 ]; do
         case $1 in
             -h | --host | -p | --port | -L | --url | -I | --id-prefix | -A | --unix | --cafile | --capath | --cert | --key)
@@ -113,10 +113,12 @@ take_connection() {
                 rest+=(-l)
                 ;;
             -i | --id | -u | --username | -P | --pw | -x | --session-expiry-interval | --will-topic | --will-payload | --will-qos | \
-                -t | --topic | -m | --message | -f | --file | -q | --qos | -C | -o | --output)
+                -t | --topic | -m | --message | -f | --file | -q | --qos | -M | --max-inflight | -C | -o | --output | \
+                -U | --unsubscribe | -T | --filter-out | -F)
                 case $1 in
                     -o | --output) shows_itself=1 ;;
-                    -m | --message | -f | --file) content=$1 ;;
+                    -m | --message) content=$1 message_at=$((${#rest[@]} + 1)) ;;
+                    -f | --file) content=$1 ;;
                 esac
                 rest+=("$1")
                 [ $# = 1 ] || rest+=("$2") && shift
@@ -125,7 +127,11 @@ take_connection() {
                 shows_itself=1
                 rest+=("$1")
                 ;;
-            --message=* | -m* | --file=* | -f* | -n | --null-message)
+            --message=* | -m*)
+                content=${1%%=*} message_at=$((${#rest[@]} + 1))
+                case $1 in -m*) rest+=(-m "${1#-m}") ;; *) rest+=(-m "${1#*=}") ;; esac
+                ;;
+            --file=* | -f* | -n | --null-message)
                 content=${1%%=*}
                 rest+=("$1")
                 ;;
@@ -158,6 +164,11 @@ check_connection() {
         echo "$me: $1 needs a broker: name its host by -h HOST (without it standard output goes to the broker, and here it is a terminal)" >&2
         return 2
     fi
+}
+
+# Whether a word is UTF-8, as the words of a program are; so it is said to be where nothing can tell.
+is_text() {
+    ! command -v iconv > /dev/null 2>&1 || printf %s "$1" | iconv -f UTF-8 -t UTF-8 > /dev/null 2>&1
 }
 
 # The words joined by commas, each behind one.
@@ -208,15 +219,20 @@ end_running() {
 
 # Runs a program with the first of its words, pub or sub, and those in `rest` on a connection that it has for itself, and
 # ends with its status. What sub shows goes to standard output as it came, unless the words name a file; what pub publishes
-# may be standard input. At TERM, INT and HUP the program ends too, and the connection with it; then this ends by that signal.
+# may be standard input, and a message that isn't UTF-8, which a program can't take as a word, is a file to it. At TERM, INT and HUP the program ends too, and the connection with it; then this ends by that signal.
 run_connected() {
-    local program=$1 word=$2 from='' to='' shown='' showing='' given='' running='' status=0 signal
+    local program=$1 word=$2 from='' to='' shown='' showing='' given='' message='' running='' status=0 signal
     exec {given}<&0
     open_connection || return
     if [ "$word" = sub ] && [ "$shows_itself" = 0 ]; then
         exec {shown}> >(exec cat)
         showing=$!
         rest=(-o "/dev/fd/$shown" "${rest[@]}")
+    fi
+    if [ "$word" = pub ] && [ -n "$message_at" ] && ! is_text "${rest[message_at]-}"; then
+        exec {message}< <(printf %s "${rest[message_at]}")
+        rest[message_at - 1]=-f
+        rest[message_at]=/dev/fd/$message
     fi
     case $word:$from_input:$content in
         pub:all:* | pub:lines:) rest=(-f "/dev/fd/$given" "${rest[@]}") ;;

@@ -34,7 +34,7 @@ program_of() {
 usage_of() {
     case $1 in
         drive | world | bytes) echo "usage: mqtt5 $1 LIMIT (a number of 1 to 65535)" ;;
-        show) echo 'usage: mqtt5 show [--hex] [--limit N]' ;;
+        show) echo 'usage: mqtt5 show [--hex] [--json] [--limit N]' ;;
         pub) echo 'usage: mqtt5 pub -h HOST -t TOPIC -m MESSAGE (mqtt5 pub --help has all options)' ;;
         sub) echo 'usage: mqtt5 sub -h HOST FILTER.. (mqtt5 sub --help has all options)' ;;
         *) echo "usage: mqtt5 $1" ;;
@@ -53,6 +53,8 @@ Publishes to a broker.
   -l, --lines, --stdin-line
                           each line of standard input is a message, or each line of the file of -f
   -n, --null-message      an empty message
+  -M, --max-inflight COUNT
+                          of lines at QoS 1 and 2, how many are sent ahead of their acks, else 20
   -q, --qos QOS           the quality of service: 0, which it is without, 1 or 2
   -r, --retain            the broker retains the message
 END
@@ -66,10 +68,18 @@ Subscribes at a broker, and shows what comes, a line each.
 
   -t, --topic FILTER      a topic filter; may be given often, and beside others without -t
   -q, --qos QOS           the greatest quality of service of what comes: 0, which it is without, 1 or 2
+  -U, --unsubscribe FILTER
+                          a filter whose subscription ends; may be given often
   -C COUNT                ends after so many messages
+  -E                      ends once it is subscribed, and shows nothing
+  -R                      shows no message that the broker had retained
+  -T, --filter-out FILTER
+                          shows no message whose topic matches this; may be given often
   -v, --verbose           the topic and a space before each message
   -o, --output FILE       messages go to this file, which is made anew
   -N, --no-newline        no newline behind a message there
+  -F FORMAT               messages by a format, as of mosquitto_sub: %t the topic, %p the message ..
+  --escape                messages as text, other bytes escaped, wherever they go
 END
     say_options
 }
@@ -109,15 +119,26 @@ docs/PROGRAM.md of the sources says more of each.
 END
 }
 
+# Whether `show` takes these words: each of its options at most once.
+is_show() {
+    local given=' '
+    while [ $# -gt 0 ]; do
+        [[ $1 =~ ^--(hex|json|limit)$ && $given != *" $1 "* ]] || return
+        given="$given$1 "
+        if [ "$1" = --limit ]; then
+            [[ ${2-} =~ ^[0-9]+$ ]] || return
+            shift
+        fi
+        shift
+    done
+}
+
 # Whether a program takes these words; of a client's own words it says so itself.
 is_called_well() {
     case $1 in
         drive | world | bytes) [ $# = 2 ] && [[ $2 =~ ^0*[1-9][0-9]{0,4}$ ]] && [ "$((10#$2))" -le 65535 ] ;;
         network | bench) [ $# = 1 ] ;;
-        show)
-            shift
-            [[ " $*" =~ ^(' --hex')?(' --limit '[0-9]+)?$ || " $*" =~ ^(' --limit '[0-9]+)?(' --hex')?$ || $# = 0 ]]
-            ;;
+        show) shift && is_show "$@" ;;
         *) [ $# -gt 1 ] ;;
     esac
 }

@@ -1,5 +1,5 @@
-"""Stands between clients and a broker, and cuts their connections. Usage: relay.py HOST PORT CUTS prints its own port, cuts so
-often, and goes on until its input ends."""
+"""Stands between clients and a broker, cuts their connections, and delays what it carries. Usage: relay.py HOST PORT CUTS
+[MILLISECONDS] prints its own port, cuts so often, carries each byte so much later, and goes on until its input ends."""
 
 import asyncio
 import random
@@ -7,8 +7,9 @@ import sys
 
 
 class Relay:
-    def __init__(self, host, port):
+    def __init__(self, host, port, delay=0.0):
         self.broker = host, port
+        self.delay = delay
         self.ways = set()
         self.cuts = 0
 
@@ -32,8 +33,26 @@ class Relay:
             pass
 
     async def carry(self, reader, writer):
+        late = asyncio.Queue()
+        await asyncio.gather(self.take(reader, late), self.give(late, writer))
+
+    # (no bytes are the end)
+    async def take(self, reader, late):
+        data = b"?"
+        while data:
+            try:
+                data = await reader.read(1000)
+            except OSError:
+                data = b""
+            late.put_nowait((asyncio.get_running_loop().time() + self.delay, data))
+
+    async def give(self, late, writer):
         try:
-            while data := await reader.read(1000):
+            while True:
+                at, data = await late.get()
+                await asyncio.sleep(at - asyncio.get_running_loop().time())
+                if not data:
+                    break
                 writer.write(data)
                 await writer.drain()
         except OSError:
@@ -48,10 +67,10 @@ class Relay:
         self.ways.clear()
 
 
-async def main(host, port, cuts):
+async def main(host, port, cuts, delay="0"):
     # (the same cuts each time)
     chance = random.Random(5)
-    async with Relay(host, int(port)) as relay:
+    async with Relay(host, int(port), int(delay) / 1000) as relay:
         print(relay.port, flush=True)
         while relay.cuts < int(cuts):
             await asyncio.sleep(chance.uniform(0.1, 0.5))

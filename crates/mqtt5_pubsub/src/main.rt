@@ -2,6 +2,8 @@
 //! sends, and its standard output goes to the broker; messages and faults are told on standard error.
 #![tactic(auto)]
 
+mod format;
+mod hiding;
 mod publishing;
 pub mod run;
 mod subscribing;

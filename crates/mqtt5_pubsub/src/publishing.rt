@@ -4,29 +4,45 @@ ghost use Rattle.std.specs.Prelude.{◌<◌, OnOk};
 ghost use Rattle.mqtt5_client.specs.Client.{IsReady};
 
 use crate::words::{parse_pub, refuses_texts, refuses_topic};
-use bytes::Bytes;
 use clap::ArgMatches;
-use mqtt5_base::QoS;
-use mqtt5_client::Client;
+use mqtt5_client::{Client, StateError};
 use mqtt5_codec::Packet;
-use mqtt5_publish::Publish;
+use mqtt5_pipe::PipeError;
 use mqtt5_talk::{
-    TalkError, close, connect_of, new_client, open, publish, quality_of, refuse, tell,
+    Capabilities, Heading, LineSource, TalkError, close, connect_of, new_client, open, publish,
+    publish_all, quality_of, refuse, tell,
 };
 use std::alloc::Global;
 use std::io::{Read, Write};
 use std::rt::Files;
 use std::{fs, io};
 
+/// How many messages of QoS 1 and 2 are sent ahead of their acks at most, where the words don't say it.
+const WINDOW: u16 = 20;
+
 /// What is published, and how.
 #[derive(Clone, Copy)]
 struct Task<'a> {
     alloc: Global,
-    topic: &'a str,
-    quality: QoS,
-    retain: bool,
-    /// Whether each line of the content is a message.
-    by_lines: bool,
+    heading: Heading<'a>,
+    window: u16,
+}
+
+/// What is published: the bytes of one message, or each line of a file.
+#[derive(Drop)]
+enum Content<F> {
+    Message(Vec<u8>),
+    Lines(F),
+}
+
+/// Why publishing stops.
+#[derive(Debug, Drop, thiserror::Error)]
+enum Stop {
+    /// At this line.
+    #[error("line {0}: {1}")]
+    AtLine(u64, TalkError),
+    #[error("{0}")]
+    Elsewhere(TalkError),
 }
 
 /// Publishes, and answers the exit status: 0; 1 after a fault; 2 where the words are refused. The log tells why.
@@ -54,18 +70,21 @@ fn run_matches<F: Files + AllocGlobal, R: Read, W: Write, E: Write>(
 ) -> u8
     ensures { result < 3 }
 {
-    let task = Task {
-        alloc: rt.alloc(),
+    let heading = Heading {
         topic: matches.get_str("topic").unwrap_or(""),
-        quality: quality_of(matches, "qos"),
+        qos: quality_of(matches, "qos"),
         retain: matches.get_flag("retain"),
-        by_lines: matches.get_flag("lines"),
     };
-    if refuses_texts(matches, log) || refuses_topic(task.topic, log) {
+    if refuses_texts(matches, log) || refuses_topic(heading.topic, log) {
         return 2;
     }
+    let task = Task {
+        alloc: rt.alloc(),
+        heading,
+        window: window_of(matches),
+    };
     match content_of(rt, matches) {
-        Ok(content) => tell(talk(task, matches, content.as_slice(), reader, writer), log),
+        Ok(content) => tell(talk(task, matches, content, reader, writer), log),
         Err(error) => {
             let _ = writeln!(log, "error: the file can't be read: {error}");
             1
@@ -73,97 +92,72 @@ fn run_matches<F: Files + AllocGlobal, R: Read, W: Write, E: Write>(
     }
 }
 
-/// The bytes of the message or of the file.
-fn content_of<F: Files + AllocGlobal>(rt: &F, matches: &ArgMatches<'_>) -> io::Result<Vec<u8>> {
+/// How many messages are sent ahead of their acks at most.
+fn window_of(matches: &ArgMatches<'_>) -> u16
+    ensures { 0 < result }
+{
+    match matches.get_one::<u16>("window") {
+        Some(window) => window.max(1),
+        None => WINDOW,
+    }
+}
+
+/// The message, or the file, which is read only where it is a message.
+fn content_of<F: Files + AllocGlobal>(
+    rt: &F,
+    matches: &ArgMatches<'_>,
+) -> io::Result<Content<F::File>> {
     match matches.get_str("file") {
-        Some(file) => fs::read(rt, file),
+        Some(file) if matches.get_flag("lines") => Ok(Content::Lines(fs::open(rt, file)?)),
+        Some(file) => Ok(Content::Message(fs::read(rt, file)?)),
         None => {
             let message = matches.get_str("message").unwrap_or("");
-            Ok(Vec::from_slice(rt.alloc(), message.as_bytes())?)
+            Ok(Content::Message(Vec::from_slice(rt.alloc(), message.as_bytes())?))
         }
     }
 }
 
-fn talk<R: Read, W: Write>(
+fn talk<F: Read + Drop, R: Read, W: Write>(
     task: Task<'_>,
     matches: &ArgMatches<'_>,
-    content: &[u8],
+    content: Content<F>,
     reader: &mut R,
     writer: &mut W,
-) -> Result<(), TalkError> {
+) -> Result<(), Stop>
+    requires { 0 < task.window }
+{
     let connect = connect_of(task.alloc, matches)?;
-    let mut client = new_client(task.alloc, false);
+    let mut client = new_client(task.alloc, task.window, false);
     let ended = talk_over(&mut client, &connect, task, content, reader, writer);
     drop(client);
     drop(connect);
     ended
 }
 
-fn talk_over<R: Read, W: Write>(
+fn talk_over<F: Read + Drop, R: Read, W: Write>(
     client: &mut Client,
     connect: &Packet,
     task: Task<'_>,
-    content: &[u8],
+    content: Content<F>,
     reader: &mut R,
     writer: &mut W,
-) -> Result<(), TalkError>
+) -> Result<(), Stop>
     requires { IsReady client.old }
 {
-    open(client, connect, reader, writer)?;
-    publish_all(client, task, content, reader, writer)?;
-    close(client, writer)
-}
-
-fn publish_all<R: Read, W: Write>(
-    client: &mut Client,
-    task: Task<'_>,
-    content: &[u8],
-    reader: &mut R,
-    writer: &mut W,
-) -> Result<(), TalkError>
-    requires { IsReady client.old }
-    ensures { OnOk result (IsReady client.new) }
-{
-    if task.by_lines {
-        publish_lines(client, task, content, reader, writer)
-    } else {
-        publish_one(client, task, content, reader, writer)
-    }
-}
-
-/// Publishes each line, without its newline; behind the last newline stands no line.
-fn publish_lines<R: Read, W: Write>(
-    client: &mut Client,
-    task: Task<'_>,
-    content: &[u8],
-    reader: &mut R,
-    writer: &mut W,
-) -> Result<(), TalkError>
-    requires { IsReady client.old }
-    ensures { OnOk result (IsReady client.new) }
-{
-    let mut rest = content;
-    for _ in 0..content.len() {
-        if rest.is_empty() {
-            break;
+    let capabilities = open(client, connect, reader, writer)?;
+    match content {
+        Content::Message(bytes) => {
+            publish_one(client, capabilities, task, bytes.as_slice(), reader, writer)?
         }
-        let (line, others) = first_line(rest);
-        publish_one(client, task, line, reader, writer)?;
-        rest = others;
+        Content::Lines(file) => publish_lines(client, capabilities, task, file, reader, writer)?,
     }
+    close(client, writer)?;
     Ok(())
-}
-
-/// The bytes up to the first newline, and those behind it.
-fn first_line(content: &[u8]) -> (&[u8], &[u8]) {
-    match content.iter().position(|byte| *byte == b'\n') {
-        Some(end) => (&content[..end], &content[end + 1..]),
-        None => (content, &[]),
-    }
 }
 
 fn publish_one<R: Read, W: Write>(
     client: &mut Client,
+    capabilities: Capabilities,
     task: Task<'_>,
     payload: &[u8],
     reader: &mut R,
@@ -172,13 +166,52 @@ fn publish_one<R: Read, W: Write>(
     requires { IsReady client.old }
     ensures { OnOk result (IsReady client.new) }
 {
-    let message = message_of(task, payload)?;
-    publish(client, message, reader, writer)
+    let message = task.heading.message(task.alloc, payload)?;
+    publish(client, capabilities, message, reader, writer)
 }
 
-fn message_of(task: Task<'_>, payload: &[u8]) -> Result<Publish, mqtt5_base::Error> {
-    let payload = Bytes::copy_from_slice(task.alloc, payload)?;
-    let mut message = Publish::new(task.alloc, task.topic, task.quality, payload, None)?;
-    message.retain = task.retain;
-    Ok(message)
+fn publish_lines<F: Read + Drop, R: Read, W: Write>(
+    client: &mut Client,
+    capabilities: Capabilities,
+    task: Task<'_>,
+    file: F,
+    reader: &mut R,
+    writer: &mut W,
+) -> Result<(), Stop>
+    requires { IsReady client.old }
+    ensures { OnOk result (IsReady client.new) }
+{
+    let mut lines = match LineSource::new(task.alloc, task.heading, task.window, file) {
+        Ok(lines) => lines,
+        Err(error) => return Err(Stop::Elsewhere(TalkError::Unread(error))),
+    };
+    let ended = publish_all(client, capabilities, &mut lines, reader, writer);
+    match ended {
+        Ok(()) => Ok(()),
+        Err(trouble) => Err(stop_at(trouble, &lines)),
+    }
+}
+
+/// The trouble with its line, where it has one.
+fn stop_at<F: Read + Drop>(trouble: TalkError, lines: &LineSource<'_, F>) -> Stop {
+    match &trouble {
+        TalkError::NotPublished { pkid, .. } => Stop::AtLine(lines.line_of(*pkid), trouble),
+        TalkError::Forbidden(_) => Stop::AtLine(lines.count(), trouble),
+        TalkError::Failed(PipeError::Session(StateError::OutgoingPacketTooLarge { .. })) => {
+            Stop::AtLine(lines.count(), trouble)
+        }
+        _other => Stop::Elsewhere(trouble),
+    }
+}
+
+impl From<TalkError> for Stop {
+    fn from(trouble: TalkError) -> Stop {
+        Stop::Elsewhere(trouble)
+    }
+}
+
+impl From<mqtt5_base::Error> for Stop {
+    fn from(error: mqtt5_base::Error) -> Stop {
+        Stop::Elsewhere(TalkError::from(error))
+    }
 }

@@ -13,9 +13,10 @@ const QUALITIES: [&str; 3] = ["0", "1", "2"];
 const LONGEST: usize = 65_535;
 
 /// The options whose values are such texts, and what each is.
-const TEXTS: [(&str, &str); 7] = [
+const TEXTS: [(&str, &str); 8] = [
     ("filters", "topic filter"),
     ("topic", "topic"),
+    ("unsubscribe", "topic filter"),
     ("id", "client identifier"),
     ("username", "user name"),
     ("password", "password"),
@@ -98,7 +99,16 @@ fn pub_command<'a>(alloc: Global) -> Result<Command<'a>, AllocError> {
     );
     let command = message_options(alloc, command)?;
     let command = content_options(alloc, command)?;
+    let command = command.arg(window_option(alloc))?;
     connection_options(alloc, command)
+}
+
+fn window_option<'a>(alloc: Global) -> Arg<'a> {
+    Arg::new(alloc, "window")
+        .short('M')
+        .long("max-inflight")
+        .value_name("COUNT")
+        .value_parser(value_parser!(u16).range(1..))
 }
 
 fn message_options<'a>(alloc: Global, command: Command<'a>) -> Result<Command<'a>, AllocError> {
@@ -185,8 +195,30 @@ fn sub_command<'a>(alloc: Global) -> Result<Command<'a>, AllocError> {
 fn filter_options<'a>(alloc: Global, command: Command<'a>) -> Result<Command<'a>, AllocError> {
     let command = command.arg(filters_argument(alloc)?)?;
     let command = command.arg(filter_option(alloc))?;
+    let command = command.arg(unsubscribe_option(alloc))?;
     let command = command.arg(quality_option(alloc))?;
-    command.arg(count_option(alloc))
+    end_options(alloc, command)
+}
+
+/// When the program ends.
+fn end_options<'a>(alloc: Global, command: Command<'a>) -> Result<Command<'a>, AllocError> {
+    let command = command.arg(count_option(alloc))?;
+    command.arg(exit_option(alloc)?)
+}
+
+fn unsubscribe_option<'a>(alloc: Global) -> Arg<'a> {
+    Arg::new(alloc, "unsubscribe")
+        .short('U')
+        .long("unsubscribe")
+        .value_name("FILTER")
+        .action(ArgAction::Append)
+}
+
+fn exit_option<'a>(alloc: Global) -> Result<Arg<'a>, AllocError> {
+    Arg::new(alloc, "exit")
+        .short('E')
+        .action(ArgAction::SetTrue)
+        .conflicts_with("count")
 }
 
 fn filters_argument<'a>(alloc: Global) -> Result<Arg<'a>, AllocError> {
@@ -214,7 +246,46 @@ fn count_option<'a>(alloc: Global) -> Arg<'a> {
 fn show_options<'a>(alloc: Global, command: Command<'a>) -> Result<Command<'a>, AllocError> {
     let command = command.arg(verbose_option(alloc))?;
     let command = command.arg(output_option(alloc))?;
-    command.arg(joined_option(alloc)?)
+    let command = command.arg(joined_option(alloc)?)?;
+    let command = command.arg(escape_option(alloc)?)?;
+    let command = command.arg(format_option(alloc)?)?;
+    hide_options(alloc, command)
+}
+
+fn format_option<'a>(alloc: Global) -> Result<Arg<'a>, AllocError> {
+    Arg::new(alloc, "format")
+        .short('F')
+        .value_name("FORMAT")
+        .allow_hyphen_values(true)
+        .conflicts_with("escape")?
+        .conflicts_with("verbose")
+}
+
+/// What isn't shown.
+fn hide_options<'a>(alloc: Global, command: Command<'a>) -> Result<Command<'a>, AllocError> {
+    let command = command.arg(retained_option(alloc))?;
+    command.arg(filter_out_option(alloc))
+}
+
+fn retained_option<'a>(alloc: Global) -> Arg<'a> {
+    Arg::new(alloc, "no-retained")
+        .short('R')
+        .action(ArgAction::SetTrue)
+}
+
+fn filter_out_option<'a>(alloc: Global) -> Arg<'a> {
+    Arg::new(alloc, "filter-out")
+        .short('T')
+        .long("filter-out")
+        .value_name("FILTER")
+        .action(ArgAction::Append)
+}
+
+fn escape_option<'a>(alloc: Global) -> Result<Arg<'a>, AllocError> {
+    Arg::new(alloc, "escape")
+        .long("escape")
+        .action(ArgAction::SetTrue)
+        .conflicts_with("joined")
 }
 
 fn verbose_option<'a>(alloc: Global) -> Arg<'a> {

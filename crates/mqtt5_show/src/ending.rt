@@ -3,8 +3,10 @@
 ghost use Rattle.std.specs.Prelude.{◌≡◌, IfOk, Ok};
 ghost use Rattle.mqtt5_show.specs.declared.ending.Status.TheVariants.{Done, Fault};
 
+use crate::json::write_json_stop;
+use crate::meaning::meaning_of;
 use mqtt5_base::Error;
-use std::alloc::AllocError;
+use std::alloc::{AllocError, Global};
 use std::io;
 use std::io::Write;
 
@@ -63,12 +65,31 @@ pub fn write_ending<W: Write>(
     }
 }
 
+/// The same as a line of JSON.
+pub fn write_json_ending<W: Write>(
+    alloc: Global,
+    output: &mut W,
+    offset: u64,
+    ended: Result<(), Stop>,
+) -> io::Result<Status>
+    ensures { IfOk result (λ s. s ≡ Done → ended ≡ Ok tt) }
+{
+    match ended {
+        Ok(()) => Ok(Status::Done),
+        Err(stop) => {
+            write_json_stop(alloc, output, offset, &stop)?;
+            Ok(Status::Fault)
+        }
+    }
+}
+
 fn write_stop<W: Write>(output: &mut W, offset: u64, stop: &Stop) -> io::Result<()> {
     match stop {
         Stop::Fault(error) => writeln!(
             output,
-            "fault E{} at byte {offset}: {error}",
-            error.number()
+            "fault E{} at byte {offset}: {error}: {}",
+            error.number(),
+            meaning_of(error)
         ),
         Stop::Incomplete(missing) => writeln!(
             output,

@@ -1,5 +1,5 @@
 //! The program of `mqtt5 show`: it reads the bytes of one direction of a connection from its standard input, and prints
-//! each packet as a line.
+//! each packet as a line, of text or of JSON.
 #![tactic(auto)]
 
 mod capture;
@@ -7,6 +7,8 @@ mod connecting;
 mod digits;
 mod ending;
 mod field;
+mod json;
+mod meaning;
 mod packet;
 mod publishing;
 pub mod run;

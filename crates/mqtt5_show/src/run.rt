@@ -4,8 +4,8 @@ ghost use Rattle.std.specs.Prelude.{◌≡◌, ◌<◌, IfOk};
 ghost use Rattle.mqtt5_show.specs.declared.ending.Status.TheVariants.{Refused};
 
 use crate::capture::Capture;
-use crate::ending::{Status, write_ending, write_memory_fault};
-use crate::screen::Lines;
+use crate::ending::{Status, write_ending, write_json_ending, write_memory_fault};
+use crate::screen::{JsonLines, Lines};
 use crate::words::{Asked, parse_words};
 use std::alloc::Global;
 use std::io;
@@ -42,6 +42,15 @@ fn show_all<R: Read, W: Write>(
     output: &mut W,
 ) -> io::Result<Status> {
     let mut capture = Capture::new(alloc, asked);
+    if asked.json {
+        let mut lines = JsonLines {
+            alloc,
+            output: &mut *output,
+        };
+        let ended = capture.show_all(input, &mut lines);
+        drop(lines);
+        return write_json_ending(alloc, output, capture.offset(), ended);
+    }
     let mut lines = Lines {
         output: &mut *output,
     };
@@ -53,6 +62,6 @@ fn show_all<R: Read, W: Write>(
 fn write_usage<W: Write>(output: &mut W) -> io::Result<Status>
     ensures { IfOk result (λ s. s ≡ Refused) }
 {
-    output.write_all(b"usage: mqtt5 show [--hex] [--limit N]\n")?;
+    output.write_all(b"usage: mqtt5 show [--hex] [--json] [--limit N]\n")?;
     Ok(Status::Refused)
 }

@@ -2,8 +2,10 @@
 
 ghost use Rattle.std.specs.Prelude.{OnOk};
 
+use crate::json::write_json;
 use crate::packet::write_packet;
 use mqtt5_codec::Packet;
+use std::alloc::Global;
 use std::io;
 use std::io::Write;
 
@@ -30,5 +32,20 @@ impl<W: Write> Screen for Lines<W> {
     fn show(&mut self, packet: &Packet) -> io::Result<()> {
         write_packet(&mut self.output, packet)?;
         self.output.write_all(b"\n")
+    }
+}
+
+/// Each packet is a line of JSON. Proofs don't see what it says.
+#[derive(Drop)]
+pub struct JsonLines<W> {
+    pub alloc: Global,
+    pub output: W,
+}
+
+impl<W: Write> Screen for JsonLines<W> {
+    ghost shows = { λ old p new. Unit {0} };
+
+    fn show(&mut self, packet: &Packet) -> io::Result<()> {
+        write_json(self.alloc, &mut self.output, packet)
     }
 }

@@ -5,11 +5,13 @@
 pub struct Asked {
     /// Whether the input is hexadecimal digits.
     pub hex: bool,
+    /// Whether a line is JSON.
+    pub json: bool,
     /// The greatest remaining length that is taken. None is no limit.
     pub limit: Option<u32>,
 }
 
-/// `show`, and behind it `--hex` and `--limit N`, each at most once. None of other words.
+/// `show`, and behind it `--hex`, `--json` and `--limit N`, each at most once. None of other words.
 pub fn parse_words(words: &[String]) -> Option<Asked> {
     let (first, options) = words.split_first()?;
     if first.as_str() != "show" {
@@ -19,43 +21,43 @@ pub fn parse_words(words: &[String]) -> Option<Asked> {
 }
 
 fn parse_options(options: &[String]) -> Option<Asked> {
-    match options {
-        [] => Some(ask(false, None)),
-        [hex] => {
-            is_hex(hex)?;
-            Some(ask(true, None))
+    let mut asked = Asked {
+        hex: false,
+        json: false,
+        limit: None,
+    };
+    let mut left = options;
+    for _ in 0..options.len() {
+        let Some((word, others)) = left.split_first() else {
+            break;
+        };
+        left = parse_option(&mut asked, word, others)?;
+    }
+    Some(asked)
+}
+
+/// Takes an option, with its value of the words behind it, and answers the words behind that.
+fn parse_option<'a>(
+    asked: &mut Asked,
+    word: &String,
+    others: &'a [String],
+) -> Option<&'a [String]> {
+    match word.as_str() {
+        "--hex" if !asked.hex => asked.hex = true,
+        "--json" if !asked.json => asked.json = true,
+        "--limit" if asked.limit.is_none() => {
+            let (number, behind) = others.split_first()?;
+            asked.limit = Some(parse_number(number)?);
+            return Some(behind);
         }
-        [name, number] => Some(ask(false, Some(parse_limit(name, number)?))),
-        [first, second, third] => parse_three(first, second, third),
-        _ => None,
+        _other => return None,
     }
+    Some(others)
 }
 
-/// `--hex` before or behind the limit.
-fn parse_three(first: &String, second: &String, third: &String) -> Option<Asked> {
-    if is_hex(first).is_some() {
-        return Some(ask(true, Some(parse_limit(second, third)?)));
-    }
-    is_hex(third)?;
-    Some(ask(true, Some(parse_limit(first, second)?)))
-}
-
-fn ask(hex: bool, limit: Option<u32>) -> Asked {
-    Asked { hex, limit }
-}
-
-fn is_hex(word: &String) -> Option<()> {
-    if word.as_str() == "--hex" {
-        Some(())
-    } else {
-        None
-    }
-}
-
-/// `--limit` and a number of decimal digits alone, which fits a `u32`.
-fn parse_limit(name: &String, number: &String) -> Option<u32> {
-    let is_number = number.as_str().bytes().all(|byte| byte.is_ascii_digit());
-    if name.as_str() != "--limit" || !is_number {
+/// A number of decimal digits alone, which fits a `u32`.
+fn parse_number(number: &String) -> Option<u32> {
+    if !number.as_str().bytes().all(|byte| byte.is_ascii_digit()) {
         return None;
     }
     number.as_str().parse::<u32>().ok()

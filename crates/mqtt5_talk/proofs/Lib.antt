@@ -1,2 +1,3 @@
 pub mod Talking
 pub mod Showing
+pub mod Sending

@@ -1,7 +1,8 @@
 -- What was shown, and its acks.
-use Rattle.std.proofs.Common.{◌≡◌, ℕ, ◌+◌, Bool, List, [], ◌∷◌, ◌++◌, refl, sym, ap, subst, ◌∙◌, append_assoc, append-nil, add-one, ◌<◌, take, get_or, length, Result, Ok, Err, IfOk}
+use Rattle.std.proofs.Common.{◌≡◌, ℕ, ◌+◌, Bool, List, [], ◌∷◌, ◌++◌, refl, sym, ap, subst, ◌∙◌, append_assoc, append-nil, add-one, ◌<◌, arith, take, get_or, length, Result, Ok, Err, IfOk}
 use Rattle.std.specs.Prelude.{Option}
 use Rattle.std.proofs.Math.Seq.{take-suc}
+use Rattle.mqtt5_base.specs.Views.{bit}
 use Rattle.mqtt5_publish.specs.declared.publish.Publish.{Publish}
 use Rattle.mqtt5_client.specs.declared.client.Client.{Client}
 use Rattle.mqtt5_talk.specs.declared.error.TalkError.{TalkError}
@@ -14,12 +15,13 @@ pub acks_append : (ps qs : List Publish) → acks_of (ps ++ qs) ≡ acks_of ps +
 acks_append [] qs = refl
 acks_append (p ∷ ps) qs = ap (λ (s : List Saying). ack_of p ++ s) (acks_append ps qs) ∙ sym (append_assoc (ack_of p) (acks_of ps) (acks_of qs))
 
-pub shows_append : {S : Type 0} (shows : S → Publish → S → Type 0) (s t u : S) (ps qs : List Publish) → ShowsAll shows s ps t → ShowsAll shows t qs u → ShowsAll shows s (ps ++ qs) u
-shows_append shows s t u [] qs h k = rw (sym h) k
-shows_append shows s t u (p ∷ ps) qs h k = (h.0, h.1, shows_append shows h.0 t u ps qs h.2 k)
+pub shows_append : {S : Type 0} (shows : S → Publish → Bool → S → Type 0) (s t u : S) (ps qs : List Publish) (m n : ℕ) → ShowsAll shows s ps m t → ShowsAll shows t qs n u → ShowsAll shows s (ps ++ qs) (m + n) u
+shows_append shows s t u [] qs m n h k =
+    let e : m + n ≡ n = omega (arith, h.1) in rw (sym h.0, e) k
+shows_append shows s t u (p ∷ ps) qs m n h k = (h.0, h.1, h.2 + n, h.3, shows_append shows h.1 t u ps qs h.2 n h.4 k, omega (arith, h.5))
 
-pub showed_append : {S : Type 0} (shows : S → Publish → S → Type 0) (s t : S) (ps qs : List Publish) → ShowsAll shows s ps t → Showed shows t qs → Showed shows s (ps ++ qs)
-showed_append shows s t ps qs h k = (k.0, shows_append shows s t k.0 ps qs h k.1)
+pub showed_append : {S : Type 0} (shows : S → Publish → Bool → S → Type 0) (s t : S) (ps qs : List Publish) (m : ℕ) → ShowsAll shows s ps m t → Showed shows t qs → Showed shows s (ps ++ qs)
+showed_append shows s t ps qs m h k = (m + k.0, k.1, shows_append shows s t k.1 ps qs m k.0 h k.2)
 
 pub escaped_append : (is_text : Bool) (xs ys : List ℕ) → escaped is_text (xs ++ ys) ≡ escaped is_text xs ++ escaped is_text ys
 escaped_append is_text [] ys = refl
@@ -49,11 +51,11 @@ module _ (a b : Option (List ℕ)) (x y z : Option (List ℕ)) (p q r : Client) 
   pub more_talked : Talked a b x y p (acks_of ps) q → SendsOnly y z q (acks_of qs) r → Talked a b x z p (acks_of (ps ++ qs)) r
   more_talked t u = subst (λ (said : List Saying). Talked a b x z p said r) (sym (acks_append ps qs)) (then_talked a b b x y z p q r (acks_of ps) (acks_of qs) t (as_talked b y z q r (acks_of qs) u))
 
-module _ (a b c : Option (List ℕ)) (x y z : Option (List ℕ)) (p q r : Client) (ps : List Publish) where
-  pub silence_talked : Talked a b x y p (acks_of ps) q → Talked b c y z q [] r → Talked a c x z p (acks_of ps) r
-  silence_talked t u = subst (λ (said : List Saying). Talked a c x z p said r) (append-nil (acks_of ps)) (then_talked a b c x y z p q r (acks_of ps) [] t u)
-
 -- where nothing was shown
-pub shows_none : {S : Type 0} (shows : S → Publish → S → Type 0) (s : S) (r : Result ℕ TalkError) → IfOk r (λ n. n ≡ 0) → IfOk r (λ n. ShowsAll shows s [] s × (0 ≡ n))
-shows_none shows s (Ok n) e = (refl, sym e)
+pub shows_none : {S : Type 0} (shows : S → Publish → Bool → S → Type 0) (s : S) (r : Result ℕ TalkError) → IfOk r (λ n. n ≡ 0) → IfOk r (λ n. (count : ℕ) × ShowsAll shows s [] count s × (count ≡ n))
+shows_none shows s (Ok n) e = (0, (refl, refl), sym e)
 shows_none shows s (Err trouble) e = tt
+
+-- one message was given
+pub shows_one : {S : Type 0} (shows : S → Publish → Bool → S → Type 0) (s t : S) (p : Publish) (is_shown : Bool) → shows s p is_shown t → ShowsAll shows s (p ∷ []) (bit is_shown) t
+shows_one shows s t p is_shown h = (is_shown, t, 0, h, (refl, refl), omega arith)

@@ -73,6 +73,11 @@ module _ (a b c : Option (List ℕ)) (x y z : Option (List ℕ)) (p q r : Client
     talks = join p q r said more t.came u.came t.sent u.sent t.talks u.talks;
   }
 
+-- nothing was said then
+module _ (a b c : Option (List ℕ)) (x y z : Option (List ℕ)) (p q r : Client) (said : List Saying) where
+  pub then_silent : Talked a b x y p said q → Talked b c y z q [] r → Talked a c x z p said r
+  then_silent t u = subst (λ (s : List Saying). Talked a c x z p s r) (append-nil said) (then_talked a b c x y z p q r said [] t u)
+
 module _ (x y z : Option (List ℕ)) (p q r : Client) (said more : List Saying) where
   pub then_told : SendsOnly x y p said q → SendsOnly y z q more r → SendsOnly x z p (said ++ more) r
   then_told t u = record {

@@ -8,10 +8,10 @@ use Rattle.mqtt5_talk.specs.declared.error.TalkError.{TalkError}
 use Rattle.mqtt5_talk.specs.declared.error.TalkError.TheVariants.{Refused, Ended, Failed}
 
 -- what the broker said, where it refused the connection (MQTT 5.0 section 3.2.2.2) or ended it
--- (3.14.2.1)
+-- (3.14.2.1), with its text (3.14.2.2.3)
 abbrev pub broker_said : StateError → Option TalkError
-broker_said (errors.ConnFail reason) = Some (Refused reason)
-broker_said (errors.ServerDisconnect reason text) = Some (Ended reason)
+broker_said (errors.ConnFail reason) = Some (Refused reason (record { text = None }))
+broker_said (errors.ServerDisconnect reason text) = Some (Ended reason (record { text = text }))
 broker_said e = None
 
 -- the same of a pipe's fault

@@ -1,18 +1,20 @@
 //! Why a talk with a broker stops.
 
-ghost use Rattle.std.specs.Prelude.{◌≡◌};
-ghost use Rattle.mqtt5_talk.specs.declared.error.TalkError.TheVariants.{Failed};
-ghost use Rattle.mqtt5_talk.specs.TalkErrors.{error_of, broker_said, pipe_said};
+ghost use Rattle.std.specs.Prelude.{◌≡◌, None, Some, IfOk, IfErr};
+ghost use Rattle.mqtt5_talk.specs.declared.error.TalkError.TheVariants.{Failed, Forbidden as OfForbidden};
+ghost use Rattle.mqtt5_talk.specs.TalkErrors.{error_of, broker_said};
 ghost use Rattle.mqtt5_pipe.specs.declared.error.PipeError.TheVariants as faults;
 ghost use Rattle.mqtt5_inflight.specs.declared.error.StateError.TheVariants.{OutOfMemory};
 ghost use Rattle.mqtt5_inflight.specs.Errors.{state_error};
 
+use crate::capabilities::Forbidden;
+use crate::reason::ReasonText;
 use mqtt5_base::Error;
 use mqtt5_control::{ConnectReturnCode, DisconnectReasonCode};
 use mqtt5_pipe::PipeError;
 use mqtt5_publish::PubAckReason;
 use mqtt5_session::StateError;
-use mqtt5_subscribe::SubscribeReasonCode;
+use mqtt5_subscribe::{SubscribeReasonCode, UnsubAckReason};
 use std::alloc::{AllocError, AllocFailed};
 use std::io;
 
@@ -20,23 +22,36 @@ use std::io;
 #[derive(Debug, Drop, thiserror::Error)]
 pub enum TalkError {
     /// The ConnAck refuses the connection; why.
-    #[error("the broker refused the connection: {0:?}")]
-    Refused(ConnectReturnCode),
+    #[error("the broker refused the connection: {0:?}{1}")]
+    Refused(ConnectReturnCode, ReasonText),
     /// The stream of the broker's bytes came to its end.
     #[error("the connection was closed")]
     Closed,
     /// The broker sent a Disconnect; why.
-    #[error("the broker ended the connection: {0:?}")]
-    Ended(DisconnectReasonCode),
+    #[error("the broker ended the connection: {0:?}{1}")]
+    Ended(DisconnectReasonCode, ReasonText),
     /// The broker's first packet is no ConnAck.
     #[error("the broker didn't answer the connect")]
     OutOfTurn,
     /// The SubAck refuses a filter; the first such reason.
-    #[error("the broker refused the subscription: {0:?}")]
-    NotSubscribed(SubscribeReasonCode),
-    /// The PubAck or PubRec refuses a message; why.
-    #[error("the broker refused the message: {0:?}")]
-    NotPublished(PubAckReason),
+    #[error("the broker refused the subscription: {0:?}{1}")]
+    NotSubscribed(SubscribeReasonCode, ReasonText),
+    /// The UnsubAck refuses to end a subscription; the first such reason.
+    #[error("the broker refused to end the subscription: {0:?}{1}")]
+    NotUnsubscribed(UnsubAckReason, ReasonText),
+    /// The PubAck or PubRec refuses the message of this packet identifier; why.
+    #[error("the broker refused the message: {reason:?}{text}")]
+    NotPublished {
+        pkid: u16,
+        reason: PubAckReason,
+        text: ReasonText,
+    },
+    /// The ConnAck says that the broker doesn't take this, so it isn't sent.
+    #[error("the broker takes no {0}")]
+    Forbidden(Forbidden),
+    /// What is to be published can't be read.
+    #[error("the file can't be read: {0}")]
+    Unread(io::Error),
     /// A message couldn't be shown. It isn't acknowledged.
     #[error("a message can't be shown: {0}")]
     Unshown(io::Error),
@@ -45,24 +60,46 @@ pub enum TalkError {
     Failed(PipeError),
 }
 
-/// What the broker said, where that is why a session stopped.
-fn said(fault: &StateError) -> Option<TalkError>
-    ensures { result ≡ broker_said fault.now }
+/// What the broker said, where that is why a session stopped; else that fault.
+fn said(fault: StateError) -> Result<TalkError, StateError>
+    ensures said { IfOk result (λ trouble. broker_said fault ≡ Some trouble) }
+    ensures fault { IfErr result (λ kept. (kept ≡ fault) × (broker_said fault ≡ None)) }
 {
     match fault {
-        StateError::ConnFail { reason } => Some(TalkError::Refused(*reason)),
-        StateError::ServerDisconnect { reason_code, .. } => Some(TalkError::Ended(*reason_code)),
-        _other => None,
+        StateError::ConnFail { reason } => Ok(TalkError::Refused(
+            reason,
+            ReasonText { text: None },
+        )),
+        StateError::ServerDisconnect {
+            reason_code,
+            reason_string,
+        } => Ok(TalkError::Ended(
+            reason_code,
+            ReasonText {
+                text: reason_string,
+            },
+        )),
+        other => Err(other),
     }
 }
 
-/// The same of a pipe's fault.
-fn said_over_pipe(fault: &PipeError) -> Option<TalkError>
-    ensures { result ≡ pipe_said fault.now }
+/// What the broker said, where that is why a session stopped.
+fn of_session(fault: StateError) -> TalkError
+    ensures { result ≡ error_of (faults.Session fault) }
 {
-    match fault {
-        PipeError::Session(why) | PipeError::Unanswered(why, _) => said(why),
-        _other => None,
+    match said(fault) {
+        Ok(trouble) => trouble,
+        Err(fault) => TalkError::Failed(PipeError::Session(fault)),
+    }
+}
+
+/// The same where the writer failed too.
+fn of_unanswered(fault: StateError, error: io::Error) -> TalkError
+    ensures { result ≡ error_of (faults.Unanswered fault error) }
+{
+    match said(fault) {
+        Ok(trouble) => trouble,
+        Err(fault) => TalkError::Failed(PipeError::Unanswered(fault, error)),
     }
 }
 
@@ -71,10 +108,20 @@ impl From<PipeError> for TalkError {
     ghost from_gives = { λ fault trouble. trouble ≡ error_of fault };
 
     fn from(fault: PipeError) -> TalkError {
-        match said_over_pipe(&fault) {
-            Some(trouble) => trouble,
-            None => TalkError::Failed(fault),
+        match fault {
+            PipeError::Session(why) => of_session(why),
+            PipeError::Unanswered(why, error) => of_unanswered(why, error),
+            other => TalkError::Failed(other),
         }
+    }
+}
+
+/// What the ConnAck forbids.
+impl From<Forbidden> for TalkError {
+    ghost from_gives = { λ forbidden trouble. trouble ≡ OfForbidden forbidden };
+
+    fn from(forbidden: Forbidden) -> TalkError {
+        TalkError::Forbidden(forbidden)
     }
 }
 

@@ -2,18 +2,24 @@
 //! what comes. It has no clock, so its keep alive is 0.
 #![tactic(auto)]
 
+mod capabilities;
 mod error;
 mod opening;
 mod program;
 mod publishing;
+mod reason;
 mod show;
+mod source;
 mod subscribing;
 mod words;
 
+pub use capabilities::{Capabilities, Forbidden};
 pub use error::TalkError;
 pub use opening::{await_end, close, open};
 pub use program::{new_client, refuse, refuse_words, tell};
-pub use publishing::publish;
+pub use publishing::{publish, publish_all};
+pub use reason::ReasonText;
 pub use show::{Lines, Raw, Screen};
-pub use subscribing::{receive, subscribe};
+pub use source::{Heading, LineSource, Source};
+pub use subscribing::{await_subscribed, receive, subscribe, unsubscribe};
 pub use words::{connect_of, connection_options, quality_of};

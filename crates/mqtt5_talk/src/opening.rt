@@ -1,6 +1,6 @@
 //! How a connection is opened and ended.
 
-ghost use Rattle.std.specs.Prelude.{◌≡◌, ◌⊎◌, ℕ, List, [], ◌∷◌, OnOk, IfErr, Ok, true, false};
+ghost use Rattle.std.specs.Prelude.{◌≡◌, ◌⊎◌, ℕ, List, [], ◌∷◌, OnOk, IfOk, IfErr, IfSome, Ok, None};
 ghost use Rattle.std.specs.Io.KnownBytes.{Consumes, IsAtEnd};
 ghost use Rattle.std.specs.declared.io.Error.{Error as IoError};
 ghost use Rattle.mqtt5_pipe.specs.declared.error.PipeError.TheVariants as faults;
@@ -9,23 +9,27 @@ ghost use Rattle.mqtt5_drive.specs.Limit.{codec_after};
 ghost use Rattle.mqtt5_client.specs.Client.{IsReady, codec_since};
 ghost use Rattle.mqtt5_talk.specs.declared.error.TalkError.TheVariants.{Failed};
 ghost use Rattle.mqtt5_talk.specs.Answers.{IsAnswered};
+ghost use Rattle.mqtt5_talk.specs.Capabilities.{capabilities_of, capabilities_in};
 ghost use Rattle.mqtt5_talk.specs.Conversation.{Saying, Opens, Asks, Conversation, Talked, SendsOnly};
 
+use crate::capabilities::Capabilities;
 use crate::error::TalkError;
+use crate::reason::{ReasonText, reason_in};
 use mqtt5_client::{Client, Event, MqttState, Request};
 use mqtt5_codec::Packet;
 use mqtt5_pipe::{PipeError, turn, write_output};
 use std::io::{ErrorKind, Read, Write};
 
-/// Writes the Connect and takes turns until the ConnAck, whose limit on packets holds from then on. The client's
-/// session must be new. `Refused` where the ConnAck is a refusal, `OutOfTurn` where another packet comes first or an
-/// event waits before the call, `Ended`, `Closed`; `Failed` of a Connect that can't be written, and as of a turn.
+/// Writes the Connect and takes turns until the ConnAck, whose limit on packets holds from then on, and answers what the
+/// broker takes. The client's session must be new. `Refused` where the ConnAck is a refusal, `OutOfTurn` where another
+/// packet comes first or an event waits before the call, `Ended`, `Closed`; `Failed` of a Connect that can't be written,
+/// and as of a turn.
 pub fn open<R: Read, W: Write>(
     client: &mut Client,
     connect: &Packet,
     reader: &mut R,
     writer: &mut W,
-) -> Result<(), TalkError>
+) -> Result<Capabilities, TalkError>
     requires ready { IsReady client.old }
     // Nothing is said but the Connect.
     ensures talked { (said : List Saying) × Talked (R.remaining reader.old) (R.remaining reader.new)
@@ -33,6 +37,7 @@ pub fn open<R: Read, W: Write>(
         × ((said ≡ []) ⊎ (said ≡ Opens connect.now ∷ []))
         × OnOk result (said ≡ Opens connect.now ∷ []) }
     ensures answered { OnOk result (IsAnswered client.new.state.events) }
+    ensures takes { IfOk result (λ c. c ≡ capabilities_in client.new.state.events) }
     ensures limit { OnOk result
         (client.new.codec ≡ codec_after client.new.state.events client.old.codec) }
     // So another call may follow.
@@ -43,7 +48,60 @@ pub fn open<R: Read, W: Write>(
     }
     client.codec.write(connect, &mut client.output)?;
     client.disconnected = false;
-    start(client, reader, writer)
+    start_in_words(client, reader, writer)
+}
+
+/// Writes what is in the output, and takes turns until the ConnAck. A refusal has its reason string.
+fn start_in_words<R: Read, W: Write>(
+    client: &mut Client,
+    reader: &mut R,
+    writer: &mut W,
+) -> Result<Capabilities, TalkError>
+    requires ready { IsReady client.old }
+    requires none { client.old.state.events ≡ [] }
+    ensures talked { Talked (R.remaining reader.old) (R.remaining reader.new)
+        (W.contents writer.old) (W.contents writer.new) client.old [] client.new }
+    ensures answered { OnOk result (IsAnswered client.new.state.events) }
+    ensures takes { IfOk result (λ c. c ≡ capabilities_in client.new.state.events) }
+    ensures limit { OnOk result
+        (client.new.codec ≡ codec_after client.new.state.events client.old.codec) }
+    ensures ready { OnOk result (IsReady client.new) }
+{
+    match start(client, reader, writer) {
+        Err(TalkError::Refused(reason, text)) => {
+            drop(text);
+            Err(TalkError::Refused(reason, take_reason(client)))
+        }
+        other => other,
+    }
+}
+
+/// Takes all events out, and answers the reason string of the last that is a ConnAck.
+fn take_reason(client: &mut Client) -> ReasonText
+    ensures talks { Conversation client.old [] [] [] client.new }
+{
+    let mut reason = ReasonText { text: None };
+    for _ in 0..u64::MAX {
+        if client.state.events().is_empty() {
+            break;
+        }
+        reason = next_reason(client).unwrap_or(reason);
+    }
+    reason
+}
+
+/// Takes the oldest event out, and answers its reason string where it is a ConnAck.
+fn next_reason(client: &mut Client) -> Option<ReasonText>
+    ensures talks { Conversation client.old [] [] [] client.new }
+{
+    match client.state.pop_event() {
+        Some(Event::Incoming(Packet::ConnAck(ack))) => Some(reason_in!(ack.properties)),
+        Some(other) => {
+            drop(other);
+            None
+        }
+        None => None,
+    }
 }
 
 /// Writes what is in the output, and takes turns until the ConnAck.
@@ -51,12 +109,13 @@ fn start<R: Read, W: Write>(
     client: &mut Client,
     reader: &mut R,
     writer: &mut W,
-) -> Result<(), TalkError>
+) -> Result<Capabilities, TalkError>
     requires ready { IsReady client.old }
     requires none { client.old.state.events ≡ [] }
     ensures talked { Talked (R.remaining reader.old) (R.remaining reader.new)
         (W.contents writer.old) (W.contents writer.new) client.old [] client.new }
     ensures answered { OnOk result (IsAnswered client.new.state.events) }
+    ensures takes { IfOk result (λ c. c ≡ capabilities_in client.new.state.events) }
     ensures limit { OnOk result
         (client.new.codec ≡ codec_after client.new.state.events client.old.codec) }
     ensures ready { OnOk result (IsReady client.new) }
@@ -70,33 +129,35 @@ fn await_answer<R: Read, W: Write>(
     client: &mut Client,
     reader: &mut R,
     writer: &mut W,
-) -> Result<(), TalkError>
+) -> Result<Capabilities, TalkError>
     requires ready { IsReady client.old }
     requires none { client.old.state.events ≡ [] }
     ensures talked { Talked (R.remaining reader.old) (R.remaining reader.new)
         (W.contents writer.old) (W.contents writer.new) client.old [] client.new }
     ensures answered { OnOk result (IsAnswered client.new.state.events) }
+    ensures takes { IfOk result (λ c. c ≡ capabilities_in client.new.state.events) }
     ensures limit { OnOk result
         (client.new.codec ≡ codec_after client.new.state.events client.old.codec) }
     ensures ready { OnOk result (IsReady client.new) }
 {
     for _ in 0..u64::MAX {
         hear(client, reader, writer)?;
-        if is_answered(&client.state)? {
-            return Ok(());
+        if let Some(capabilities) = answer_in(&client.state)? {
+            return Ok(capabilities);
         }
     }
     Err(endless())
 }
 
-/// Whether the ConnAck came.
-fn is_answered(state: &MqttState) -> Result<bool, TalkError>
-    ensures answered { result ≡ Ok true → IsAnswered state.now.events }
-    ensures none { result ≡ Ok false → state.now.events ≡ [] }
+/// What the ConnAck says, where it came.
+fn answer_in(state: &MqttState) -> Result<Option<Capabilities>, TalkError>
+    ensures answered { IfOk result (λ found. IfSome found (λ c. IsAnswered state.now.events
+        × (c ≡ capabilities_in state.now.events))) }
+    ensures none { result ≡ Ok None → state.now.events ≡ [] }
 {
     match state.events().front() {
-        None => Ok(false),
-        Some(Event::Incoming(Packet::ConnAck(_ack))) => Ok(true),
+        None => Ok(None),
+        Some(Event::Incoming(Packet::ConnAck(ack))) => Ok(Some(Capabilities::of(ack))),
         Some(_other) => Err(TalkError::OutOfTurn),
     }
 }
@@ -152,7 +213,7 @@ fn hand_in(client: &mut Client, request: Request) -> Result<(), TalkError>
     }
 }
 
-/// Asks the session for one thing.
+/// Asks the session for one thing, and writes what it answers.
 pub(crate) fn ask<W: Write>(
     client: &mut Client,
     wanted: Request,

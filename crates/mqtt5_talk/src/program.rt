@@ -1,22 +1,23 @@
 //! What both programs do alike.
 
-ghost use Rattle.std.specs.Prelude.{◌≡◌, ◌⊎◌, [], cond, is_ok};
+ghost use Rattle.std.specs.Prelude.{◌≡◌, ◌<◌, ◌⊎◌, [], cond, is_ok};
 ghost use Rattle.mqtt5_client.specs.Client.{IsReady};
 ghost use Rattle.mqtt5_session.specs.Session.{fresh};
 
-use crate::error::TalkError;
 use mqtt5_client::Client;
 use std::alloc::Global;
+use std::fmt::Display;
 use std::io;
 use std::io::Write;
 
-/// A client of a new session of one id, without limits on packets. Takes no memory.
-pub fn new_client(alloc: Global, manual_acks: bool) -> Client
-    ensures state { result.state ≡ fresh 1 manual_acks }
+/// A client of a new session with so many identifiers, without limits on packets. Takes no memory.
+pub fn new_client(alloc: Global, limit: u16, manual_acks: bool) -> Client
+    requires { 0 < limit }
+    ensures state { result.state ≡ fresh limit manual_acks }
     ensures empty { (result.input.items ≡ []) × (result.output.items ≡ []) }
     ensures ready { IsReady result }
 {
-    match Client::new(alloc, 1, manual_acks) {
+    match Client::new(alloc, limit, manual_acks) {
         Ok(client) => client,
         Err(_) => unreachable!(),
     }
@@ -40,7 +41,7 @@ pub fn refuse_words<E: Write>(error: &io::Error, log: &mut E) -> u8
 }
 
 /// Tells the log why a talk stopped, and answers the exit status: 0 where it is done, 1 after a fault.
-pub fn tell<E: Write>(ended: Result<(), TalkError>, log: &mut E) -> u8
+pub fn tell<T: Display + Drop, E: Write>(ended: Result<(), T>, log: &mut E) -> u8
     ensures { result ≡ cond (is_ok ended) 0 1 }
 {
     match ended {

@@ -1,40 +1,138 @@
-//! How a message is published.
+//! How messages are published.
 
-ghost use Rattle.std.specs.Prelude.{◌≡◌, [], ◌∷◌, OnOk};
+ghost use Rattle.std.specs.Prelude.{◌≡◌, List, [], ◌∷◌, None, All, OnOk};
 ghost use Rattle.std.specs.FinMap as map;
-ghost use Rattle.mqtt5_inflight.specs.declared.event.Request.TheVariants.{Publish as OfPublish};
+ghost use Rattle.mqtt5_publish.specs.declared.publish.Publish.{Publish as Message};
 ghost use Rattle.mqtt5_client.specs.Client.{IsReady};
-ghost use Rattle.mqtt5_talk.specs.Conversation.{Asks, Conversation, Talked};
+ghost use Rattle.mqtt5_talk.specs.Capabilities.{forbidden_message};
+ghost use Rattle.mqtt5_talk.specs.Conversation.{Conversation, Talked, SendsOnly};
 ghost use Rattle.mqtt5_talk.specs.Answers.{refusal_in, refusal_by};
+ghost use Rattle.mqtt5_talk.specs.Published.{asks_of, asks_of_all, Gave, GivesOut};
 
+use crate::capabilities::Capabilities;
 use crate::error::TalkError;
 use crate::opening::{ask, endless, hear};
+use crate::reason::{ReasonText, reason_in};
+use crate::source::Source;
+use mqtt5_base::AckProperties;
 use mqtt5_client::{Client, Event, Request};
 use mqtt5_codec::Packet;
 use mqtt5_publish::{PubAckReason, Publish};
 use std::io::{Read, Write};
 
 /// Sends a message, and takes turns until it is delivered: of QoS 0 none, of QoS 1 until its PubAck, of QoS 2
-/// until its PubComp; and so until no id is in use. `NotPublished` where the PubAck or the PubRec is a refusal,
-/// `Ended`, `Closed`; `Failed`, as of a request, of a write and of a turn.
+/// until its PubComp; and so until no id is in use. `Forbidden` where the ConnAck says that the broker doesn't take it,
+/// `NotPublished` where the PubAck or the PubRec is a refusal, `Ended`, `Closed`; `Failed`, as of a request, of a write
+/// and of a turn.
 pub fn publish<R: Read, W: Write>(
     client: &mut Client,
+    capabilities: Capabilities,
     message: Publish,
     reader: &mut R,
     writer: &mut W,
 ) -> Result<(), TalkError>
     requires ready { IsReady client.old }
-    // Nothing is said but the message.
+    // Nothing is said but the message, and that only where the ConnAck allows it.
     ensures talked { Talked (R.remaining reader.old) (R.remaining reader.new)
-        (W.contents writer.old) (W.contents writer.new) client.old
-        (Asks (OfPublish message) ∷ []) client.new }
+        (W.contents writer.old) (W.contents writer.new) client.old (asks_of capabilities message)
+        client.new }
+    ensures allowed { OnOk result (forbidden_message capabilities message ≡ None) }
     // Nothing awaits an ack.
     ensures delivered { OnOk result (map.len client.new.state.core.in_use ≡ 0) }
     // So another call may follow.
     ensures ready { OnOk result (IsReady client.new) }
 {
-    ask(client, Request::Publish(message), writer)?;
+    send_allowed(client, capabilities, message, writer)?;
     await_acks(client, reader, writer)
+}
+
+/// Sends the messages of a source in order, as many ahead of their acks as the session has identifiers and the broker
+/// takes, and takes turns until all are delivered, as `publish` does. Where the source is late, what was sent is delivered
+/// before it is asked for more. Faults as of `publish`, of the first message that has one, and those of the source.
+pub fn publish_all<R: Read, W: Write, S: Source>(
+    client: &mut Client,
+    capabilities: Capabilities,
+    source: &mut S,
+    reader: &mut R,
+    writer: &mut W,
+) -> Result<(), TalkError>
+    requires ready { IsReady client.old }
+    // Nothing is said but the source's messages, in order, and each only where the ConnAck allows
+    // it; in the end those are all that the source has, and each is allowed.
+    ensures talked { (ms : List Message) × Talked (R.remaining reader.old) (R.remaining reader.new)
+        (W.contents writer.old) (W.contents writer.new) client.old (asks_of_all capabilities ms)
+        client.new
+        × Gave S.gives source.old ms
+        × OnOk result (GivesOut S.gives source.old ms source.new
+        × All (λ m. forbidden_message capabilities m ≡ None) ms) }
+    // Nothing awaits an ack.
+    ensures delivered { OnOk result (map.len client.new.state.core.in_use ≡ 0) }
+    // So another call may follow.
+    ensures ready { OnOk result (IsReady client.new) }
+{
+    for _ in 0..u64::MAX {
+        make_room(client, source.is_late(), reader, writer)?;
+        let Some(message) = source.next(client.next_id())? else {
+            return await_acks(client, reader, writer);
+        };
+        send_allowed(client, capabilities, message, writer)?;
+    }
+    Err(endless())
+}
+
+/// Sends a message, unless the ConnAck forbids it.
+fn send_allowed<W: Write>(
+    client: &mut Client,
+    capabilities: Capabilities,
+    message: Publish,
+    writer: &mut W,
+) -> Result<(), TalkError>
+    requires ready { IsReady client.old }
+    ensures told { SendsOnly (W.contents writer.old) (W.contents writer.new) client.old
+        (asks_of capabilities message) client.new }
+    ensures allowed { OnOk result (forbidden_message capabilities message ≡ None) }
+    ensures ready { OnOk result (IsReady client.new) }
+{
+    match capabilities.forbidden_message(&message) {
+        Some(why) => {
+            drop(message);
+            Err(TalkError::Forbidden(why))
+        }
+        None => ask(client, Request::Publish(message), writer),
+    }
+}
+
+/// Takes turns until the next identifier is free, or where all is to be delivered, until none is in use.
+fn make_room<R: Read, W: Write>(
+    client: &mut Client,
+    delivers: bool,
+    reader: &mut R,
+    writer: &mut W,
+) -> Result<(), TalkError>
+    requires ready { IsReady client.old }
+    ensures talked { Talked (R.remaining reader.old) (R.remaining reader.new)
+        (W.contents writer.old) (W.contents writer.new) client.old [] client.new }
+    ensures ready { OnOk result (IsReady client.new) }
+{
+    if let Some(refusal) = take_refusal(client) {
+        return Err(refusal);
+    }
+    for _ in 0..u64::MAX {
+        if has_room(client, delivers) {
+            return Ok(());
+        }
+        hear_acks(client, reader, writer)?;
+    }
+    Err(endless())
+}
+
+/// Whether the next identifier is free, or where all is to be delivered, none is in use.
+fn has_room(client: &Client, delivers: bool) -> bool {
+    if delivers {
+        return client.state.inflight() == 0;
+    }
+    let id = client.next_id();
+    client.state.outgoing_pub(id).is_none() && !client.state.outgoing_rel(id)
 }
 
 /// Takes turns until no id is in use.
@@ -58,7 +156,7 @@ fn await_acks<R: Read, W: Write>(
     Err(endless())
 }
 
-/// Takes a turn. A refusal of the message comes before a fault.
+/// Takes a turn. A refusal of a message comes before a fault.
 fn hear_acks<R: Read, W: Write>(
     client: &mut Client,
     reader: &mut R,
@@ -71,13 +169,13 @@ fn hear_acks<R: Read, W: Write>(
 {
     let heard = hear(client, reader, writer);
     match take_refusal(client) {
-        Some(reason) => Err(TalkError::NotPublished(reason)),
+        Some(refusal) => Err(refusal),
         None => heard,
     }
 }
 
 /// Takes all events out, and answers the first refusal among them.
-fn take_refusal(client: &mut Client) -> Option<PubAckReason>
+fn take_refusal(client: &mut Client) -> Option<TalkError>
     ensures talks { Conversation client.old [] [] [] client.new }
     ensures ready { IsReady client.old → IsReady client.new }
 {
@@ -92,36 +190,46 @@ fn take_refusal(client: &mut Client) -> Option<PubAckReason>
 }
 
 /// Takes the oldest event out, and answers its refusal.
-fn next_refusal(client: &mut Client) -> Option<PubAckReason>
+fn next_refusal(client: &mut Client) -> Option<TalkError>
     ensures talks { Conversation client.old [] [] [] client.new }
     ensures ready { IsReady client.old → IsReady client.new }
 {
     match client.state.pop_event() {
-        Some(event) => {
-            let refusal = refusal_in(&event);
-            drop(event);
-            refusal
-        }
+        Some(event) => refusal_in(event),
         None => None,
     }
 }
 
 /// Why a message is refused, where the event says so.
-fn refusal_in(event: &Event) -> Option<PubAckReason>
-    ensures { result ≡ refusal_in event.now }
+fn refusal_in(event: Event) -> Option<TalkError>
+    ensures { result ≡ refusal_in event }
 {
     match event {
-        Event::Incoming(Packet::PubAck(ack)) => refusal_by(ack.reason),
-        Event::Incoming(Packet::PubRec(ack)) => refusal_by(ack.reason),
-        _other => None,
+        Event::Incoming(Packet::PubAck(ack)) => refusal_by(ack.pkid, ack.reason, ack.properties),
+        Event::Incoming(Packet::PubRec(ack)) => refusal_by(ack.pkid, ack.reason, ack.properties),
+        other => {
+            drop(other);
+            None
+        }
     }
 }
 
-fn refusal_by(reason: PubAckReason) -> Option<PubAckReason>
-    ensures { result ≡ refusal_by reason }
+fn refusal_by(
+    pkid: u16,
+    reason: PubAckReason,
+    properties: Option<AckProperties>,
+) -> Option<TalkError>
+    ensures { result ≡ refusal_by pkid reason properties }
 {
     match reason {
-        PubAckReason::Success | PubAckReason::NoMatchingSubscribers => None,
-        _other => Some(reason),
+        PubAckReason::Success | PubAckReason::NoMatchingSubscribers => {
+            drop(properties);
+            None
+        }
+        _other => Some(TalkError::NotPublished {
+            pkid,
+            reason,
+            text: reason_in!(properties),
+        }),
     }
 }

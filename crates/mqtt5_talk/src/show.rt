@@ -1,6 +1,6 @@
 //! How messages are shown.
 
-ghost use Rattle.std.specs.Prelude.{◌≡◌, ◌++◌, ◌<◌, Bool, List, ℕ, IfOk, OnOk};
+ghost use Rattle.std.specs.Prelude.{◌≡◌, ◌++◌, ◌<◌, Bool, true, List, ℕ, IfOk, OnOk};
 ghost use Rattle.std.specs.Io.KnownBytes.{Appends};
 ghost use Rattle.mqtt5_talk.specs.Shown.{digit, is_plain, shown_byte, escaped, IsLine, raw};
 
@@ -11,13 +11,14 @@ use std::io::Write;
 
 /// Where messages are shown.
 pub trait Screen {
+    ghost use Rattle.std.specs.Prelude.{Bool, IfOk};
     ghost use Rattle.mqtt5_publish.specs.declared.publish.Publish.{Publish as Message};
 
-    ghost shows: { Self → Message → Self → Type 0 };
+    ghost shows: { Self → Message → Bool → Self → Type 0 };
 
-    /// Shows a message. `Unshown` where that fails, and want of memory.
-    fn show(&mut self, publish: &Publish) -> Result<(), TalkError>
-        ensures { OnOk result (shows self.old publish.now self.new) };
+    /// Shows a message, and answers whether it is one that is to be shown. `Unshown` where that fails, and want of memory.
+    fn show(&mut self, publish: &Publish) -> Result<bool, TalkError>
+        ensures { IfOk result (λ is_shown. shows self.old publish.now is_shown self.new) };
 }
 
 /// Each message is one line of text, in which no control character and no other byte than those of UTF-8 stands: such a
@@ -31,11 +32,12 @@ pub struct Lines<W> {
 }
 
 impl<W: Write> Screen for Lines<W> {
-    ghost shows = { λ old p new. (line : List ℕ) × IsLine old.with_topic p line × Appends (W.contents old.writer) (W.contents new.writer) line };
+    ghost shows = { λ old p is_shown new. (is_shown ≡ true) × (line : List ℕ) × IsLine old.with_topic p line × Appends (W.contents old.writer) (W.contents new.writer) line };
 
-    fn show(&mut self, publish: &Publish) -> Result<(), TalkError> {
+    fn show(&mut self, publish: &Publish) -> Result<bool, TalkError> {
         let line = line_of(self.alloc, self.with_topic, publish)?;
-        write(&mut self.writer, line.as_slice())
+        write(&mut self.writer, line.as_slice())?;
+        Ok(true)
     }
 }
 
@@ -51,11 +53,12 @@ pub struct Raw<W> {
 }
 
 impl<W: Write> Screen for Raw<W> {
-    ghost shows = { λ old p new. Appends (W.contents old.writer) (W.contents new.writer) (raw old.with_topic old.with_newline p) };
+    ghost shows = { λ old p is_shown new. (is_shown ≡ true) × Appends (W.contents old.writer) (W.contents new.writer) (raw old.with_topic old.with_newline p) };
 
-    fn show(&mut self, publish: &Publish) -> Result<(), TalkError> {
+    fn show(&mut self, publish: &Publish) -> Result<bool, TalkError> {
         let bytes = raw_of(self.alloc, self.with_topic, self.with_newline, publish)?;
-        write(&mut self.writer, bytes.as_slice())
+        write(&mut self.writer, bytes.as_slice())?;
+        Ok(true)
     }
 }
 

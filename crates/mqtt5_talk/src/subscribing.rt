@@ -1,42 +1,150 @@
-//! How subscriptions are made, and what comes is shown.
+//! How subscriptions are made and ended, and what comes is shown.
 
-ghost use Rattle.std.specs.Prelude.{◌≡◌, ◌+◌, ◌≤◌, List, [], ◌∷◌, length, OnOk, IfOk};
+ghost use Rattle.std.specs.Prelude.{◌≡◌, ◌⊎◌, ◌+◌, ◌≤◌, List, [], ◌∷◌, OnOk, IfOk};
 ghost use Rattle.std.specs.Bool.{Decides};
 ghost use Rattle.mqtt5_publish.specs.declared.publish.Publish.{Publish as Message};
-ghost use Rattle.mqtt5_inflight.specs.declared.event.Request.TheVariants.{Subscribe as OfSubscribe};
+ghost use Rattle.mqtt5_inflight.specs.declared.event.Request.TheVariants as requests;
 ghost use Rattle.mqtt5_client.specs.Client.{IsReady};
-ghost use Rattle.mqtt5_talk.specs.Conversation.{Asks, Talked, SendsOnly};
-ghost use Rattle.mqtt5_talk.specs.Answers.{ack_of, acks_of, asked_by, ShowsAll, Showed, Acknowledges, IsSuccess};
+ghost use Rattle.mqtt5_talk.specs.Capabilities.{IsPermitted};
+ghost use Rattle.mqtt5_talk.specs.Conversation.{Saying, Asks, Conversation, Talked, SendsOnly};
+ghost use Rattle.mqtt5_talk.specs.Answers.{ack_of, acks_of, asked_by, ShowsAll, Showed, Acknowledges, IsSuccess, IsEnded};
 
+use crate::capabilities::Capabilities;
 use crate::error::TalkError;
 use crate::opening::{ask, endless, hear};
+use crate::reason::{ReasonText, reason_in};
 use crate::show::Screen;
 use mqtt5_base::QoS;
 use mqtt5_client::{Client, Event, Request};
 use mqtt5_codec::Packet;
 use mqtt5_publish::{PubAck, PubRec, Publish};
-use mqtt5_subscribe::{SubAck, Subscribe, SubscribeReasonCode};
+use mqtt5_subscribe::{
+    SubAck, Subscribe, SubscribeReasonCode, UnsubAck, UnsubAckReason, Unsubscribe,
+};
 use std::io::{Read, Write};
 
-/// Sends a Subscribe. Its SubAck is judged by `receive`. `Failed`, as of a request and of a write.
+/// Sends a Subscribe. Its SubAck is judged by `receive` and `await_subscribed`. `Forbidden` where the ConnAck says that the
+/// broker doesn't take it, and nothing is sent; `Failed`, as of a request and of a write.
 pub fn subscribe<W: Write>(
     client: &mut Client,
+    capabilities: Capabilities,
     subscribe: Subscribe,
     writer: &mut W,
 ) -> Result<(), TalkError>
     requires ready { IsReady client.old }
-    // Nothing is said but the Subscribe.
-    ensures told { SendsOnly (W.contents writer.old) (W.contents writer.new) client.old
-        (Asks (OfSubscribe subscribe) ∷ []) client.new }
+    // Nothing is said but the Subscribe, and that only where the ConnAck allows it.
+    ensures told { (said : List Saying) × SendsOnly (W.contents writer.old) (W.contents writer.new)
+        client.old said client.new
+        × ((said ≡ []) ⊎ ((said ≡ Asks (requests.Subscribe subscribe) ∷ [])
+        × IsPermitted capabilities subscribe))
+        × OnOk result (said ≡ Asks (requests.Subscribe subscribe) ∷ []) }
     // So another call may follow.
     ensures ready { OnOk result (IsReady client.new) }
 {
-    ask(client, Request::Subscribe(subscribe), writer)
+    match capabilities.check_subscribe(&subscribe) {
+        Ok(()) => ask(client, Request::Subscribe(subscribe), writer),
+        Err(why) => {
+            drop(subscribe);
+            Err(TalkError::Forbidden(why))
+        }
+    }
 }
 
-/// Shows each message that came and comes, and then acknowledges it, until so many were shown. The client's session must
-/// leave the acks to the user. `NotSubscribed` where a SubAck refuses a filter, `Unshown`, `Ended`, `Closed`; `Failed`,
-/// as of a turn. What came with a fault is shown and not acknowledged.
+/// Sends an Unsubscribe. Its UnsubAck is judged as a SubAck is. `Failed`, as of a request and of a write.
+pub fn unsubscribe<W: Write>(
+    client: &mut Client,
+    unsubscribe: Unsubscribe,
+    writer: &mut W,
+) -> Result<(), TalkError>
+    requires ready { IsReady client.old }
+    // Nothing is said but the Unsubscribe.
+    ensures told { SendsOnly (W.contents writer.old) (W.contents writer.new) client.old
+        (Asks (requests.Unsubscribe unsubscribe) ∷ []) client.new }
+    // So another call may follow.
+    ensures ready { OnOk result (IsReady client.new) }
+{
+    ask(client, Request::Unsubscribe(unsubscribe), writer)
+}
+
+/// Takes turns until so many SubAcks and UnsubAcks came. What else comes is let go: a message is neither shown nor
+/// acknowledged, so in a session that is kept one of QoS 1 or 2 comes again. The client's session must leave the acks to
+/// the user. `NotSubscribed` and `NotUnsubscribed` where one refuses a filter, `Ended`, `Closed`; `Failed`, as of a turn.
+pub fn await_subscribed<R: Read, W: Write>(
+    client: &mut Client,
+    count: u64,
+    reader: &mut R,
+    writer: &mut W,
+) -> Result<(), TalkError>
+    requires ready { IsReady client.old }
+    // Nothing is said.
+    ensures talked { Talked (R.remaining reader.old) (R.remaining reader.new)
+        (W.contents writer.old) (W.contents writer.new) client.old [] client.new }
+    // So another call may follow.
+    ensures ready { OnOk result (IsReady client.new) }
+{
+    let mut left = count;
+    for _ in 0..u64::MAX {
+        if left == 0 {
+            return Ok(());
+        }
+        hear_event(client, reader, writer)?;
+        if is_subscribed(client)? {
+            left -= 1;
+        }
+    }
+    Err(endless())
+}
+
+/// Takes a turn where no event is there.
+fn hear_event<R: Read, W: Write>(
+    client: &mut Client,
+    reader: &mut R,
+    writer: &mut W,
+) -> Result<(), TalkError>
+    requires ready { IsReady client.old }
+    ensures talked { Talked (R.remaining reader.old) (R.remaining reader.new)
+        (W.contents writer.old) (W.contents writer.new) client.old [] client.new }
+    ensures ready { OnOk result (IsReady client.new) }
+{
+    if client.state.events().is_empty() {
+        return hear(client, reader, writer);
+    }
+    Ok(())
+}
+
+/// Takes the oldest event out, and answers whether it is a SubAck or an UnsubAck.
+fn is_subscribed(client: &mut Client) -> Result<bool, TalkError>
+    ensures talks { Conversation client.old [] [] [] client.new }
+    ensures ready { IsReady client.old → IsReady client.new }
+{
+    match client.state.pop_event() {
+        Some(event) => is_granted(event),
+        None => Ok(false),
+    }
+}
+
+/// Whether an event is a SubAck or an UnsubAck, in which each filter has what was asked for it.
+fn is_granted(event: Event) -> Result<bool, TalkError> {
+    match event {
+        Event::Incoming(Packet::SubAck(ack)) => {
+            judge(ack)?;
+            Ok(true)
+        }
+        Event::Incoming(Packet::UnsubAck(ack)) => {
+            judge_end(ack)?;
+            Ok(true)
+        }
+        other => {
+            drop(other);
+            Ok(false)
+        }
+    }
+}
+
+/// Shows each message that came and comes, and then acknowledges it, until so many were shown. One that the screen doesn't
+/// show is acknowledged too, and not counted. The client's session must leave the acks to the user. `NotSubscribed` and
+/// `NotUnsubscribed` where a SubAck or an UnsubAck refuses a filter, `Unshown`, `Ended`, `Closed`; `Failed`, as of a turn.
+/// What came with a fault is shown and not acknowledged.
 pub fn receive<R: Read, W: Write, S: Screen>(
     client: &mut Client,
     screen: &mut S,
@@ -45,11 +153,12 @@ pub fn receive<R: Read, W: Write, S: Screen>(
     writer: &mut W,
 ) -> Result<(), TalkError>
     requires ready { IsReady client.old }
-    // Nothing is said but the acks of messages that were shown; in the end those are all that were, and so many.
+    // Nothing is said but the acks of messages that the screen was given; in the end those are all
+    // that it was, of which it showed so many.
     ensures talked { (ps : List Message) × Talked (R.remaining reader.old) (R.remaining reader.new)
         (W.contents writer.old) (W.contents writer.new) client.old (acks_of ps) client.new
         × Showed S.shows screen.old ps
-        × OnOk result (ShowsAll S.shows screen.old ps screen.new × (length ps ≡ count)) }
+        × OnOk result (ShowsAll S.shows screen.old ps count screen.new) }
     // So another call may follow.
     ensures ready { OnOk result (IsReady client.new) }
 {
@@ -100,7 +209,7 @@ fn show_rest<S: Screen>(client: &Client, screen: &mut S, count: u64) {
 /// Shows an event that is a message, and answers whether it did.
 fn is_shown<S: Screen>(event: &Event, screen: &mut S) -> bool {
     match event {
-        Event::Incoming(Packet::Publish(publish)) => screen.show(publish).is_ok(),
+        Event::Incoming(Packet::Publish(publish)) => matches!(screen.show(publish), Ok(true)),
         _other => false,
     }
 }
@@ -128,7 +237,7 @@ fn show_events<W: Write, S: Screen>(
     Ok(left)
 }
 
-/// Takes the oldest event out; answers 1 where it is a message, which was shown, else 0.
+/// Takes the oldest event out; answers 1 where it is a message that was shown, else 0.
 fn take_first<W: Write, S: Screen>(
     client: &mut Client,
     screen: &mut S,
@@ -141,18 +250,14 @@ fn take_first<W: Write, S: Screen>(
     ensures ready { OnOk result (IsReady client.new) }
 {
     match client.state.pop_event() {
-        Some(event) => {
-            let taken = take_event(client, &event, screen, writer);
-            drop(event);
-            taken
-        }
+        Some(event) => take_event(client, event, screen, writer),
         None => Ok(0),
     }
 }
 
 fn take_event<W: Write, S: Screen>(
     client: &mut Client,
-    event: &Event,
+    event: Event,
     screen: &mut S,
     writer: &mut W,
 ) -> Result<u64, TalkError>
@@ -163,22 +268,75 @@ fn take_event<W: Write, S: Screen>(
     ensures ready { OnOk result (IsReady client.new) }
 {
     match event {
-        Event::Incoming(Packet::Publish(publish)) => show(client, publish, screen, writer),
+        Event::Incoming(Packet::Publish(publish)) => {
+            let taken = show(client, &publish, screen, writer);
+            drop(publish);
+            taken
+        }
         Event::Incoming(Packet::SubAck(ack)) => judge(ack),
-        _other => Ok(0),
+        Event::Incoming(Packet::UnsubAck(ack)) => judge_end(ack),
+        other => {
+            drop(other);
+            Ok(0)
+        }
     }
 }
 
 /// 0 where each filter has its subscription.
-fn judge(ack: &SubAck) -> Result<u64, TalkError>
+fn judge(ack: SubAck) -> Result<u64, TalkError>
     ensures { IfOk result (λ shown. shown ≡ 0) }
 {
-    for code in ack.return_codes.as_slice() {
-        if !is_success(*code) {
-            return Err(TalkError::NotSubscribed(*code));
+    let SubAck {
+        return_codes,
+        properties,
+        ..
+    } = ack;
+    let refusal = first_refusal(return_codes.as_slice());
+    drop(return_codes);
+    match refusal {
+        Some(code) => Err(TalkError::NotSubscribed(code, reason_in!(properties))),
+        None => {
+            drop(properties);
+            Ok(0)
         }
     }
-    Ok(0)
+}
+
+fn first_refusal(codes: &[SubscribeReasonCode]) -> Option<SubscribeReasonCode> {
+    codes.iter().copied().find(|code| !is_success(*code))
+}
+
+/// 0 where no filter has its subscription any more.
+fn judge_end(ack: UnsubAck) -> Result<u64, TalkError>
+    ensures { IfOk result (λ shown. shown ≡ 0) }
+{
+    let UnsubAck {
+        reasons,
+        properties,
+        ..
+    } = ack;
+    let refusal = first_left(reasons.as_slice());
+    drop(reasons);
+    match refusal {
+        Some(reason) => Err(TalkError::NotUnsubscribed(reason, reason_in!(properties))),
+        None => {
+            drop(properties);
+            Ok(0)
+        }
+    }
+}
+
+fn first_left(reasons: &[UnsubAckReason]) -> Option<UnsubAckReason> {
+    reasons.iter().copied().find(|reason| !is_ended(*reason))
+}
+
+fn is_ended(reason: UnsubAckReason) -> bool
+    ensures { Decides result (IsEnded reason) }
+{
+    matches!(
+        reason,
+        UnsubAckReason::Success | UnsubAckReason::NoSubscriptionExisted
+    )
 }
 
 fn is_success(code: SubscribeReasonCode) -> bool
@@ -187,7 +345,7 @@ fn is_success(code: SubscribeReasonCode) -> bool
     matches!(code, SubscribeReasonCode::Success(_))
 }
 
-/// Shows a message, and acknowledges it; answers 1.
+/// Shows a message, and acknowledges it; answers 1 where it is one that is to be shown.
 fn show<W: Write, S: Screen>(
     client: &mut Client,
     publish: &Publish,
@@ -200,9 +358,9 @@ fn show<W: Write, S: Screen>(
     ensures most { IfOk result (λ shown. shown ≤ 1) }
     ensures ready { OnOk result (IsReady client.new) }
 {
-    screen.show(publish)?;
+    let is_shown = screen.show(publish)?;
     acknowledge(client, publish, writer)?;
-    Ok(1)
+    Ok(is_shown as u64)
 }
 
 fn acknowledge<W: Write>(

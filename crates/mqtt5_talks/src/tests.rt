@@ -9,6 +9,7 @@ mod kept;
 mod laws;
 mod pipe;
 mod shown;
+mod source;
 mod talk;
 mod words;
 

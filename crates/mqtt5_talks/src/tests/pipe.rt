@@ -8,7 +8,7 @@ use super::{add_bytes, cut, number_of, publish_hi, quality_of};
 use mqtt5_base::Error;
 use mqtt5_client::{Client, Request};
 use mqtt5_pipe::{PipeError, run_to_end, turn, write_output};
-use mqtt5_talk::{Lines, TalkError, new_client};
+use mqtt5_talk::{Capabilities, Lines, TalkError, new_client};
 use std::alloc::{AllocError, Global};
 use std::io;
 use std::io::{ErrorKind, Read, Write};
@@ -116,6 +116,7 @@ pub(super) struct Ends {
     pub source: Source,
     pub sink: Sink,
     pub screen: Lines<Vec<u8>>,
+    pub capabilities: Capabilities,
 }
 
 fn new_ends(alloc: Global) -> Ends {
@@ -126,6 +127,13 @@ fn new_ends(alloc: Global) -> Ends {
             alloc,
             writer: Vec::new(alloc),
             with_topic: true,
+        },
+        capabilities: Capabilities {
+            max_qos: None,
+            retain: true,
+            wildcards: true,
+            identifiers: true,
+            shared: true,
         },
     }
 }
@@ -296,13 +304,13 @@ fn walks(
     Ok(())
 }
 
-/// The client that a row begins with: of ten ids, or that of a talk, without and with acks by the user.
+/// The client that a row begins with: of ten ids, or that of a talk, of two, without and with acks by the user.
 fn client_of(alloc: Global, row: &str) -> Result<Client, Error> {
     if row.starts_with("publisher") {
-        return Ok(new_client(alloc, false));
+        return Ok(new_client(alloc, 2, false));
     }
     if row.starts_with("subscriber") {
-        return Ok(new_client(alloc, true));
+        return Ok(new_client(alloc, 2, true));
     }
     match Client::new(alloc, 10, false) {
         Ok(client) => Ok(client),

@@ -23,7 +23,7 @@ fn shows<S: Screen>(alloc: Global, screen: &mut S, payload: &[u8]) -> Result<boo
     let message = Publish::new(alloc, "t", QoS::AtMostOnce, payload, None)?;
     let shown = screen.show(&message);
     drop(message);
-    Ok(shown.is_ok())
+    Ok(matches!(shown, Ok(true)))
 }
 
 fn is_line(alloc: Global, row: &str) -> Result<bool, Error> {

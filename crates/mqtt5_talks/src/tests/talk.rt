@@ -8,15 +8,20 @@ use mqtt5_base::{Error, QoS, Text};
 use mqtt5_client::Client;
 use mqtt5_codec::Packet;
 use mqtt5_connect::Connect;
-use mqtt5_subscribe::{Filter, Subscribe};
-use mqtt5_talk::{TalkError, await_end, close, open, publish, receive, subscribe};
+use mqtt5_subscribe::{Filter, Subscribe, Unsubscribe};
+use mqtt5_talk::{
+    Heading, LineSource, TalkError, await_end, await_subscribed, close, open, publish, publish_all,
+    receive, subscribe, unsubscribe,
+};
 use std::alloc::Global;
 use std::test::Fail;
 
 /// `open` has clean start, keep alive 0 and no client identifier (3.1), `publish` is "hi" to "a/b" at a quality of service,
-/// `subscribe` to "a/#" at QoS 2, `receive` shows two messages, and `await_end` reads what comes behind them. The broker's answers are ConnAcks, one not authorized
-/// and one with a maximum packet size of 10 (3.2), acks of id 1, some with quota exceeded (3.4 to 3.7), SubAcks, one not
-/// authorized (3.9), and a Disconnect for shutting down (3.14).
+/// `lines` are the lines "x", "y", an empty one and "z" to it, `subscribe` and `unsubscribe` are of "a/#" at QoS 2, `receive`
+/// shows two messages, `await` waits for two answers of these, and `await_end` reads what comes behind them. The broker's
+/// answers are ConnAcks, some not authorized, one with a maximum packet size of 10, and some without QoS 1, wildcards or
+/// shared subscriptions (3.2), acks of ids 1 and 2, some with quota exceeded (3.4 to 3.7), SubAcks and UnsubAcks, some not
+/// authorized (3.9, 3.11), and a Disconnect for shutting down (3.14). Some have the reason string "no".
 const TALKS: &str =
     "publisher; from:2003000000; open; publish:0; close; written=100D00044D5154540502000000000030080003612F62006869E000
 publisher; from:2003008700; open=the broker refused the connection: NotAuthorized; written=100D00044D51545405020000000000
@@ -36,6 +41,20 @@ subscriber; from:2003000000/900400010002/30080003612F6200686930080003612F6200686
 subscriber; from:2003000000/900400010087; open; subscribe; receive=the broker refused the subscription: NotAuthorized; written=100D00044D5154540502000000000082090001000003612F2302; shown=-
 subscriber; from:2003000000/900400010002/E0018B; open; subscribe; receive=the broker ended the connection: ServerShuttingDown; written=100D00044D5154540502000000000082090001000003612F2302; shown=-
 subscriber; from:2003000000/900400010002; open; subscribe; receive=the connection was closed; written=100D00044D5154540502000000000082090001000003612F2302; shown=-
+publisher; from:20080087051F00026E6F; open=the broker refused the connection: NotAuthorized (\"no\"); written=100D00044D51545405020000000000
+publisher; from:2003000000/4009000197051F00026E6F; open; publish:1=the broker refused the message: QuotaExceeded (\"no\"); written=100D00044D51545405020000000000320A0003612F620001006869
+publisher; from:2003000000/E0078B051F00026E6F; open; publish:1=the broker ended the connection: ServerShuttingDown (\"no\"); written=100D00044D51545405020000000000320A0003612F620001006869
+publisher; from:20050000022400; open; publish:1=the broker takes no message of QoS 1; publish:0; written=100D00044D5154540502000000000030080003612F62006869
+publisher; from:20050000022401; open; publish:2=the broker takes no message of QoS 2; written=100D00044D51545405020000000000
+publisher; from:2003000000; open; lines:0; events=0; close; written=100D00044D5154540502000000000030070003612F62007830070003612F62007930060003612F620030070003612F62007AE000
+publisher; from:2003000000/40020001/40020002/40020001/40020002; open; lines:1; ids=0; close; unread=; written=100D00044D5154540502000000000032090003612F620001007832090003612F620002007932080003612F6200010032090003612F620002007AE000
+publisher; from:2003000000/50020001/5002000270020001/70020002/50020001/70020001/50020002/70020002; open; lines:2; ids=0; unread=; written=100D00044D5154540502000000000034090003612F620001007834090003612F6200020079620200016202000234080003612F620001006202000134090003612F620002007A62020002
+publisher; from:2003000000/40020001/4003000297/40020001; open; lines:1=the broker refused the message: QuotaExceeded; written=100D00044D5154540502000000000032090003612F620001007832090003612F620002007932080003612F62000100
+subscriber; from:20050000022800; open; subscribe=the broker takes no filter with a wildcard; written=100D00044D51545405020000000000
+subscriber; from:20050000022A00; open; share=the broker takes no shared subscription; written=100D00044D51545405020000000000
+subscriber; from:2003000000/90090001051F00026E6F87; open; subscribe; receive=the broker refused the subscription: NotAuthorized (\"no\"); shown=-
+subscriber; from:2003000000/900400010002/30080003612F62006869/B00400020000; open; subscribe; unsubscribe; await; close; shown=-; written=100D00044D5154540502000000000082090001000003612F2302A2080002000003612F23E000
+subscriber; from:2003000000/900400010002/B00400020087; open; subscribe; unsubscribe; await=the broker refused to end the subscription: NotAuthorized; written=100D00044D5154540502000000000082090001000003612F2302A2080002000003612F23
 ";
 
 fn connect(alloc: Global) -> Result<Packet, Error> {
@@ -54,7 +73,8 @@ fn opens(alloc: Global, client: &mut Client, ends: &mut Ends) -> Result<(), Talk
     let connect = connect(alloc)?;
     let opened = open(client, &connect, &mut ends.source, &mut ends.sink);
     drop(connect);
-    opened
+    ends.capabilities = opened?;
+    Ok(())
 }
 
 fn publishes(
@@ -66,15 +86,60 @@ fn publishes(
     requires { IsReady client.old }
 {
     let message = publish_hi(alloc, quality_of(quality))?;
-    publish(client, message, &mut ends.source, &mut ends.sink)
+    publish(
+        client,
+        ends.capabilities,
+        message,
+        &mut ends.source,
+        &mut ends.sink,
+    )
 }
 
-fn subscribes(alloc: Global, client: &mut Client, ends: &mut Ends) -> Result<(), TalkError>
+fn publishes_lines(
+    alloc: Global,
+    client: &mut Client,
+    ends: &mut Ends,
+    quality: &str,
+) -> Result<(), TalkError>
     requires { IsReady client.old }
 {
-    let filter = Filter::new(alloc, "a/#", QoS::ExactlyOnce)?;
+    let heading = Heading {
+        topic: "a/b",
+        qos: quality_of(quality),
+        retain: false,
+    };
+    let text: &[u8] = b"x\ny\n\nz";
+    let mut lines = match LineSource::new(alloc, heading, 2, text) {
+        Ok(lines) => lines,
+        Err(error) => return Err(TalkError::Unread(error)),
+    };
+    publish_all(
+        client,
+        ends.capabilities,
+        &mut lines,
+        &mut ends.source,
+        &mut ends.sink,
+    )
+}
+
+fn subscribes(
+    alloc: Global,
+    client: &mut Client,
+    ends: &mut Ends,
+    filter: &str,
+) -> Result<(), TalkError>
+    requires { IsReady client.old }
+{
+    let filter = Filter::new(alloc, filter, QoS::ExactlyOnce)?;
     let wanted = Subscribe::new(alloc, filter, None)?;
-    subscribe(client, wanted, &mut ends.sink)
+    subscribe(client, ends.capabilities, wanted, &mut ends.sink)
+}
+
+fn unsubscribes(alloc: Global, client: &mut Client, ends: &mut Ends) -> Result<(), TalkError>
+    requires { IsReady client.old }
+{
+    let unwanted = Unsubscribe::new(alloc, "a/#", None)?;
+    unsubscribe(client, unwanted, &mut ends.sink)
 }
 
 fn receives(client: &mut Client, ends: &mut Ends) -> Result<(), TalkError>
@@ -102,7 +167,11 @@ pub(super) fn talks(
     match name {
         "open" => opens(alloc, client, ends),
         "publish" => publishes(alloc, client, ends, argument),
-        "subscribe" => subscribes(alloc, client, ends),
+        "lines" => publishes_lines(alloc, client, ends, argument),
+        "subscribe" => subscribes(alloc, client, ends, "a/#"),
+        "share" => subscribes(alloc, client, ends, "$share/g/a"),
+        "unsubscribe" => unsubscribes(alloc, client, ends),
+        "await" => await_subscribed(client, 2, &mut ends.source, &mut ends.sink),
         "receive" => receives(client, ends),
         "await_end" => await_end(&mut ends.source),
         _close => close(client, &mut ends.sink),

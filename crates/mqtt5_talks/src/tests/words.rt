@@ -80,7 +80,7 @@ fn words_say_the_connect(rt: HostRuntime) -> Result<(), Fail> {
 #[test]
 fn ends_have_a_status(rt: HostRuntime) {
     let mut log = Vec::new(rt.alloc());
-    let done = tell(Ok(()), &mut log);
+    let done = tell(Ok::<(), TalkError>(()), &mut log);
     let closed = tell(Err(TalkError::Closed), &mut log);
     let told = log.as_slice() == b"error: the connection was closed\n".as_slice();
     let unread = refuse_words(&ErrorKind::InvalidData.into(), &mut log);

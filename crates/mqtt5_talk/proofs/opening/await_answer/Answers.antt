@@ -8,18 +8,18 @@ loop-init g c = record { ready = c.requires.ready; none = c.requires.none; codec
 pub returns-in_err-hear-clause-talked : goal.returns-in_err-hear-clause-talked
 returns-in_err-hear-clause-talked g c = then_talked _ _ _ _ _ _ _ _ _ [] [] c.loop.invariant.talked c.hear.ensures.talked
 
-pub returns-in_err-is_answered-clause-talked : goal.returns-in_err-is_answered-clause-talked
-returns-in_err-is_answered-clause-talked g c = then_talked _ _ _ _ _ _ _ _ _ [] [] c.loop.invariant.talked c.hear.ensures.talked
+pub returns-in_err-capabilities-clause-talked : goal.returns-in_err-capabilities-clause-talked
+returns-in_err-capabilities-clause-talked g c = then_talked _ _ _ _ _ _ _ _ _ [] [] c.loop.invariant.talked c.hear.ensures.talked
 
-pub returns-then-branch-clause-talked : goal.returns-then-branch-clause-talked
-returns-then-branch-clause-talked g c = then_talked _ _ _ _ _ _ _ _ _ [] [] c.loop.invariant.talked c.hear.ensures.talked
+pub returns-in-Some-clause-talked : goal.returns-in-Some-clause-talked
+returns-in-Some-clause-talked g c = then_talked _ _ _ _ _ _ _ _ _ [] [] c.loop.invariant.talked c.hear.ensures.talked
 
-pub returns-then-branch-clause-limit : goal.returns-then-branch-clause-limit
-returns-then-branch-clause-limit g c = rw (c.loop.invariant.none, c.loop.invariant.codec) at c.hear.ensures.codec
+pub returns-in-Some-clause-limit : goal.returns-in-Some-clause-limit
+returns-in-Some-clause-limit g c = rw (c.loop.invariant.none, c.loop.invariant.codec) at c.hear.ensures.codec
 
 pub loop-preserved : goal.loop-preserved
 loop-preserved g c =
-    let none = c.in_ok-is_answered.ensures.none (ap Ok c.if-branch.false) in
+    let none = c.in_ok-capabilities.ensures.none (ap Ok c.in_default.is) in
     record {
       ready = c.in_ok-hear.ensures.ready;
       none = none;

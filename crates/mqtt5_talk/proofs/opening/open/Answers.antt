@@ -16,7 +16,7 @@ pub returns-clause-talked : goal.returns-clause-talked
 returns-clause-talked g c =
     let (bytes, written, answer, grown) = c.in_ok-write.ensures in (
       Opens c.args.connect.now ∷ [],
-      then_talked _ _ _ _ _ _ _ _ _ _ [] (silent _ _ _ _ _ (Puts [] [] [] bytes _ _ c.args.connect.now Begins written grown refl)) c.start.ensures.talked,
+      then_talked _ _ _ _ _ _ _ _ _ _ [] (silent _ _ _ _ _ (Puts [] [] [] bytes _ _ c.args.connect.now Begins written grown refl)) c.start_in_words.ensures.talked,
       inr refl,
-      on_ok_also c.start.result _ refl,
+      on_ok_also c.start_in_words.result _ refl,
     )

@@ -1,5 +1,0 @@
-use Rattle.mqtt5_client.specs.Client.{IsReady}
-use Rattle.mqtt5_pubsub.proofs.publishing.publish_lines.Given as goal
-
-abbrev pub invariant-loop : goal.invariant-loop
-invariant-loop g l = IsReady l.client

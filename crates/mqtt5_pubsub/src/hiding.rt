@@ -1,0 +1,41 @@
+//! A screen that leaves some messages out.
+
+ghost use Rattle.std.specs.Prelude.{◌≡◌, ◌⊎◌, false};
+
+use mqtt5_base::matches;
+use mqtt5_publish::Publish;
+use mqtt5_talk::{Screen, TalkError};
+
+/// A screen, and which messages aren't shown on it.
+#[derive(Drop)]
+pub struct Hiding<'a, S> {
+    pub screen: S,
+    /// Whether those aren't that the broker had retained (MQTT 5.0 section 3.3.1.3).
+    pub retained: bool,
+    /// Those aren't whose topic matches one of these filters (4.7).
+    pub filters: &'a [&'a str],
+}
+
+impl<S> Hiding<'_, S> {
+    /// Whether a message isn't shown.
+    fn hides(&self, publish: &Publish) -> bool {
+        if self.retained && publish.retain {
+            return true;
+        }
+        match str::from_utf8(publish.topic.as_slice()) {
+            Ok(topic) => self.filters.iter().any(|filter| matches(topic, filter)),
+            Err(_) => false,
+        }
+    }
+}
+
+impl<S: Screen> Screen for Hiding<'_, S> {
+    ghost shows = { λ old p is_shown new. (is_shown ≡ false) × (new ≡ old) ⊎ S.shows old.screen p is_shown new.screen };
+
+    fn show(&mut self, publish: &Publish) -> Result<bool, TalkError> {
+        if self.hides(publish) {
+            return Ok(false);
+        }
+        self.screen.show(publish)
+    }
+}
