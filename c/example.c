@@ -110,6 +110,17 @@ static int take_input(int s, bool *session_present) {
     return connected;
 }
 
+/* Tells of the oldest request that the session let go, which a program may publish again. */
+static void tell_dropped(void) {
+    uint8_t topic[256], payload[1024];
+    mqtt5_event e;
+    done(mqtt5_client_next_dropped(&client, &e, topic, sizeof topic, payload, sizeof payload), "next_dropped");
+    if (e.packet == MQTT5_PUBLISH)
+        printf("let go: %.*s to %.*s\n", (int)e.payload_len, (char *)payload, (int)e.topic_len, (char *)topic);
+    else
+        printf("let go: the release of %u\n", e.pkid);
+}
+
 /* Connects, and takes an old session up. */
 static int begin(bool clean_start) {
     int s = dial();
@@ -118,9 +129,9 @@ static int begin(bool clean_start) {
     flush_output(s);
     while (!take_input(s, &session_present)) {}
     printf("connected, %s\n", session_present ? "the broker has the session" : "a new session");
-    size_t given_up;
-    done(mqtt5_client_take_up(&client, session_present, now(), &given_up), "take_up");
-    if (given_up) printf("%zu requests are given up\n", given_up);
+    size_t dropped;
+    done(mqtt5_client_take_up(&client, session_present, now(), &dropped), "take_up");
+    for (; dropped > 0; dropped--) tell_dropped();
     flush_output(s);
     return s;
 }

@@ -13,8 +13,8 @@ extern "C" {
 
 #define MQTT5_VERSION "0.1.0"
 
-/* What every call answers. 1 to 13 are the refusals S1 to S13 of a session and of its client, of which 7 (a frame that can't be read, a
-   packet that can't be written) is told as 100 + n of E1 to E21, which says why: docs/PROGRAM.md has
+/* What every call answers. 1 to 13 are the refusals S1 to S13 of a session and of its client, of which 7 (a frame that
+   can't be read, a packet that can't be written) is told as 100 + n of E1 to E21, which says why: docs/PROGRAM.md has
    both as tables, and mqtt5_names.h their names. */
 enum {
     MQTT5_DONE = 0,
@@ -30,6 +30,8 @@ enum {
     MQTT5_COLLISION_TIMEOUT = 5,
     /* A Subscribe without a filter. */
     MQTT5_EMPTY_SUBSCRIPTION = 6,
+    /* Never answered: 100 + n says why. */
+    MQTT5_DESERIALIZATION = 7,
     /* A topic alias above the broker's maximum. */
     MQTT5_INVALID_ALIAS = 8,
     /* A packet over the broker's maximum packet size. */
@@ -49,8 +51,33 @@ enum {
     MQTT5_HAS_CLIENT = 202,
     /* A buffer is too small: nothing is copied, and an event stays. */
     MQTT5_SMALL_BUFFER = 203,
-    /* The oldest event hasn't what is asked for. */
+    /* The oldest event, or the oldest request that was let go, hasn't what is asked for. */
     MQTT5_ABSENT = 204
+};
+
+/* Why a frame can't be read, or a packet can't be written: 100 + n of E1 to E21. */
+enum {
+    MQTT5_E_INVALID_CONNECT_RETURN_CODE = 101,
+    MQTT5_E_INVALID_PROTOCOL = 102,
+    MQTT5_E_INVALID_PROTOCOL_LEVEL = 103,
+    MQTT5_E_INCORRECT_PACKET_FORMAT = 104,
+    MQTT5_E_INVALID_PACKET_TYPE = 105,
+    MQTT5_E_INVALID_RETAIN_FORWARD_RULE = 106,
+    MQTT5_E_INVALID_QOS = 107,
+    MQTT5_E_INVALID_SUBSCRIBE_REASON_CODE = 108,
+    MQTT5_E_PACKET_ID_ZERO = 109,
+    MQTT5_E_EMPTY_SUBSCRIPTION = 110,
+    MQTT5_E_PAYLOAD_TOO_LONG = 111,
+    MQTT5_E_PAYLOAD_SIZE_LIMIT_EXCEEDED = 112,
+    MQTT5_E_PAYLOAD_REQUIRED = 113,
+    MQTT5_E_TOPIC_NOT_UTF8 = 114,
+    MQTT5_E_BOUNDARY_CROSSED = 115,
+    MQTT5_E_MALFORMED_PACKET = 116,
+    MQTT5_E_MALFORMED_REMAINING_LENGTH = 117,
+    MQTT5_E_INVALID_PROPERTY_TYPE = 118,
+    MQTT5_E_INSUFFICIENT_BYTES = 119,
+    MQTT5_E_OUTGOING_PACKET_TOO_LARGE = 120,
+    MQTT5_E_OUT_OF_MEMORY = 121
 };
 
 /* Properties by their identifiers (MQTT 5.0 section 2.2.2.2). */
@@ -131,7 +158,7 @@ enum {
     MQTT5_REASON_WILDCARD_SUBSCRIPTIONS_NOT_SUPPORTED = 162
 };
 
-/* Packet types (MQTT 5.0 section 2.1.2), and the kinds of an event. */
+/* Packet types (MQTT 5.0 section 2.1.2), and the kinds of an event and of a request that was let go. */
 enum {
     MQTT5_CONNACK = 2,
     MQTT5_PUBLISH = 3,
@@ -152,21 +179,22 @@ enum {
     MQTT5_NO_EVENT = 0,
     MQTT5_CAME = 1,
     MQTT5_SENT = 2,
-    MQTT5_WAITS = 3
+    MQTT5_WAITS = 3,
+    MQTT5_DROPPED = 4
 };
 
 /* A handle. All zero is one without a client, and so it must start: mqtt5_client h = {0}. It is never copied and never
-   written to, and goes to one call at a time. A pointer to bytes is never null, not even of no bytes. The moment `at` is
-   a number of seconds, or of another unit. */
+   written to, and goes to one call at a time. A pointer to bytes, or to a buffer, may be null where its length is 0; no
+   other pointer is null. The moment `at` is a number of seconds, or of another unit. */
 typedef struct {
     bool live;
     void *client;
 } mqtt5_client;
 
-/* An event as numbers; what it hasn't is 0. */
+/* An event, or a request that was let go, as numbers; what it hasn't is 0. */
 typedef struct {
     /* 0: there is none; 1: a packet came; 2: one was answered to send; 3: a publish waits until its packet identifier
-       is free. */
+       is free; 4: a request was let go. */
     uint32_t kind;
     /* The packet's type (MQTT 5.0 section 2.1.2), as 3 of a Publish. */
     uint32_t packet;
@@ -174,13 +202,14 @@ typedef struct {
     /* The reason code of a ConnAck, a Disconnect, a PubAck or a PubRec, or of the first filter of a SubAck or an
        UnsubAck. */
     uint32_t code;
-    /* Of a Publish that came: its QoS, whether it is sent again, and whether the broker had kept it. */
+    /* Of a Publish that came or was let go: its QoS, whether it is sent again, and whether the broker had kept it, or is
+       to keep it. */
     uint32_t qos;
     bool dup;
     bool retain;
     /* Of a ConnAck, whether the broker has the session: hand it to mqtt5_client_take_up. */
     bool session_present;
-    /* Of a Publish that came, how many bytes its topic and its payload have. */
+    /* Of that Publish, how many bytes its topic and its payload have. */
     size_t topic_len;
     size_t payload_len;
 } mqtt5_event;
@@ -283,17 +312,31 @@ uint32_t mqtt5_client_event_reason(mqtt5_client *h, size_t index, uint8_t *reaso
 
 /* After a cut, once the ConnAck's event was taken out, which says whether the broker has the session. With it, all that
    awaits an ack is sent again, but the publishes that the broker's limit doesn't let pass; without it the session ends,
-   and all that awaits an ack is let go. `count` tells how many requests were let go. 1: a session ends, and an event isn't
-   taken out yet. After a refusal the client is as before. */
+   and all that awaits an ack is let go. `count` tells how many requests were let go; mqtt5_client_next_dropped gives them
+   out. 1: a session ends, and an event isn't taken out yet. After a refusal the client is as before. */
 uint32_t mqtt5_client_take_up(mqtt5_client *h, bool session_present, uint64_t at, size_t *count);
 
 /* After a cut, once the ConnAck's event says that the broker has the session: all that awaits an ack is sent again. After
    a refusal, as of a publish that the broker's limit doesn't let pass (9), the output is as before. */
 uint32_t mqtt5_client_resume(mqtt5_client *h, uint64_t at);
 
-/* Ends the session: what awaits an ack is let go, and `count` tells how many requests that were. 1: an event isn't taken
-   out yet. After a refusal the client is as before. */
+/* Ends the session: what awaits an ack is let go, and `count` tells how many requests that were;
+   mqtt5_client_next_dropped gives them out. 1: an event isn't taken out yet. After a refusal the client is as before. */
 uint32_t mqtt5_client_clean(mqtt5_client *h, size_t *count);
+
+/* The oldest of the requests that the last take_up or clean let go: as numbers, of kind 4, a Publish (its identifier, QoS,
+   dup, retain and lengths) or a PubRel, the release of an identifier whose message the broker has. Copies topic and
+   payload of a Publish, and takes the request out; kind 0 where none is left. 203: a buffer is too small, and it stays.
+   What isn't taken out goes with the next take_up or clean that is done, or with the client; no other call changes it. */
+uint32_t mqtt5_client_next_dropped(mqtt5_client *h, mqtt5_event *dropped, uint8_t *topic, size_t topic_len,
+                                   uint8_t *payload, size_t payload_len);
+
+/* A property of the oldest of these, a Publish, which stays: as the calls of events tell it. */
+uint32_t mqtt5_client_dropped_number(mqtt5_client *h, uint32_t property, uint32_t *number);
+uint32_t mqtt5_client_dropped_bytes(mqtt5_client *h, uint32_t property, uint8_t *buffer, size_t buffer_len,
+                                    size_t *count);
+uint32_t mqtt5_client_dropped_pair(mqtt5_client *h, size_t index, uint8_t *name, size_t name_len, size_t *name_count,
+                                   uint8_t *value, size_t value_len, size_t *value_count);
 
 /* Whether bytes can be the topic of a publish, or a topic filter, and whether a topic matches a filter (MQTT 5.0 section 4.7);
    but a topic that begins with `$` matches no filter, `$SYS/a` not even `$SYS/#` or itself, where 4.7.2 bars filters that
@@ -301,6 +344,10 @@ uint32_t mqtt5_client_clean(mqtt5_client *h, size_t *count);
 bool mqtt5_valid_topic(const uint8_t *topic, size_t len);
 bool mqtt5_valid_filter(const uint8_t *filter, size_t len);
 bool mqtt5_topic_matches(const uint8_t *topic, size_t topic_len, const uint8_t *filter, size_t filter_len);
+
+/* Copies the version of the library, without a zero behind it, and tells how many bytes it has. With this header's library
+   that is MQTT5_VERSION. 203: the buffer is too small. */
+uint32_t mqtt5_version(uint8_t *buffer, size_t buffer_len, size_t *count);
 
 #ifdef __cplusplus
 }

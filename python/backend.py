@@ -23,7 +23,8 @@ def library() -> Path:
 
 
 def contents(info: str, tag: str) -> dict[str, bytes]:
-    files = {f"bistortpost/{path.name}": path.read_bytes() for path in sorted(HERE.glob("bistortpost/*.py"))}
+    sources = sorted([*HERE.glob("bistortpost/*.py"), HERE / "bistortpost/py.typed"])
+    files = {f"bistortpost/{path.name}": path.read_bytes() for path in sources}
     files["bistortpost/libmqtt5_c.so"] = library().read_bytes()
     files[f"{info}/METADATA"] = (
         f"Metadata-Version: 2.1\nName: {PROJECT['name']}\nVersion: {PROJECT['version']}\n"

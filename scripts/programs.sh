@@ -71,6 +71,7 @@ Subscribes at a broker, and shows what comes, a line each.
   -U, --unsubscribe FILTER
                           a filter whose subscription ends; may be given often
   -C COUNT                ends after so many messages
+  -W SECONDS              ends after this time, with status 27
   -E                      ends once it is subscribed, and shows nothing
   -R                      shows no message that the broker had retained
   -T, --filter-out FILTER
@@ -79,6 +80,7 @@ Subscribes at a broker, and shows what comes, a line each.
   -o, --output FILE       messages go to this file, which is made anew
   -N, --no-newline        no newline behind a message there
   -F FORMAT               messages by a format, as of mosquitto_sub: %t the topic, %p the message ..
+  --pretty                JSON of a format in several lines
   --escape                messages as text, other bytes escaped, wherever they go
 END
     say_options
@@ -100,6 +102,8 @@ say_options() {
   --cert FILE, --key FILE
                           the client's own certificate and key
   --insecure              the broker's certificate may have any name
+  -k, --keepalive SECONDS the longest time without a packet of the client: of sub 60, which 0 turns off, and of pub 0
+  --retry                 sub: connects again where the connection is lost, with growing pauses
 
   -i, --id ID             the client identifier; without it the broker gives one
   -I, --id-prefix PREFIX  it is this and the number of the process
@@ -113,6 +117,9 @@ say_options() {
   --will-payload MESSAGE  its message, else empty
   --will-qos QOS          its quality of service, else 0
   --will-retain           the broker retains it
+  -D, --property COMMAND PROPERTY VALUE
+                          a property of connect, will, publish, subscribe or unsubscribe, by its name in MQTT 5.0 in small
+                          letters, as message-expiry-interval; of a user-property its name and its value; often
   --help                  this text
 
 docs/PROGRAM.md of the sources says more of each.
@@ -191,6 +198,7 @@ run_program() {
             if [ -n "$host" ]; then
                 run_connected "$program" "$1" && exit || exit
             fi
+            exec "$program" "$1" "${rest[@]}"
             ;;
     esac
     exec "$program" "$@"

@@ -168,6 +168,10 @@ static void expect_no_client(mqtt5_client *h, int line) {
         mqtt5_client_subscribe_all(h, 0),
         mqtt5_client_next_id(h, &id),
         mqtt5_client_may_publish(h, &may),
+        mqtt5_client_next_dropped(h, &e, buffer, 2, buffer + 2, 2),
+        mqtt5_client_dropped_number(h, MQTT5_TOPIC_ALIAS, &number),
+        mqtt5_client_dropped_bytes(h, MQTT5_CONTENT_TYPE, buffer, 4, &count),
+        mqtt5_client_dropped_pair(h, 0, buffer, 2, &count, buffer + 2, 2, &other),
     };
     for (size_t i = 0; i < sizeof answers / sizeof *answers; i++) {
         if (answers[i] != MQTT5_NO_CLIENT) {
@@ -579,6 +583,44 @@ static void a_cut(void) {
     EXPECT(blocks, 0);
 }
 
+/* Takes the oldest request out that was let go: its type, its identifier, and of a Publish topic and payload, of one byte. */
+static mqtt5_event expect_dropped(mqtt5_client *h, uint32_t packet, uint32_t pkid, const char *of, int line) {
+    mqtt5_event e;
+    memset(&e, 0xaa, sizeof e);
+    uint32_t code = mqtt5_client_next_dropped(h, &e, topic, sizeof topic, payload, sizeof payload);
+    size_t len = packet == MQTT5_PUBLISH;
+    if (code || e.kind != MQTT5_DROPPED || e.packet != packet || e.pkid != pkid || e.code || e.session_present) {
+        printf("line %d: answer %u, request %u %u %u\n", line, code, e.kind, e.packet, e.pkid);
+        failures++;
+    } else if (e.topic_len != len || e.payload_len != len || (len && (topic[0] != of[0] || payload[0] != of[1]))) {
+        printf("line %d: another topic or payload\n", line);
+        failures++;
+    }
+    return e;
+}
+
+#define LET_GO(h, packet, pkid, of) expect_dropped(h, packet, pkid, of, __LINE__)
+
+/* None is left. */
+static void expect_none_dropped(mqtt5_client *h, int line) {
+    mqtt5_event e;
+    memset(&e, 0xaa, sizeof e);
+    uint32_t code = mqtt5_client_next_dropped(h, &e, topic, 0, payload, 0);
+    if (code || e.kind || e.packet || e.pkid || e.topic_len || e.payload_len) {
+        printf("line %d: answer %u, request %u %u %u\n", line, code, e.kind, e.packet, e.pkid);
+        failures++;
+    }
+}
+
+#define NONE_LET_GO(h) expect_none_dropped(h, __LINE__)
+
+static void take_events_out(mqtt5_client *h) {
+    mqtt5_event e;
+    do {
+        EXPECT(mqtt5_client_next_event(h, &e, topic, sizeof topic, payload, sizeof payload), MQTT5_DONE);
+    } while (e.kind && !failures);
+}
+
 /* A broker that has lost the session, and one that takes packets of eight bytes at most. */
 static void a_lost_session(void) {
     mqtt5_client h = {0};
@@ -593,6 +635,8 @@ static void a_lost_session(void) {
     EXPECT(EVENT(&h, 1, 2, 0).session_present, false);
     EXPECT(mqtt5_client_take_up(&h, false, 2, &count), MQTT5_DONE);
     EXPECT(count, 1);
+    LET_GO(&h, MQTT5_PUBLISH, 1, "ax");
+    NONE_LET_GO(&h);
     OUTPUT(&h, "");
     EXPECT(mqtt5_client_publish(&h, BYTES("a"), BYTES("x"), 1, false, 2), MQTT5_DONE);
     OUTPUT(&h, PUBLISH_1);
@@ -604,12 +648,184 @@ static void a_lost_session(void) {
     EXPECT(EVENT(&h, 1, 2, 0).session_present, true);
     EXPECT(mqtt5_client_take_up(&h, true, 3, &count), MQTT5_DONE);
     EXPECT(count, 1);
+    LET_GO(&h, MQTT5_PUBLISH, 1, "ax");
+    NONE_LET_GO(&h);
     OUTPUT(&h, PUBREL_1);
     EVENT(&h, 2, 6, 1);
     EXPECT(mqtt5_client_publish(&h, BYTES("a"), BYTES("x"), 1, false, 3), 9);
     EVENT(&h, 0, 0, 0);
     EXPECT(mqtt5_client_free(&h), MQTT5_DONE);
     EXPECT(blocks, 0);
+}
+
+/* The properties of the oldest request that was let go: an expiry of 60, response topic q, user property k vw. It stays. */
+static void expect_properties(mqtt5_client *h) {
+    uint32_t number = 7;
+    uint8_t name[2] = {7, 7}, value[2] = {7, 7};
+    size_t count = 7, other = 7;
+    EXPECT(mqtt5_client_dropped_number(h, MQTT5_TOPIC_ALIAS, &number), MQTT5_ABSENT);
+    EXPECT(number, 7);
+    EXPECT(mqtt5_client_dropped_number(h, MQTT5_MESSAGE_EXPIRY_INTERVAL, &number), MQTT5_DONE);
+    EXPECT(number, 60);
+    EXPECT(mqtt5_client_dropped_bytes(h, MQTT5_CONTENT_TYPE, name, 2, &count), MQTT5_ABSENT);
+    EXPECT(count, 7);
+    EXPECT(mqtt5_client_dropped_bytes(h, MQTT5_RESPONSE_TOPIC, name, 0, &count), MQTT5_SMALL_BUFFER);
+    EXPECT(count, 1);
+    EXPECT(name[0], 7);
+    EXPECT(mqtt5_client_dropped_bytes(h, MQTT5_RESPONSE_TOPIC, name, 2, &count), MQTT5_DONE);
+    EXPECT(name[0], 'q');
+    EXPECT(mqtt5_client_dropped_pair(h, 1, name, 2, &count, value, 2, &other), MQTT5_ABSENT);
+    EXPECT(mqtt5_client_dropped_pair(h, 0, name, 2, &count, value, 1, &other), MQTT5_SMALL_BUFFER);
+    EXPECT(count, 1);
+    EXPECT(other, 2);
+    EXPECT(name[0], 'q');
+    EXPECT(value[0], 7);
+    EXPECT(mqtt5_client_dropped_pair(h, 0, name, 2, &count, value, 2, &other), MQTT5_DONE);
+    EXPECT(name[0], 'k');
+    EXPECT(value[0], 'v');
+    EXPECT(value[1], 'w');
+}
+
+/* What a session lets go comes out one by one: the publishes that await their ack by rising identifier, as they would be sent
+   again (4.4, 3.3.1.1), the releases, and the publish that waits. It takes no memory. */
+static void what_is_let_go(void) {
+    mqtt5_client h = {0};
+    mqtt5_event e;
+    uint32_t number = 7;
+    size_t count = 7;
+    EXPECT(mqtt5_client_new(&h, 3, false), MQTT5_DONE);
+    NONE_LET_GO(&h);
+    EXPECT(mqtt5_client_dropped_number(&h, MQTT5_MESSAGE_EXPIRY_INTERVAL, &number), MQTT5_ABSENT);
+    EXPECT(mqtt5_client_add_number(&h, MQTT5_MESSAGE_EXPIRY_INTERVAL, 60), MQTT5_DONE);
+    EXPECT(mqtt5_client_add_bytes(&h, MQTT5_RESPONSE_TOPIC, BYTES("q")), MQTT5_DONE);
+    EXPECT(mqtt5_client_add_pair(&h, BYTES("k"), BYTES("vw")), MQTT5_DONE);
+    EXPECT(mqtt5_client_publish(&h, BYTES("a"), BYTES("x"), 1, false, 1), MQTT5_DONE);
+    EXPECT(mqtt5_client_publish(&h, BYTES("b"), BYTES("x"), 2, false, 1), MQTT5_DONE);
+    EXPECT(mqtt5_client_publish(&h, BYTES("c"), BYTES("y"), 2, true, 1), MQTT5_DONE);
+    EXPECT(mqtt5_client_publish(&h, BYTES("d"), BYTES("z"), 1, false, 1), MQTT5_DONE);
+    EXPECT(mqtt5_client_receive(&h, BYTES(PUBREC), 1), MQTT5_DONE);
+    EXPECT(mqtt5_client_clean(&h, &count), MQTT5_INVALID_STATE);
+    NONE_LET_GO(&h);
+    take_events_out(&h);
+    EXPECT(mqtt5_client_clean(&h, &count), MQTT5_DONE);
+    EXPECT(count, 4);
+
+    long taken = requests;
+    expect_properties(&h);
+    payload[0] = topic[0] = 7;
+    EXPECT(mqtt5_client_next_dropped(&h, &e, topic, sizeof topic, payload, 0), MQTT5_SMALL_BUFFER);
+    EXPECT(mqtt5_client_next_dropped(&h, &e, topic, 0, payload, sizeof payload), MQTT5_SMALL_BUFFER);
+    EXPECT(e.payload_len, 1);
+    EXPECT(topic[0], 7);
+    EXPECT(payload[0], 7);
+    e = LET_GO(&h, MQTT5_PUBLISH, 1, "ax");
+    EXPECT(e.qos, 1);
+    EXPECT(e.dup, true);
+    EXPECT(e.retain, false);
+    e = LET_GO(&h, MQTT5_PUBLISH, 3, "cy");
+    EXPECT(e.qos, 2);
+    EXPECT(e.dup, true);
+    EXPECT(e.retain, true);
+    EXPECT(mqtt5_client_dropped_number(&h, MQTT5_MESSAGE_EXPIRY_INTERVAL, &number), MQTT5_ABSENT);
+    LET_GO(&h, MQTT5_PUBREL, 2, "");
+    e = LET_GO(&h, MQTT5_PUBLISH, 1, "dz");
+    EXPECT(e.qos, 1);
+    EXPECT(e.dup, false);
+    NONE_LET_GO(&h);
+    EXPECT(requests, taken);
+
+    /* What wasn't taken out stands until the next one that is done, whatever else is asked for. */
+    EXPECT(mqtt5_client_publish(&h, BYTES("a"), BYTES("x"), 1, false, 2), MQTT5_DONE);
+    EXPECT(mqtt5_client_publish(&h, BYTES("b"), BYTES("y"), 1, false, 2), MQTT5_DONE);
+    take_events_out(&h);
+    EXPECT(mqtt5_client_clean(&h, &count), MQTT5_DONE);
+    EXPECT(count, 2);
+    EXPECT(mqtt5_client_connect(&h, BYTES("c"), 60, true, 3600), MQTT5_DONE);
+    EXPECT(mqtt5_client_receive(&h, BYTES(CONNACK), 3), MQTT5_DONE);
+    EXPECT(mqtt5_client_forget(&h), MQTT5_DONE);
+    EXPECT(mqtt5_client_publish(&h, BYTES("c"), BYTES("z"), 1, false, 3), MQTT5_DONE);
+    EXPECT(mqtt5_client_clean(&h, &count), MQTT5_INVALID_STATE);
+    LET_GO(&h, MQTT5_PUBLISH, 1, "ax");
+    take_events_out(&h);
+    EXPECT(mqtt5_client_take_up(&h, false, 3, &count), MQTT5_DONE);
+    EXPECT(count, 1);
+    LET_GO(&h, MQTT5_PUBLISH, 1, "cz");
+    NONE_LET_GO(&h);
+
+    /* Or until the client is let go. */
+    EXPECT(mqtt5_client_publish(&h, BYTES("a"), BYTES("x"), 1, false, 4), MQTT5_DONE);
+    take_events_out(&h);
+    EXPECT(mqtt5_client_clean(&h, &count), MQTT5_DONE);
+    EXPECT(mqtt5_client_free(&h), MQTT5_DONE);
+    EXPECT(blocks, 0);
+    EXPECT(mqtt5_client_new(&h, 3, false), MQTT5_DONE);
+    NONE_LET_GO(&h);
+    EXPECT(mqtt5_client_free(&h), MQTT5_DONE);
+    EXPECT(blocks, 0);
+}
+
+/* A null pointer of no bytes is as good as another one: each call that takes bytes, or a buffer. */
+static void null_pointers(void) {
+    mqtt5_client h = {0};
+    mqtt5_event e;
+    size_t count = 7, other = 7;
+    EXPECT(mqtt5_client_new(&h, 10, false), MQTT5_DONE);
+    EXPECT(mqtt5_client_set_login(&h, NULL, 0, NULL, 0), MQTT5_DONE);
+    EXPECT(mqtt5_client_set_will(&h, NULL, 0, NULL, 0, 0, false), MQTT5_BAD_ARGUMENT);
+    EXPECT(mqtt5_client_set_will(&h, BYTES("w"), NULL, 0, 0, false), MQTT5_DONE);
+    EXPECT(mqtt5_client_connect(&h, NULL, 0, 60, true, 3600), MQTT5_DONE);
+    EXPECT(mqtt5_client_output(&h, NULL, 0, &count), MQTT5_DONE);
+    EXPECT(count, 0);
+    OUTPUT(&h, "\x10\x18\0\x04MQTT\x05\x06\0\x3c\x05\x11\0\0\x0e\x10\0\0\0\0\x01w\0\0");
+    EXPECT(mqtt5_client_receive(&h, NULL, 0, 1), MQTT5_DONE);
+    EXPECT(mqtt5_client_receive(&h, BYTES(CONNACK_WITH_PROPERTIES), 1), MQTT5_DONE);
+    EXPECT(mqtt5_client_event_bytes(&h, MQTT5_REASON_STRING, NULL, 0, &count), MQTT5_SMALL_BUFFER);
+    EXPECT(count, 1);
+    EXPECT(mqtt5_client_event_pair(&h, 0, NULL, 0, &count, NULL, 0, &other), MQTT5_SMALL_BUFFER);
+    EXPECT(other, 2);
+    EXPECT(mqtt5_client_next_event(&h, &e, NULL, 0, NULL, 0), MQTT5_DONE);
+    EXPECT(e.packet, MQTT5_CONNACK);
+    EXPECT(mqtt5_client_receive(&h, BYTES("\x30\x05\0\x01" "a" "\0" "x"), 1), MQTT5_DONE);
+    EXPECT(mqtt5_client_next_event(&h, &e, NULL, 0, NULL, 0), MQTT5_SMALL_BUFFER);
+    EVENT(&h, 1, 3, 0);
+
+    EXPECT(mqtt5_client_subscribe(&h, NULL, 0, 0, 2), MQTT5_BAD_ARGUMENT);
+    EXPECT(mqtt5_client_add_filter(&h, NULL, 0, 0, false, false, 0), MQTT5_BAD_ARGUMENT);
+    EXPECT(mqtt5_client_unsubscribe(&h, NULL, 0, 2), MQTT5_BAD_ARGUMENT);
+    EXPECT(mqtt5_client_publish(&h, NULL, 0, NULL, 0, 1, false, 2), MQTT5_BAD_ARGUMENT);
+    EXPECT(mqtt5_client_add_bytes(&h, MQTT5_CORRELATION_DATA, NULL, 0), MQTT5_DONE);
+    EXPECT(mqtt5_client_add_pair(&h, NULL, 0, NULL, 0), MQTT5_DONE);
+    EXPECT(mqtt5_client_publish(&h, BYTES("a"), NULL, 0, 1, false, 2), MQTT5_DONE);
+    OUTPUT(&h, "\x32\x0e\0\x01" "a" "\0\x01\x08\x09\0\0\x26\0\0\0\0");
+    EVENT(&h, 2, 3, 1);
+    EXPECT(mqtt5_client_clean(&h, &count), MQTT5_DONE);
+    EXPECT(mqtt5_client_dropped_bytes(&h, MQTT5_CORRELATION_DATA, NULL, 0, &count), MQTT5_DONE);
+    EXPECT(count, 0);
+    EXPECT(mqtt5_client_dropped_pair(&h, 0, NULL, 0, &count, NULL, 0, &other), MQTT5_DONE);
+    EXPECT(mqtt5_client_next_dropped(&h, &e, NULL, 0, NULL, 0), MQTT5_SMALL_BUFFER);
+    EXPECT(mqtt5_client_next_dropped(&h, &e, topic, sizeof topic, NULL, 0), MQTT5_DONE);
+    EXPECT(e.packet, MQTT5_PUBLISH);
+    EXPECT(mqtt5_client_next_dropped(&h, &e, NULL, 0, NULL, 0), MQTT5_DONE);
+    EXPECT(e.kind, 0);
+    EXPECT(mqtt5_client_free(&h), MQTT5_DONE);
+    EXPECT(blocks, 0);
+
+    EXPECT(mqtt5_valid_topic(NULL, 0), false);
+    EXPECT(mqtt5_valid_filter(NULL, 0), false);
+    EXPECT(mqtt5_topic_matches(NULL, 0, BYTES("a")), false);
+    EXPECT(mqtt5_topic_matches(BYTES("a"), NULL, 0), false);
+    EXPECT(mqtt5_version(NULL, 0, &count), MQTT5_SMALL_BUFFER);
+}
+
+/* The library that is linked is that of the header. */
+static void version(void) {
+    uint8_t told[16];
+    size_t count = 7;
+    EXPECT(mqtt5_version(told, sizeof MQTT5_VERSION - 2, &count), MQTT5_SMALL_BUFFER);
+    EXPECT(count, sizeof MQTT5_VERSION - 1);
+    EXPECT(mqtt5_version(told, sizeof told, &count), MQTT5_DONE);
+    EXPECT(count, sizeof MQTT5_VERSION - 1);
+    EXPECT(memcmp(told, MQTT5_VERSION, count), 0);
 }
 
 static void misuse(void) {
@@ -679,7 +895,11 @@ static bool all_calls(mqtt5_client *h, uint32_t *code) {
     do {
         if ((*code = mqtt5_client_next_event(h, &e, topic, sizeof topic, payload, sizeof payload))) return false;
     } while (e.kind);
-    return !(*code = mqtt5_client_clean(h, &count));
+    if ((*code = mqtt5_client_clean(h, &count))) return false;
+    do {
+        if ((*code = mqtt5_client_next_dropped(h, &e, topic, sizeof topic, payload, sizeof payload))) return false;
+    } while (e.kind);
+    return true;
 }
 
 /* Memory is refused from each request on; every call answers 12 or is done, and nothing is left behind. */
@@ -713,9 +933,10 @@ static void numbers_by_name(void) {
         {MQTT5_AWAIT_PINGRESP, "AwaitPingResp"},
         {MQTT5_PACKET_TOO_LARGE, "OutgoingPacketTooLarge"},
         {MQTT5_OUT_OF_MEMORY, "OutOfMemory"},
-        {101, "InvalidConnectReturnCode"},
-        {116, "MalformedPacket"},
-        {121, "OutOfMemory"},
+        {MQTT5_DESERIALIZATION, "Deserialization"},
+        {MQTT5_E_INVALID_CONNECT_RETURN_CODE, "InvalidConnectReturnCode"},
+        {MQTT5_E_MALFORMED_PACKET, "MalformedPacket"},
+        {MQTT5_E_OUT_OF_MEMORY, "OutOfMemory"},
         {MQTT5_NO_CLIENT, "NoClient"},
         {MQTT5_ABSENT, "Absent"},
         {99, "unknown"},
@@ -745,8 +966,11 @@ int main(void) {
     acks_by_hand();
     a_cut();
     a_lost_session();
+    what_is_let_go();
+    null_pointers();
+    version();
     misuse();
     refused();
-    if (!failures) printf("each call of c/mqtt5.h, acks by hand, a cut, a lost session, and misuse: as they should be\n");
+    if (!failures) printf("each call of c/mqtt5.h, acks by hand, a cut, a lost session, null pointers, and misuse: as they should be\n");
     return failures != 0;
 }

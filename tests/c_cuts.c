@@ -20,8 +20,8 @@ static mqtt5_client client;
 static int acked, s;
 static char last[256]; /* the last message that came */
 static bool connected, session_present;
-/* Whether a cut is no fault, whether there was one, and how often each number came. */
-static bool bears_cuts, is_cut;
+/* Whether a cut is no fault, whether there was one, whether it was a refusal, and how often each number came. */
+static bool bears_cuts, is_cut, is_refused;
 static int came[100000];
 
 static void is(size_t found, size_t wanted, const char *what) {
@@ -53,13 +53,16 @@ static void take_input(void) {
     if (count <= 0 && bears_cuts) is_cut = true;
     if (is_cut) return;
     is(count > 0, 1, "the broker is there");
-    is(mqtt5_client_receive(&client, buffer, (size_t)count, 0), 0, "receive");
+    uint32_t received = mqtt5_client_receive(&client, buffer, (size_t)count, 0);
     for (;;) {
         mqtt5_event e;
         is(mqtt5_client_next_event(&client, &e, topic, sizeof topic, payload, sizeof payload), 0, "next_event");
-        if (e.kind == 0) return;
+        if (e.kind == 0) break;
         if (e.kind != 1) continue;
         if (e.packet == 2) connected = true, session_present = e.session_present;
+        /* (ejabberd refuses by 128 who comes back while it still hands the session on to the last connection) */
+        if (e.packet == 2 && e.code == 128 && bears_cuts) is_cut = is_refused = true;
+        else if (e.packet == 2 || e.packet == 14) is(e.code, 0, "the reason code of the broker");
         if (e.packet == 3) {
             snprintf(last, sizeof last, "%.*s", (int)e.payload_len, payload);
             if (bears_cuts) came[atoi(last)]++;
@@ -67,6 +70,7 @@ static void take_input(void) {
         }
         if (e.packet == 4 || e.packet == 7) acked++;
     }
+    if (!is_refused) is(received, 0, "receive");
 }
 
 /* Connects, takes the session up or ends it, and answers how many requests are given up. */
@@ -153,9 +157,9 @@ static int go_on(void) {
     flush_output();
     if (!is_cut) take_input();
     while (is_cut) {
-        cuts++;
+        cuts += !is_refused;
         close(s);
-        is_cut = false;
+        is_cut = is_refused = false;
         is(begin(false), 0, "given up");
     }
     return cuts;

@@ -2,6 +2,7 @@
 is a dict, of each number its name; names are compared by their letters and digits alone."""
 
 import ctypes as c
+import glob
 import re
 import sys
 from dataclasses import fields
@@ -141,9 +142,9 @@ def answers():
     for letter, listed in ("S", session), ("E", packets):
         row = rf"^\| {letter}(?P<number>\d+) \| `(?P<name>\w+)`"
         same(f"docs/PROGRAM.md, {letter}", pairs(row, "docs/PROGRAM.md"), listed)
-    # (7 is told as 100 + n)
-    told = {number: name for number, name in crates.items() if number != 7 and not 100 < number < 200}
-    same(HEADER, in_header("DONE", "ABSENT", ANSWERS), told | {0: "done"})
+    same(HEADER, in_header("DONE", "ABSENT", ANSWERS), session | handle | {0: "done"})
+    why = in_header("INVALID_CONNECT_RETURN_CODE", "OUT_OF_MEMORY", prefix="MQTT5_E_")
+    same(HEADER, why, {100 + number: name for number, name in packets.items()})
     same(C_NAMES, in_c_names("mqtt5_error_name"), crates | {0: "done"})
     same("names.py", {number: plain(name) for number, name in names.FAULTS.items()}, crates)
     python = ("AWAITS_PING", "PACKET_TOO_LARGE", "BAD_ARGUMENT", "SMALL_BUFFER", "ABSENT")
@@ -162,9 +163,9 @@ def packet_types():
     within("_library.py", python, crates)
     rust = "rust/bistortpost/src/session.rs"
     within(rust, pairs(r"^        +(?P<number>\d+) => (?:Packet|Outgoing)::(?P<name>\w+)", rust), crates)
-    kinds = in_header("NO_EVENT", "WAITS")
-    same(f"{HEADER}, kinds", kinds, {0: "noevent", 1: "came", 2: "sent", 3: "waits"})
-    within("_library.py, kinds", {_library.CAME: "came", _library.SENT: "sent"}, kinds)
+    kinds = in_header("NO_EVENT", "DROPPED")
+    same(f"{HEADER}, kinds", kinds, {0: "noevent", 1: "came", 2: "sent", 3: "waits", 4: "dropped"})
+    within("_library.py, kinds", {_library.CAME: "came"}, kinds)
 
 
 # ---- The calls, by the types of what they take, and an event.
@@ -213,8 +214,8 @@ def calls_in(pattern, path, types_of):
 
 def calls():
     crates = {}
-    for path in ("ask", "connect", "event", "filters", "id", "life", "properties", "settings", "stream", "told", "topic"):
-        crates |= calls_in(r'extern "C" fn (mqtt5_\w+)\(([^)]*)\)', f"crates/mqtt5_c/src/{path}.rt", in_crates)
+    for path in sorted(glob.glob("crates/mqtt5_c/src/*.rt")):
+        crates |= calls_in(r'extern "C" fn (mqtt5_\w+)\(([^)]*)\)', path, in_crates)
     same(HEADER, calls_in(r"^(?:uint32_t|bool) (mqtt5_\w+)\(([^)]*)\);", HEADER, in_c), crates)
     rust = "rust/bistortpost/src/ffi.rs"
     within(rust, calls_in(r"fn (mqtt5_\w+)\(([^)]*)\)", rust, in_rust), crates)
@@ -237,9 +238,22 @@ def events():
     same("_library.py, EventInfo", dict(enumerate(python)), sizes)
 
 
-for compare in properties, reason_codes, answers, packet_types, calls, events:
+# ---- The version, as the library tells it, and as scripts/library.sh has it.
+
+
+def version():
+    crate = re.search(r'b"([^"]*)"', read("crates/mqtt5_c/src/version.rt"))[1]
+    spec = bytes(map(int, re.findall(r"(\d+) ∷", read("crates/mqtt5_c/specs/Version.antt")))).decode()
+    header = re.search(r'#define MQTT5_VERSION "(.*)"', read(HEADER))[1]
+    installed = re.search(r"^library_version=(.*)$", read("scripts/library.sh"), re.MULTILINE)[1]
+    for place, found in ("specs/Version.antt", spec), (HEADER, header), ("scripts/library.sh", installed):
+        if found != crate:
+            wrong.append(f"{place} has version {found}, and the library {crate}")
+
+
+for compare in properties, reason_codes, answers, packet_types, calls, events, version:
     compare()
 if wrong:
     print("\n".join(wrong))
     sys.exit(1)
-print("properties, reason codes, answers, packet types, calls, events: the same in crates, C, Python and Rust")
+print("properties, reason codes, answers, packet types, calls, events, version: the same in crates, C, Python and Rust")

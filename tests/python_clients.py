@@ -13,10 +13,13 @@ from bistortpost import (
     Client,
     ConnectionLost,
     Fault,
+    LetGo,
+    Message,
     Properties,
     Refused,
     SessionLost,
     Subscription,
+    TooLarge,
     Will,
     aio,
 )
@@ -95,7 +98,7 @@ def runs(use, *scripts, **settings):
     """Runs what uses a client for asyncio against a broker that follows these scripts."""
 
     async def run(port):
-        async with aio.Client("127.0.0.1", port, **{"client_id": "c", **settings}) as client:
+        async with aio.Client("127.0.0.1", port, **{"identifier": "c", **settings}) as client:
             await use(client)
 
     with Broker(*scripts) as broker:
@@ -119,7 +122,7 @@ class Clients(unittest.TestCase):
         # Server keep alive 30, assigned client identifier "x", receive maximum 2 (3.2.2.3).
         connack = "20 0D 00 00 0A 13 001E 12 0001 78 21 0002"
         will = Will("w", b"gone", 1, True, Properties(will_delay_interval=5, content_type="t"))
-        settings = {"client_id": "c", "username": "u", "password": "p", "will": will, "session_expiry_interval": 10}
+        settings = {"identifier": "c", "username": "u", "password": "p", "will": will, "session_expiry_interval": 10}
         with (
             Broker([(GETS, connect), (SAYS, connack), (GETS, DISCONNECT)]) as broker,
             Client("127.0.0.1", broker.port, properties=Properties(receive_maximum=20), **settings) as client,
@@ -140,7 +143,7 @@ class Clients(unittest.TestCase):
             (SAYS, message), (GETS, "40 02 0005"), (GETS, "A2 06 0002 00 0001 62"), (SAYS, "B0 04 0002 00 00"),
             (GETS, DISCONNECT),
         ]  # fmt: skip
-        with Broker(script) as broker, Client("127.0.0.1", broker.port, client_id="c") as client:
+        with Broker(script) as broker, Client("127.0.0.1", broker.port, identifier="c") as client:
             self.assertEqual(client.subscribe(filters, properties=properties), [1, 2])
             message = next(client.messages())
             self.assertEqual((message.topic, message.payload, message.qos), ("a", b"xy", 1))
@@ -161,7 +164,7 @@ class Clients(unittest.TestCase):
             (GETS, "32 07 0001 61 0003 00 78"), (SAYS, "40 0A 0003 97 06 1F 0003 666F6F"),
             (GETS, "34 07 0001 61 0004 00 78"), (SAYS, "50 03 0004 87"), (GETS, DISCONNECT),
         ]  # fmt: skip
-        with Broker(script) as broker, Client("127.0.0.1", broker.port, client_id="c") as client:
+        with Broker(script) as broker, Client("127.0.0.1", broker.port, identifier="c") as client:
             self.assertEqual(client.publish("a", b"x"), 0)
             self.assertEqual(client.publish("a", "x", 1, properties=properties), 16)
             self.assertEqual(client.publish("a", b"x", 2), 0)
@@ -184,7 +187,7 @@ class Clients(unittest.TestCase):
             [(GETS, CONNECT_AGAIN), (SAYS, CONNACK_AGAIN), (GETS, again), (SAYS, "50 02 0001"), (GETS, "62 02 0001")],
             [(GETS, CONNECT_AGAIN), (SAYS, CONNACK_AGAIN), (GETS, "62 02 0001"), (SAYS, "70 02 0001"), (GETS, DISCONNECT)],
         ]  # fmt: skip
-        with Broker(*scripts) as broker, Client("127.0.0.1", broker.port, client_id="c") as client:
+        with Broker(*scripts) as broker, Client("127.0.0.1", broker.port, identifier="c") as client:
             self.assertEqual(client.publish("a", b"x", 2), 0)
 
     def test_cut_before_the_end(self):
@@ -199,7 +202,7 @@ class Clients(unittest.TestCase):
                 (GETS, DISCONNECT),
             ],
         ]  # fmt: skip
-        with Broker(*scripts) as broker, Client("127.0.0.1", broker.port, client_id="c") as client:
+        with Broker(*scripts) as broker, Client("127.0.0.1", broker.port, identifier="c") as client:
             self.assertEqual(client.publish("a", b"x", 2), 0)
 
     def test_lost_session(self):
@@ -212,19 +215,43 @@ class Clients(unittest.TestCase):
                 (GETS, "82 07 0002 00 0001 62 01"), (SAYS, "40 02 0001"), (SAYS, "90 04 0002 00 01"), (GETS, DISCONNECT),
             ],
         ]  # fmt: skip
-        with Broker(*scripts) as broker, Client("127.0.0.1", broker.port, client_id="c") as client:
+        with Broker(*scripts) as broker, Client("127.0.0.1", broker.port, identifier="c") as client:
             client.subscribe("b", 1)
             self.assertEqual(client.publish("a", b"x", 1), 0)
 
     def test_lost_message(self):
-        # Of a message of QoS 2 nobody knows then whether it arrived.
+        # Of a message of QoS 2 nobody knows then whether it arrived: it comes back, as it would be sent again (3.3.1.1).
+        publish = "35 13 0001 61 0001 0C 02 0000000A 26 0001 6B 0001 76 78"
         scripts = [
-            [(GETS, CONNECT), (SAYS, CONNACK), (GETS, "34 07 0001 61 0001 00 78")],
+            [(GETS, CONNECT), (SAYS, CONNACK), (GETS, publish)],
             [(GETS, CONNECT_AGAIN), (SAYS, CONNACK), (GETS, DISCONNECT)],
         ]
-        with Broker(*scripts) as broker, Client("127.0.0.1", broker.port, client_id="c") as client:
-            with self.assertRaises(SessionLost):
-                client.publish("a", b"x", 2)
+        properties = Properties(message_expiry_interval=10, user_property=[("k", "v")])
+        with Broker(*scripts) as broker, Client("127.0.0.1", broker.port, identifier="c") as client:
+            with self.assertRaises(SessionLost) as lost:
+                client.publish("a", b"x", 2, True, properties)
+            self.assertEqual(lost.exception.message, Message("a", b"x", 2, True, True, properties))
+
+    def test_lost_messages(self):
+        # Each goes back to who waits for it; the broker has the third one, whose PubRec came, and its release is let go.
+        scripts = [
+            [
+                (GETS, CONNECT), (SAYS, CONNACK), (GETS, "34 07 0001 61 0001 00 78"), (GETS, "34 07 0001 62 0002 00 79"),
+                (GETS, "34 07 0001 63 0003 00 7A"), (SAYS, "50 02 0003"), (GETS, "62 02 0003"),
+            ],
+            [(GETS, CONNECT_AGAIN), (SAYS, CONNACK), (GETS, DISCONNECT)],
+        ]  # fmt: skip
+
+        async def use(client):
+            asked = [client.publish(topic, payload, 2) for topic, payload in ("ax", "by", "cz")]
+            lost = await asyncio.gather(*asked, return_exceptions=True)
+            self.assertEqual([type(error) for error in lost], 3 * [SessionLost])
+            first, second, third = (error.message for error in lost)
+            self.assertEqual((first.topic, first.payload), ("a", b"x"))
+            self.assertEqual((second.topic, second.payload), ("b", b"y"))
+            self.assertIsNone(third)
+
+        runs(use, *scripts)
 
     def test_receive_maximum(self):
         # The broker takes one message at a time (3.2.2.3.3), so the second one goes once the first is acknowledged.
@@ -280,7 +307,7 @@ class Clients(unittest.TestCase):
             (SAYS, "B0 04 0003 00 00"), (GETS, DISCONNECT),
         ]  # fmt: skip
         too_large = Properties(message_expiry_interval=5, topic_alias=70000)
-        with Broker(script) as broker, Client("127.0.0.1", broker.port, client_id="c") as client:
+        with Broker(script) as broker, Client("127.0.0.1", broker.port, identifier="c") as client:
             with self.assertRaises(Fault):
                 client.publish("a", b"x", 1, properties=too_large)
             client.publish("a", b"x", 1)
@@ -295,7 +322,7 @@ class Clients(unittest.TestCase):
         # More bytes than two bytes can say (1.5.4).
         script = [(GETS, CONNECT), (SAYS, CONNACK), (GETS, DISCONNECT)]
         long = "a" * 70000
-        with Broker(script) as broker, Client("127.0.0.1", broker.port, client_id="c") as client:
+        with Broker(script) as broker, Client("127.0.0.1", broker.port, identifier="c") as client:
             for qos in 0, 1:
                 with self.assertRaisesRegex(Fault, "the topic is over 65535 bytes"):
                     client.publish(long, b"x", qos)
@@ -304,7 +331,7 @@ class Clients(unittest.TestCase):
                     asked()
         with Broker([]) as broker:
             with self.assertRaisesRegex(Fault, "the will's topic is over 65535 bytes"):
-                Client("127.0.0.1", broker.port, client_id="c", will=Will(long)).__enter__()
+                Client("127.0.0.1", broker.port, identifier="c", will=Will(long)).__enter__()
 
     def test_given_up(self):
         # Whoever waited for a message of QoS 2 gives up, and the session is lost: the client goes on.
@@ -371,7 +398,7 @@ class Clients(unittest.TestCase):
                 (NOTHING, "may be asked for"), (SAYS, "B0 04 0001 00 11"), (SAYS, "90 04 0002 00 01"), (GETS, DISCONNECT),
             ],
         ]  # fmt: skip
-        with Broker(*scripts) as broker, Client("127.0.0.1", broker.port, client_id="c") as client:
+        with Broker(*scripts) as broker, Client("127.0.0.1", broker.port, identifier="c") as client:
             client.subscribe("a", 1)
             client.subscribe("b", 1)
             client.unsubscribe("b")
@@ -388,7 +415,7 @@ class Clients(unittest.TestCase):
                 (SAYS, "30 05 0001 62 00 78"), (GETS, DISCONNECT),
             ],
         ]  # fmt: skip
-        with Broker(*scripts) as broker, Client("127.0.0.1", broker.port, client_id="c") as client:
+        with Broker(*scripts) as broker, Client("127.0.0.1", broker.port, identifier="c") as client:
             client.subscribe("b", 1)
             with self.assertRaises(Refused):
                 client.unsubscribe("b")
@@ -404,10 +431,12 @@ class Clients(unittest.TestCase):
                 (GETS, "32 07 0001 61 0002 00 79"), (SAYS, "40 02 0002"), (GETS, DISCONNECT),
             ],
         ]  # fmt: skip
-        with Broker(*scripts) as broker, Client("127.0.0.1", broker.port, client_id="c") as client:
-            with self.assertRaises(Fault) as fault:
+        with Broker(*scripts) as broker, Client("127.0.0.1", broker.port, identifier="c") as client:
+            with self.assertRaises(TooLarge) as fault:
                 client.publish("a", 20 * b"x", 1)
             self.assertEqual(fault.exception.name, "OutgoingPacketTooLarge")
+            self.assertEqual(fault.exception.message, Message("a", 20 * b"x", 1, False, True))
+            self.assertIsInstance(fault.exception, LetGo)
             self.assertEqual(client.publish("a", b"y", 1), 0)
 
     def test_assigned_identifier(self):
@@ -433,7 +462,7 @@ class Clients(unittest.TestCase):
             [(GETS, CONNECT_AGAIN), (SAYS, "20 03 00 88 00")],
             [(GETS, CONNECT_AGAIN), (SAYS, CONNACK_AGAIN), (SAYS, "30 05 0001 61 00 79"), (GETS, DISCONNECT)],
         ]
-        with Broker(*scripts) as broker, Client("127.0.0.1", broker.port, client_id="c") as client:
+        with Broker(*scripts) as broker, Client("127.0.0.1", broker.port, identifier="c") as client:
             client.publish("a", b"w")
             messages = client.messages(PATIENCE)
             self.assertEqual([next(messages).payload, next(messages).payload], [b"x", b"y"])
@@ -441,7 +470,7 @@ class Clients(unittest.TestCase):
     def test_taken_over(self):
         # Session taken over: another connection has it, so this client ends.
         with Broker([(GETS, CONNECT), (SAYS, CONNACK), (GETS, "30 05 0001 61 00 77"), (SAYS, "E0 01 8E")]) as broker:
-            with Client("127.0.0.1", broker.port, client_id="c") as client, self.assertRaises(Refused) as refused:
+            with Client("127.0.0.1", broker.port, identifier="c") as client, self.assertRaises(Refused) as refused:
                 client.publish("a", b"w")
                 next(client.messages(PATIENCE))
             self.assertEqual(refused.exception.name, "Session taken over")
@@ -450,27 +479,43 @@ class Clients(unittest.TestCase):
         # Bad user name or password (3.2.2.2).
         with Broker([(GETS, CONNECT), (SAYS, "20 03 00 86 00")]) as broker:
             with self.assertRaises(Refused) as refused:
-                Client("127.0.0.1", broker.port, client_id="c").__enter__()
+                Client("127.0.0.1", broker.port, identifier="c").__enter__()
             self.assertEqual(refused.exception.reason, 134)
 
     def test_ended_at_once(self):
         # A ConnAck and a Disconnect in one piece: its reason is told.
         with Broker([(GETS, CONNECT), (SAYS, CONNACK + "E0 01 8E")]) as broker:
             with self.assertRaises(Refused) as refused:
-                Client("127.0.0.1", broker.port, client_id="c").__enter__()
+                Client("127.0.0.1", broker.port, identifier="c").__enter__()
             self.assertEqual(refused.exception.reason, 142)
 
     def test_other_first_packet(self):
         with Broker([(GETS, CONNECT), (SAYS, "30 05 0001 61 00 78")]) as broker:
             with self.assertRaisesRegex(ConnectionLost, "no ConnAck"):
-                Client("127.0.0.1", broker.port, client_id="c").__enter__()
+                Client("127.0.0.1", broker.port, identifier="c").__enter__()
 
     def test_lost_connection(self):
         with Broker([(GETS, CONNECT), (SAYS, CONNACK)]) as broker:
-            with Client("127.0.0.1", broker.port, client_id="c", reconnect=False) as client:
+            with Client("127.0.0.1", broker.port, identifier="c", reconnect=False) as client:
                 with self.assertRaises(ConnectionLost):
                     for _ in client.messages():
                         pass
+
+    def test_left_while_bytes_come(self):
+        # A message of QoS 0 (3.3) that comes just before the end doesn't hold it up.
+        opened, readers = asyncio.open_connection, []
+
+        async def open_connection(*words, **settings):
+            reader, writer = await opened(*words, **settings)
+            readers.append(reader)
+            return reader, writer
+
+        async def use(client):
+            readers[0].feed_data(bytes.fromhex("30 05 0001 61 00 78"))
+            await client.disconnect()
+
+        with mock.patch.object(asyncio, "open_connection", open_connection):
+            runs(use, [(GETS, CONNECT), (SAYS, CONNACK), (GETS, DISCONNECT)])
 
     def test_asyncio(self):
         # Two publishes under way at once; a ping where nothing was sent for the keep alive of 5 seconds (3.12).

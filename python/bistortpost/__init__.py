@@ -2,19 +2,21 @@
 
 from . import aio
 from .client import Client
-from .errors import ConnectionLost, Fault, MqttError, Refused, SessionLost
+from .errors import ConnectionLost, Fault, LetGo, MqttError, Refused, SessionLost, TooLarge
 from .values import Message, Properties, Subscription, Will
 
 __all__ = [
     "Client",
     "ConnectionLost",
     "Fault",
+    "LetGo",
     "Message",
     "MqttError",
     "Properties",
     "Refused",
     "SessionLost",
     "Subscription",
+    "TooLarge",
     "Will",
     "aio",
 ]

@@ -14,8 +14,8 @@ SMALL_BUFFER = 203
 ABSENT = 204
 
 # The kinds of an event, and the types of packets (MQTT 5.0 section 2.1.2).
-CAME, SENT = 1, 2
-CONNACK, PUBLISH, PUBACK, PUBREC, PUBREL, PUBCOMP, SUBACK, UNSUBACK, DISCONNECT = 2, 3, 4, 5, 6, 7, 9, 11, 14
+CAME = 1
+CONNACK, PUBLISH, PUBACK, PUBREC, PUBCOMP, SUBACK, UNSUBACK, DISCONNECT = 2, 3, 4, 5, 7, 9, 11, 14
 
 
 class Handle(c.Structure):
@@ -25,7 +25,7 @@ class Handle(c.Structure):
 
 
 class EventInfo(c.Structure):
-    """An event as numbers."""
+    """An event, or a request that was let go, as numbers."""
 
     _fields_ = (
         [(name, c.c_uint32) for name in ("kind", "packet", "pkid", "code", "qos")]
@@ -65,6 +65,10 @@ CALLS = {
     "event_subscription": [c.c_size_t] + COUNT,
     "event_reason": [c.c_size_t, c.POINTER(c.c_uint8)],
     "take_up": [c.c_bool] + MOMENT + COUNT,
+    "next_dropped": [c.POINTER(EventInfo)] + BYTES + BYTES,
+    "dropped_number": [c.c_uint32, c.POINTER(c.c_uint32)],
+    "dropped_bytes": [c.c_uint32] + BYTES + COUNT,
+    "dropped_pair": [c.c_size_t] + BYTES + COUNT + BYTES + COUNT,
 }
 
 

@@ -43,6 +43,14 @@ class Event:
     message: Message | None = None
 
 
+@dataclass
+class Dropped:
+    """What a session let go under a packet identifier: a message; or None, the release of one that the broker has."""
+
+    pkid: int
+    message: Message | None
+
+
 class Session:
     def __init__(self, limit: int):
         self._handle = Handle = library.Handle()
@@ -111,18 +119,20 @@ class Session:
     def disconnect(self, at):
         self._done("disconnect", at)
 
-    def take_up(self, session_present, at) -> list[int]:
-        """The packet identifiers that are released on the new connection: those whose PubRec had come, and those whose
-        publish is over the broker's limit. The events of the ConnAck were taken out before."""
+    def take_up(self, session_present, at) -> list[Dropped]:
+        """What the session lets go on the new connection: with the broker's session the messages over its limit, without it
+        all. The events of the ConnAck were taken out before."""
         self._done("take_up", session_present, at, c.byref(c.c_size_t()))
-        sent = list(iter(self._next_sent, None))
-        return [info.pkid for info in sent if info.kind == library.SENT and info.packet == library.PUBREL]
+        return list(iter(self._next_dropped, None))
 
-    def _next_sent(self):
-        """The oldest event as numbers, taken out, where no message came; None where there is none."""
-        info = library.EventInfo()
-        self._done("next_event", c.byref(info), b"", 0, b"", 0)
-        return info if info.kind else None
+    def _next_dropped(self) -> Dropped | None:
+        """The oldest request that was let go, taken out; None where there is none."""
+        info, properties = library.EventInfo(), self._properties("dropped")
+        if self._ask("next_dropped", c.byref(info), b"", 0, b"", 0) == library.SMALL_BUFFER:
+            return Dropped(info.pkid, self._message("next_dropped", info, properties))
+        if info.packet == library.PUBLISH:
+            return Dropped(info.pkid, _message(info, b"", b"", properties))
+        return Dropped(info.pkid, None) if info.kind else None
 
     def may_publish(self) -> bool:
         may = c.c_bool()
@@ -175,11 +185,11 @@ class Session:
         """The events of what came, oldest first, each taken out."""
         while True:
             reasons = self._reasons()
-            properties = self._properties() if reasons else None
+            properties = self._properties("event") if reasons else None
             info = library.EventInfo()
             message = None
             if self._ask("next_event", c.byref(info), b"", 0, b"", 0) == library.SMALL_BUFFER:
-                message = self._message(info)
+                message = self._message("next_event", info, self._properties("event"))
             if info.kind == 0:
                 return
             if info.kind == library.CAME:
@@ -187,12 +197,11 @@ class Session:
                     info.packet, info.pkid, info.session_present, reasons, properties or Properties(), message
                 )
 
-    def _message(self, info) -> Message:
-        properties = self._properties()
+    def _message(self, call, info, properties) -> Message:
+        """The Publish that was told of as numbers, taken out by this call."""
         topic, payload = (c.create_string_buffer(max(n, 1)) for n in (info.topic_len, info.payload_len))
-        self._done("next_event", c.byref(info), topic, info.topic_len, payload, info.payload_len)
-        text = topic.raw[: info.topic_len].decode(errors="surrogateescape")
-        return Message(text, payload.raw[: info.payload_len], info.qos, info.retain, info.dup, properties)
+        self._done(call, c.byref(info), topic, info.topic_len, payload, info.payload_len)
+        return _message(info, topic.raw[: info.topic_len], payload.raw[: info.payload_len], properties)
 
     def _reasons(self):
         reason, reasons = c.c_uint8(), []
@@ -200,43 +209,45 @@ class Session:
             reasons.append(reason.value)
         return reasons
 
-    def _properties(self) -> Properties:
-        properties = Properties(subscription_identifier=self._subscriptions(), user_property=self._pairs())
+    def _properties(self, of) -> Properties:
+        """The properties of the oldest `event`, or of the oldest request that was `dropped`."""
+        subscriptions = self._subscriptions() if of == "event" else []
+        properties = Properties(subscription_identifier=subscriptions, user_property=self._pairs(of))
         for name, identifier in IDENTIFIERS.items():
             if identifier in (SUBSCRIPTION_IDENTIFIER, USER_PROPERTY):
                 continue
             if identifier in TEXTS or identifier in BINARY:
-                value = self._bytes_of(identifier)
+                value = self._bytes_of(of, identifier)
                 if value is not None and identifier in TEXTS:
                     value = value.decode()
             else:
-                value = self._number_of(identifier)
+                value = self._number_of(of, identifier)
             setattr(properties, name, value)
         return properties
 
-    def _number_of(self, identifier):
+    def _number_of(self, of, identifier):
         number = c.c_uint32()
-        return number.value if self._ask("event_number", identifier, c.byref(number)) == 0 else None
+        return number.value if self._ask(f"{of}_number", identifier, c.byref(number)) == 0 else None
 
-    def _bytes_of(self, identifier):
+    def _bytes_of(self, of, identifier):
         count = c.c_size_t()
-        code = self._ask("event_bytes", identifier, b"", 0, c.byref(count))
+        code = self._ask(f"{of}_bytes", identifier, b"", 0, c.byref(count))
         if code not in (0, library.SMALL_BUFFER):
             return None
         room = c.create_string_buffer(max(count.value, 1))
-        self._done("event_bytes", identifier, room, count.value, c.byref(count))
+        self._done(f"{of}_bytes", identifier, room, count.value, c.byref(count))
         return room.raw[: count.value]
 
-    def _pairs(self):
+    def _pairs(self, of):
         pairs, name_count, value_count = [], c.c_size_t(), c.c_size_t()
         while True:
             counts = c.byref(name_count), c.byref(value_count)
-            code = self._ask("event_pair", len(pairs), b"", 0, counts[0], b"", 0, counts[1])
+            code = self._ask(f"{of}_pair", len(pairs), b"", 0, counts[0], b"", 0, counts[1])
             if code not in (0, library.SMALL_BUFFER):
                 return pairs
             name, value = (c.create_string_buffer(max(n.value, 1)) for n in (name_count, value_count))
             sizes = name_count.value, value_count.value
-            self._done("event_pair", len(pairs), name, sizes[0], counts[0], value, sizes[1], counts[1])
+            self._done(f"{of}_pair", len(pairs), name, sizes[0], counts[0], value, sizes[1], counts[1])
             pairs.append((name.raw[: sizes[0]].decode(), value.raw[: sizes[1]].decode()))
 
     def _subscriptions(self):
@@ -244,6 +255,11 @@ class Session:
         while self._ask("event_subscription", len(identifiers), c.byref(identifier)) == 0:
             identifiers.append(identifier.value)
         return identifiers
+
+
+def _message(info, topic: bytes, payload: bytes, properties) -> Message:
+    text = topic.decode(errors="surrogateescape")
+    return Message(text, payload, info.qos, info.retain, info.dup, properties)
 
 
 def _bytes(value) -> tuple[bytes, int]:

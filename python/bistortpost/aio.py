@@ -11,7 +11,7 @@ from dataclasses import replace
 
 from . import _library as library
 from ._session import Event, Session, Settings
-from .errors import ConnectionLost, Fault, MqttError, Refused, SessionLost
+from .errors import ConnectionLost, Fault, MqttError, Refused, SessionLost, TooLarge
 from .values import Message, Properties, Subscription, Will
 
 # How many bytes are read at a time.
@@ -55,17 +55,17 @@ class Client:
         async for message in client.messages:
             print(message.topic, message.payload)
 
-    `keep_alive` is in seconds, at least 5. With `clean_start` off the broker's session of this `client_id` is gone on
+    `keep_alive` is in seconds, at least 5. With `clean_start` off the broker's session of this `identifier` is gone on
     with, and kept for `session_expiry_interval` seconds without a connection. `properties` are those of the Connect.
     `tls` is True, or a context of `ssl`. With `reconnect` off a connection that is lost isn't opened again.
     """
 
     def __init__(
         self,
-        host: str,
+        hostname: str,
         port: int | None = None,
         *,
-        client_id: str = "",
+        identifier: str = "",
         username: str = "",
         password: str = "",
         will: Will | None = None,
@@ -77,10 +77,10 @@ class Client:
         reconnect: bool = True,
         limit: int = 65535,
     ):
-        self._address = host, port or (8883 if tls else 1883)
+        self._address = hostname, port or (8883 if tls else 1883)
         self._tls = ssl.create_default_context() if tls is True else tls or None
         self._settings = Settings(
-            client_id, username, password, will, keep_alive, clean_start, session_expiry_interval, properties
+            identifier, username, password, will, keep_alive, clean_start, session_expiry_interval, properties
         )
         self._reconnect, self._limit, self._most = reconnect, limit, limit
         self._session = Session(limit)
@@ -132,7 +132,8 @@ class Client:
         properties: Properties | None = None,
     ) -> int:
         """Publishes. At QoS 0 it returns once the message is handed to the connection, else once the broker has it; the
-        answer is the reason code, as 16 where nobody subscribes. Refused, Fault, SessionLost, ConnectionLost."""
+        answer is the reason code, as 16 where nobody subscribes. Refused, Fault, ConnectionLost; SessionLost and TooLarge,
+        which have the message."""
 
         def ask():
             return self._session.publish(topic, payload, qos, retain, properties, _now())
@@ -175,7 +176,8 @@ class Client:
     async def next_message(self, timeout: float | None = None) -> Message | None:
         """The next message that comes; None once the client ended by `disconnect`, ConnectionLost where it is lost.
         TimeoutError where none comes for so many seconds."""
-        message = await asyncio.wait_for(self._messages.get(), timeout)
+        async with asyncio.timeout(timeout):
+            message = await self._messages.get()
         if message is None:
             # (for whoever asks next)
             self._messages.put_nowait(None)
@@ -258,7 +260,7 @@ class Client:
             try:
                 await self._hold_connection()
                 lost = ConnectionLost("the broker closed the connection")
-            except (OSError, asyncio.TimeoutError, asyncio.IncompleteReadError) as error:
+            except (OSError, TimeoutError, asyncio.IncompleteReadError) as error:
                 lost = ConnectionLost(str(error) or "the broker doesn't answer")
             except MqttError as error:
                 lost = error
@@ -271,8 +273,9 @@ class Client:
 
     async def _hold_connection(self):
         host, port = self._address
-        opening = asyncio.open_connection(host, port, ssl=self._tls)
-        reader, writer = await asyncio.wait_for(opening, PATIENCE)
+        # (not by wait_for, which in Python 3.11 forgets that it is cancelled where what it waits for comes just then)
+        async with asyncio.timeout(PATIENCE):
+            reader, writer = await asyncio.open_connection(host, port, ssl=self._tls)
         try:
             self._session.connect(self._settings)
             writer.write(self._session.output())
@@ -289,7 +292,8 @@ class Client:
         """Reads until the ConnAck came, and takes the session up."""
         events = []
         while not events:
-            data = await asyncio.wait_for(reader.read(PIECE), PATIENCE)
+            async with asyncio.timeout(PATIENCE):
+                data = await reader.read(PIECE)
             if not data:
                 raise ConnectionLost("the broker closed the connection")
             events = self._take(data)
@@ -302,34 +306,28 @@ class Client:
         if connack.properties.server_keep_alive is not None:
             self._keep_alive = connack.properties.server_keep_alive
         self._most = min(self._limit, connack.properties.receive_maximum or 65535)
-        released = self._session.take_up(connack.session_present, _now())
+        dropped = self._session.take_up(connack.session_present, _now())
         # From now on the session is gone on with, as long as the broker keeps it: under the client identifier that it
         # assigned, where it did (3.2.2.3.7).
         client_id = self._settings.client_id or connack.properties.assigned_client_identifier or ""
         self._settings = replace(self._settings, client_id=client_id, clean_start=False)
         self._writer = writer
-        self._let_go(released)
-        self._ask_again(connack.session_present)
+        self._ask_again(connack.session_present, {one.pkid: one.message for one in dropped})
         self._handle(events[1:])
         if not self._connected.done():
             self._connected.set_result(connack.properties)
 
-    def _let_go(self, released):
-        """What was released unsent is over the packet size that the broker takes now."""
-        for pkid in released:
-            request = self._awaited.get(pkid)
-            if request and not request.is_received:
-                del self._awaited[pkid]
-                request.fail(Fault(library.PACKET_TOO_LARGE))
-
-    def _ask_again(self, session_present):
-        """Asks again for what the new connection doesn't send by itself, before what waits."""
+    def _ask_again(self, session_present, dropped: dict[int, Message | None]):
+        """Asks again for what the new connection doesn't send by itself, before what waits. Who awaits a message that can't
+        be sent again gets it back."""
         awaited, self._awaited, again = self._awaited, {}, []
         for pkid, request in awaited.items():
-            if session_present and request.qos:
+            if session_present and pkid in dropped:
+                request.fail(TooLarge(dropped[pkid]))
+            elif session_present and request.qos:
                 self._awaited[pkid] = request
             elif request.qos == 2:
-                request.fail(SessionLost(request.what))
+                request.fail(SessionLost(request.what, dropped.get(pkid)))
             else:
                 again.append(request)
             if not session_present and request.packet == library.UNSUBACK:
@@ -345,8 +343,9 @@ class Client:
         while True:
             left = self._written + self._keep_alive - time.monotonic() if self._keep_alive else None
             try:
-                return await asyncio.wait_for(reader.read(PIECE), left if left is None else max(left, 0.01))
-            except asyncio.TimeoutError:
+                async with asyncio.timeout(left if left is None else max(left, 0.01)):
+                    return await reader.read(PIECE)
+            except TimeoutError:
                 self._session.ping(_now())
                 self._flush()
 

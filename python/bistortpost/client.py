@@ -21,10 +21,10 @@ class Client:
             print(message.topic, message.payload)
     """
 
-    def __init__(self, host: str, port: int | None = None, **settings):
+    def __init__(self, hostname: str, port: int | None = None, **settings):
         self._loop = asyncio.new_event_loop()
         self._thread = threading.Thread(target=self._loop.run_forever, daemon=True)
-        self._host, self._port, self._settings = host, port, settings
+        self._hostname, self._port, self._settings = hostname, port, settings
         self._client: aio.Client | None = None
 
     def _do(self, call, timeout=None):
@@ -41,7 +41,7 @@ class Client:
 
     async def _open(self):
         # (made on the thread that calls it from then on)
-        return await aio.Client(self._host, self._port, **self._settings).__aenter__()
+        return await aio.Client(self._hostname, self._port, **self._settings).__aenter__()
 
     def __exit__(self, *_):
         self._do(self._client.disconnect())

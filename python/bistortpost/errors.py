@@ -1,6 +1,10 @@
 """Why a call is refused."""
 
+from __future__ import annotations
+
+from ._library import PACKET_TOO_LARGE
 from .names import FAULTS, REASONS
+from .values import Message
 
 
 class MqttError(Exception):
@@ -29,5 +33,25 @@ class ConnectionLost(MqttError):
     """The connection ended, and isn't opened again."""
 
 
-class SessionLost(MqttError):
-    """The broker lost the session: of this message of QoS 2 nobody knows whether it arrived."""
+class LetGo(MqttError):
+    """A message that awaited its answer is let go: `message` has its topic, payload, QoS, retain and properties, and dup,
+    since it was sent before."""
+
+    message: Message | None
+
+
+class SessionLost(LetGo):
+    """The broker lost the session: of this message of QoS 2 nobody knows whether it arrived. `message` is None where the
+    broker has it, and only the release of its packet identifier was under way."""
+
+    def __init__(self, what: str, message: Message | None):
+        super().__init__(what)
+        self.message = message
+
+
+class TooLarge(LetGo, Fault):
+    """The message can't be sent again: it is over the packet size that the broker takes now."""
+
+    def __init__(self, message: Message):
+        Fault.__init__(self, PACKET_TOO_LARGE)
+        self.message = message

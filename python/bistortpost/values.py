@@ -81,7 +81,7 @@ PAIRS = {38}
 
 @dataclass
 class Message:
-    """A message that came (MQTT 5.0 section 3.3)."""
+    """A message that came, or that was let go (MQTT 5.0 section 3.3)."""
 
     topic: str
     payload: bytes

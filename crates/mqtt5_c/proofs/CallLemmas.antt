@@ -1,11 +1,12 @@
 -- This file serves the logic alone: how an export shows what it left of a handle's client.
-use Rattle.std.proofs.Common.{◌≡◌, ℕ, Option, None, Some, is_some, subst, ap, ◌∙◌, inl, inr, refl}
+use Rattle.std.proofs.Common.{◌≡◌, ℕ, List, Option, None, Some, is_some, subst, ap, ◌∙◌, inl, inr, refl}
 use lib.Dec.{T}
 use mathlib.Core.Bool.{Bool, not}
 use Rattle.std.specs.Prelude.{unwrap_or}
+use Rattle.mqtt5_inflight.specs.declared.event.Request.{Request}
 use Rattle.mqtt5_client.specs.declared.client.Client.{Client}
 use Rattle.mqtt5_holder.specs.declared.holder.Holder.{Holder}
-use Rattle.mqtt5_c.specs.Calls.{Called, with_client}
+use Rattle.mqtt5_c.specs.Calls.{Called, LetsGo, dropped_after, with_client}
 use Rattle.mqtt5_c.specs.Asked.{IsDeclined}
 use Rattle.mqtt5_options.specs.Options.{Settings}
 use Rattle.mqtt5_c.specs.Properties.{emptied}
@@ -52,6 +53,28 @@ begun {settles} {before} {after} {code} old new outcome was is answered does = r
 pub unbegun : {settles : Settings → Settings} {before after : Option Holder} {code : ℕ}
     → None ≡ before → after ≡ None → code ≡ no_client → Begins settles before code after
 unbegun was is answered = record {
+  none = λ empty. (answered, is);
+  one = λ old there. absurd (subst (λ (b : Bool). T (not b)) (ap is_some (was ∙ there)) tt);
+}
+
+pub let_go : {Does : Client → Outcome → Client → Type 0} {gone : Client → List Request} {before after : Option Holder} {code : ℕ} (old : Holder) (new : Client) (outcome : Outcome)
+    → Some old ≡ before → after ≡ Some (record old { client = new; dropped = dropped_after outcome (gone old.client) old.dropped }) → code ≡ code_of outcome
+    → Does old.client outcome new → LetsGo Does gone before code after
+let_go {Does} {gone} {before} {after} {code} old new outcome was is answered does = record {
+  none = λ empty. absurd (subst (λ (b : Bool). T b) (ap is_some (was ∙ empty)) tt);
+  one = λ one there.
+      let same = ap (λ (o : Option Holder). unwrap_or o old) (was ∙ there) in (
+        new,
+        outcome,
+        subst (λ (h : Holder). after ≡ Some (record h { client = new; dropped = dropped_after outcome (gone h.client) h.dropped })) same is,
+        answered,
+        subst (λ (h : Holder). Does h.client outcome new) same does,
+      );
+}
+
+pub none_let_go : {Does : Client → Outcome → Client → Type 0} {gone : Client → List Request} {before after : Option Holder} {code : ℕ}
+    → None ≡ before → after ≡ None → code ≡ no_client → LetsGo Does gone before code after
+none_let_go was is answered = record {
   none = λ empty. (answered, is);
   one = λ old there. absurd (subst (λ (b : Bool). T (not b)) (ap is_some (was ∙ there)) tt);
 }

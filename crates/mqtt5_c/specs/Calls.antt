@@ -1,6 +1,6 @@
 -- What a call leaves of a handle's client, and the number that it answers.
 use Rattle.std.specs.Prelude.{◌≡◌, ◌≢◌, ◌⊎◌, ℕ, List, [], ◌∷◌, Option, None, Some, IsOk, IfErr}
-use Rattle.std.specs.Prelude.{OnOk, OnErr, drop, Bool, false}
+use Rattle.std.specs.Prelude.{OnOk, OnErr, drop, Bool, false, Ok, Err}
 use Rattle.mqtt5_base.specs.Texts.{text_of}
 use Rattle.mqtt5_options.specs.Options.{defaults}
 use Rattle.mqtt5_inflight.specs.declared.event.Request.{Request}
@@ -23,14 +23,35 @@ abbrev pub with_client : Holder → Client → Holder
 with_client h c = record h { client = c }
 
 -- Without a client a call is answered by 200, and there is still none. Else there is one after it
--- too, what its packets have is as before, and the number is that of an outcome of which Does
--- holds: of the client before, the outcome and the client after.
+-- too, what its packets have and what was let go is as before, and the number is that of an outcome
+-- of which Does holds: of the client before, the outcome and the client after.
 pub record Called (Does : Client → Outcome → Client → Type 0) (before : Option Holder) (code : ℕ)
     (after : Option Holder) : Type 0 where
   pub none : before ≡ None → (code ≡ no_client) × (after ≡ None)
   pub one : (old : Holder) → before ≡ Some old
       → (new : Client) × (outcome : Outcome) × (after ≡ Some (with_client old new))
       × (code ≡ code_of outcome) × Does old.client outcome new
+
+-- the list of what was let go, after a call: a new one where it was done
+abbrev pub dropped_after : Outcome → List Request → List Request → List Request
+dropped_after (Ok done) gone before = gone
+dropped_after (Err fault) gone before = before
+
+-- The same as Called of a call that may let requests go, but for the list of these: where it is done
+-- that is gone, of the client before, in its order; else it is as before.
+pub record LetsGo (Does : Client → Outcome → Client → Type 0) (gone : Client → List Request)
+    (before : Option Holder) (code : ℕ) (after : Option Holder) : Type 0 where
+  pub none : before ≡ None → (code ≡ no_client) × (after ≡ None)
+  pub one : (old : Holder) → before ≡ Some old
+      → (new : Client) × (outcome : Outcome)
+      × (after
+      ≡ Some
+      (record old {
+        client = new;
+        dropped = dropped_after outcome (gone old.client) old.dropped;
+      }))
+      × (code ≡ code_of outcome)
+      × Does old.client outcome new
 
 -- Bytes came in: session, input and output are the run's (MQTT 5.0 section 4.2). After a fault no
 -- input is left. The limit on what is sent is that of the ConnAcks among the new events
@@ -82,11 +103,11 @@ IsNewClient limit manual_acks c =
     (c.state ≡ fresh limit manual_acks) × (c.codec ≡ no_limits) × (c.input.items ≡ [])
     × (c.output.items ≡ []) × (c.disconnected ≡ false)
 
--- one without login and will, and with nothing for its next packets
+-- one without login and will, with nothing for its next packets, and with nothing that was let go
 abbrev pub IsNew : ℕ → Bool → Holder → Type 0
 IsNew limit manual_acks h =
     IsNewClient limit manual_acks h.client × (h.settings ≡ defaults (text_of []) (text_of []) 0)
-    × (h.properties ≡ []) × (h.filters ≡ [])
+    × (h.properties ≡ []) × (h.filters ≡ []) × (h.dropped ≡ [])
 
 -- The session ends, where no event waits: the client is as a new one, with its limits on packets,
 -- and a Disconnect that was asked for is remembered. Or an event waits, or memory is refused, and

@@ -130,15 +130,24 @@ abbrev pub first_payload : Option Event → List ℕ
 first_payload None = []
 first_payload (Some event) = payload_in event
 
--- whether its topic and payload fit into buffers of these lengths
+-- whether a topic and a payload fit into buffers of these lengths
+abbrev pub both_fit : List ℕ → List ℕ → ℕ → ℕ → Bool
+both_fit topic payload topic_len payload_len =
+    nat_le (length topic) topic_len && nat_le (length payload) payload_len
+
+-- whether those of the oldest event do
 abbrev pub has_room : Option Event → ℕ → ℕ → Bool
 has_room first topic_len payload_len =
-    nat_le (length (first_topic first)) topic_len
-    && nat_le (length (first_payload first)) payload_len
+    both_fit (first_topic first) (first_payload first) topic_len payload_len
 
 -- a buffer whose beginning is these bytes
 abbrev pub over : List ℕ → List ℕ → List ℕ
 over bytes buffer = bytes ++ drop (length bytes) buffer
+
+-- the same with room; without it the buffer is as before
+abbrev pub over_if : Bool → List ℕ → List ℕ → List ℕ
+over_if true bytes buffer = over bytes buffer
+over_if false bytes buffer = buffer
 
 -- with room the oldest event is taken out, and nothing else is; without it the client is as before
 abbrev pub Pops : Bool → Client → ℕ → Client → Type 0

@@ -10,4 +10,6 @@ pub mod Connected
 pub mod Settings
 pub mod Events
 pub mod Told
+pub mod Dropped
 pub mod Ids
+pub mod Version

@@ -35,7 +35,7 @@ has_client = 202
 abbrev pub small_buffer : ℕ
 small_buffer = 203
 
--- the oldest event hasn't what is asked for
+-- the oldest event, or the oldest request that was let go, hasn't what is asked for
 abbrev pub absent : ℕ
 absent = 204
 

@@ -1,7 +1,7 @@
 //! The call that takes an event out.
 
 ghost use Rattle.std.specs.Prelude.{◌≡◌, ◌≤◌, None, Some, IsNone, IsSome, IfSome, length, slice_get, true};
-ghost use Rattle.mqtt5_c.specs.Events.{came, sent, publish_told, connack_told, first_sub, first_unsub, packet_told, outgoing_told, event_told, first_told, topic_in, payload_in, first_topic, first_payload, has_room, over, Pops, PopsIn};
+ghost use Rattle.mqtt5_c.specs.Events.{came, sent, publish_told, connack_told, first_sub, first_unsub, packet_told, outgoing_told, event_told, first_told, topic_in, payload_in, first_topic, first_payload, both_fit, has_room, over, over_if, Pops, PopsIn};
 ghost use Rattle.mqtt5_c.specs.Handles.{IsKept};
 ghost use Rattle.mqtt5_c.specs.Numbers.{no_client};
 
@@ -17,12 +17,12 @@ use mqtt5_subscribe::{SubscribeReasonCode, UnsubAckReason};
 use std::alloc::Global;
 use std::collections::VecDeque;
 
-/// An event as numbers. What it hasn't is 0.
+/// An event, or a request that was let go, as numbers. What it hasn't is 0.
 #[repr(C)]
 #[derive(Clone, Copy)]
 pub struct EventInfo {
     /// 0: there is none; 1: a packet came; 2: one was answered to send; 3: a publish waits until its packet identifier
-    /// is free.
+    /// is free; 4: a request was let go.
     pub kind: u32,
     /// The packet's type (MQTT 5.0 section 2.1.2), as 3 of a Publish.
     pub packet: u32,
@@ -31,22 +31,22 @@ pub struct EventInfo {
     /// The reason code of a ConnAck, a Disconnect, a PubAck or a PubRec, or of the first filter of a SubAck or an
     /// UnsubAck.
     pub code: u32,
-    /// The QoS of a Publish that came.
+    /// The QoS of a Publish that came or was let go.
     pub qos: u32,
-    /// Whether a Publish that came is sent again.
+    /// Whether that Publish is sent again.
     pub dup: bool,
-    /// Whether the broker had kept a Publish that came.
+    /// Whether the broker had kept a Publish that came, or is to keep one that was let go.
     pub retain: bool,
     /// Of a ConnAck, whether the broker has the session.
     pub session_present: bool,
-    /// How many bytes the topic of a Publish that came has.
+    /// How many bytes the topic of that Publish has.
     pub topic_len: usize,
     /// How many bytes its payload has.
     pub payload_len: usize,
 }
 
 /// No event.
-const NOTHING: EventInfo = EventInfo {
+pub(crate) const NOTHING: EventInfo = EventInfo {
     kind: 0,
     packet: 0,
     pkid: 0,
@@ -60,7 +60,7 @@ const NOTHING: EventInfo = EventInfo {
 };
 
 /// A packet of a type that came, with its identifier and its reason code.
-fn came(packet: u32, pkid: u16, code: u8) -> EventInfo
+pub(crate) fn came(packet: u32, pkid: u16, code: u8) -> EventInfo
     ensures { result ≡ came packet pkid code }
 {
     EventInfo {
@@ -73,7 +73,7 @@ fn came(packet: u32, pkid: u16, code: u8) -> EventInfo
 }
 
 /// A Publish that came.
-fn publish_told(publish: &Publish) -> EventInfo
+pub(crate) fn publish_told(publish: &Publish) -> EventInfo
     ensures { result ≡ publish_told publish.now }
 {
     EventInfo {
@@ -212,11 +212,35 @@ pub(crate) fn copy_over(buffer: &mut [u8], bytes: &[u8])
     buffer[..bytes.len()].copy_from_slice(bytes);
 }
 
-/// Whether the event's topic and payload fit into buffers of these lengths.
-fn has_room(event: &Event, topic_len: usize, payload_len: usize) -> bool
-    ensures { result ≡ has_room (Some event.now) topic_len payload_len }
+/// Whether a topic and a payload fit into buffers of these lengths.
+fn both_fit(topic: &[u8], payload: &[u8], topic_len: usize, payload_len: usize) -> bool
+    ensures { result ≡ both_fit topic.now payload.now topic_len payload_len }
 {
-    topic_in(event).len() <= topic_len && payload_in(event).len() <= payload_len
+    topic.len() <= topic_len && payload.len() <= payload_len
+}
+
+/// Copies a topic and a payload where both fit; answers whether they do.
+pub(crate) fn copy_both(
+    from_topic: &[u8],
+    from_payload: &[u8],
+    topic: &mut [u8],
+    payload: &mut [u8],
+) -> bool
+    ensures room { result
+        ≡ both_fit from_topic.now from_payload.now (length topic.old) (length payload.old) }
+    ensures topic { topic.new
+        ≡ over_if (both_fit from_topic.now from_payload.now (length topic.old) (length payload.old))
+        from_topic.now topic.old }
+    ensures payload { payload.new
+        ≡ over_if (both_fit from_topic.now from_payload.now (length topic.old) (length payload.old))
+        from_payload.now payload.old }
+{
+    if !both_fit(from_topic, from_payload, topic.len(), payload.len()) {
+        return false;
+    }
+    copy_over(topic, from_topic);
+    copy_over(payload, from_payload);
+    true
 }
 
 /// Tells of the oldest event and copies its topic and payload, where they fit; answers whether they do.
@@ -229,22 +253,19 @@ fn show(
     ensures told { info.new ≡ first_told (slice_get events.now.items 0) }
     ensures room { result ≡ has_room (slice_get events.now.items 0) (length topic.old)
         (length payload.old) }
-    ensures topic { result ≡ true
-        → topic.new ≡ over (first_topic (slice_get events.now.items 0)) topic.old }
-    ensures payload { result ≡ true
-        → payload.new ≡ over (first_payload (slice_get events.now.items 0)) payload.old }
+    ensures topic { topic.new
+        ≡ over_if (has_room (slice_get events.now.items 0) (length topic.old) (length payload.old))
+        (first_topic (slice_get events.now.items 0)) topic.old }
+    ensures payload { payload.new
+        ≡ over_if (has_room (slice_get events.now.items 0) (length topic.old) (length payload.old))
+        (first_payload (slice_get events.now.items 0)) payload.old }
 {
     let Some(event) = events.front() else {
         *info = NOTHING;
         return true;
     };
     *info = event_told(event);
-    if !has_room(event, topic.len(), payload.len()) {
-        return false;
-    }
-    copy_over(topic, topic_in(event));
-    copy_over(payload, payload_in(event));
-    true
+    copy_both(topic_in(event), payload_in(event), topic, payload)
 }
 
 /// Shows the oldest event, and takes it out where its topic and payload fit.
@@ -252,10 +273,12 @@ fn pop(client: &mut Client, info: &mut EventInfo, topic: &mut [u8], payload: &mu
     ensures told { info.new ≡ first_told (slice_get client.old.state.events 0) }
     ensures pops { Pops (has_room (slice_get client.old.state.events 0) (length topic.old)
         (length payload.old)) client.old result client.new }
-    ensures topic { result ≡ 0
-        → topic.new ≡ over (first_topic (slice_get client.old.state.events 0)) topic.old }
-    ensures payload { result ≡ 0
-        → payload.new ≡ over (first_payload (slice_get client.old.state.events 0)) payload.old }
+    ensures topic { topic.new
+        ≡ over_if (has_room (slice_get client.old.state.events 0) (length topic.old)
+        (length payload.old)) (first_topic (slice_get client.old.state.events 0)) topic.old }
+    ensures payload { payload.new
+        ≡ over_if (has_room (slice_get client.old.state.events 0) (length topic.old)
+        (length payload.old)) (first_payload (slice_get client.old.state.events 0)) payload.old }
 {
     if !show(client.state.events(), info, topic, payload) {
         return SMALL_BUFFER;
@@ -283,10 +306,12 @@ pub extern "C" fn mqtt5_client_next_event(
     ensures pops { IfSome h.old.client_ptr.value (λ x. PopsIn (has_room
         (slice_get x.client.state.events 0) (length topic.old) (length payload.old)) x result
         h.new.client_ptr.value) }
-    ensures topic { IfSome h.old.client_ptr.value (λ x. result ≡ 0
-        → topic.new ≡ over (first_topic (slice_get x.client.state.events 0)) topic.old) }
-    ensures payload { IfSome h.old.client_ptr.value (λ x. result ≡ 0
-        → payload.new ≡ over (first_payload (slice_get x.client.state.events 0)) payload.old) }
+    ensures topic { IfSome h.old.client_ptr.value (λ x. topic.new
+        ≡ over_if (has_room (slice_get x.client.state.events 0) (length topic.old)
+        (length payload.old)) (first_topic (slice_get x.client.state.events 0)) topic.old) }
+    ensures payload { IfSome h.old.client_ptr.value (λ x. payload.new
+        ≡ over_if (has_room (slice_get x.client.state.events 0) (length topic.old)
+        (length payload.old)) (first_payload (slice_get x.client.state.events 0)) payload.old) }
 {
     let Some(mut holder) = take(alloc, h) else {
         return NO_CLIENT;

@@ -5,6 +5,7 @@
 mod ask;
 mod client_ptr;
 mod connect;
+mod dropped;
 mod event;
 mod filters;
 mod handle;
@@ -16,3 +17,4 @@ mod settings;
 mod stream;
 mod told;
 mod topic;
+mod version;

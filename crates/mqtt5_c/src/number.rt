@@ -17,7 +17,7 @@ pub(crate) const HAS_CLIENT: u32 = 202;
 /// A buffer is too small.
 pub(crate) const SMALL_BUFFER: u32 = 203;
 
-/// The oldest event hasn't what is asked for.
+/// The oldest event, or the oldest request that was let go, hasn't what is asked for.
 pub(crate) const ABSENT: u32 = 204;
 
 /// Memory ran out: S12.

@@ -14,7 +14,7 @@ use mqtt5_events::{content_in, number_in, pairs_in, reason_in, subscriptions_in}
 use std::alloc::Global;
 use std::collections::VecDeque;
 
-/// Tells what was found of the oldest event, or that it isn't there.
+/// Tells what was found, or that it isn't there.
 macro_rules! tell_found {
     ($found:expr, $place:expr) => {{
         let Some(found) = $found else {
@@ -60,7 +60,7 @@ pub extern "C" fn mqtt5_client_event_number(
 }
 
 /// Copies bytes where they fit, and tells how many they are.
-fn copy_if_fits(buffer: &mut [u8], count: &mut usize, bytes: &[u8]) -> u32
+pub(crate) fn copy_if_fits(buffer: &mut [u8], count: &mut usize, bytes: &[u8]) -> u32
     ensures count { count.new ≡ length bytes.now }
     ensures copied { Copies (nat_le (length bytes.now) (length buffer.old)) bytes.now buffer.old
         result buffer.new }
@@ -116,7 +116,7 @@ pub extern "C" fn mqtt5_client_event_bytes(
 }
 
 /// Copies a name and a value where both fit, and tells how many bytes they have.
-fn copy_pair(
+pub(crate) fn copy_pair(
     pair: &(Text, Text),
     name: &mut [u8],
     name_count: &mut usize,

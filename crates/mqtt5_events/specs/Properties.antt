@@ -1,4 +1,5 @@
--- The properties of a packet that came (MQTT 5.0 section 2.2.2.2), each under its identifier.
+-- The properties of a packet that came, and of a Publish that is asked for (MQTT 5.0 section 2.2.2.2),
+-- each under its identifier.
 use Rattle.std.specs.Prelude.{ℕ, List, [], ◌∷◌, Option, Some, None, option_map}
 use Rattle.std.specs.Option.{option_flatten}
 use Rattle.mqtt5_base.specs.Texts.{Utf8}
@@ -12,6 +13,8 @@ use Rattle.mqtt5_codec.specs.declared.packet.Packet.{Packet}
 use Rattle.mqtt5_codec.specs.declared.packet.Packet.TheVariants as packets
 use Rattle.mqtt5_inflight.specs.declared.event.Event.{Event}
 use Rattle.mqtt5_inflight.specs.declared.event.Event.TheVariants as events
+use Rattle.mqtt5_inflight.specs.declared.event.Request.{Request}
+use Rattle.mqtt5_inflight.specs.declared.event.Request.TheVariants as requests
 
 -- what a table has under an identifier, where it has it
 abbrev pub at_id : {A : Type 0} → List (ℕ × Option A) → ℕ → Option A
@@ -141,3 +144,17 @@ pairs_in (events.Outgoing o) = []
 abbrev pub subscriptions_in : Event → List ℕ
 subscriptions_in (events.Incoming packet) = subscriptions_of packet
 subscriptions_in (events.Outgoing o) = []
+
+-- ---- of a request: those of the Publish that it asks for
+
+abbrev pub number_asked : Request → ℕ → Option ℕ
+number_asked (requests.Publish p) id = at_id (of_set publish_numbers p.properties) id
+number_asked request id = None
+
+abbrev pub content_asked : Request → ℕ → Option (List ℕ)
+content_asked (requests.Publish p) id = at_id (of_set publish_contents p.properties) id
+content_asked request id = None
+
+abbrev pub pairs_asked : Request → List (Utf8 × Utf8)
+pairs_asked (requests.Publish p) = of_set (λ s. s.user_properties) p.properties
+pairs_asked request = []

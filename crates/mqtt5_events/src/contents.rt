@@ -45,7 +45,7 @@ fn connack_content(properties: &Option<ConnAckProperties>, id: u32) -> Option<&[
     }
 }
 
-fn publish_content(properties: &Option<PublishProperties>, id: u32) -> Option<&[u8]>
+pub(crate) fn publish_content(properties: &Option<PublishProperties>, id: u32) -> Option<&[u8]>
     ensures { option_copied result ≡ at_id (of_set publish_contents properties.now) id }
 {
     let Some(p) = properties else {

@@ -18,7 +18,7 @@ fn connack_pairs(properties: &Option<ConnAckProperties>) -> &[(Text, Text)]
     }
 }
 
-fn publish_pairs(properties: &Option<PublishProperties>) -> &[(Text, Text)]
+pub(crate) fn publish_pairs(properties: &Option<PublishProperties>) -> &[(Text, Text)]
     ensures { result.now ≡ of_set (λ p. p.user_properties) properties.now }
 {
     match properties {

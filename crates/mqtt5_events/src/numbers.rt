@@ -48,7 +48,7 @@ fn connack_number(properties: &Option<ConnAckProperties>, id: u32) -> Option<u32
     }
 }
 
-fn publish_number(properties: &Option<PublishProperties>, id: u32) -> Option<u32>
+pub(crate) fn publish_number(properties: &Option<PublishProperties>, id: u32) -> Option<u32>
     ensures { result ≡ at_id (of_set publish_numbers properties.now) id }
 {
     let Some(p) = properties else {

@@ -1,16 +1,17 @@
-//! A client with what its packets have.
+//! A client with what its packets have, and what its session let go.
 
 ghost use Rattle.std.specs.Prelude.{◌≡◌, [], ◌∷◌, ◌++◌, OnOk, OnErr, IfOk, IfErr};
 ghost use Rattle.mqtt5_base.specs.Texts.{text_of};
 ghost use Rattle.mqtt5_options.specs.Options.{defaults};
 
+use crate::dropped::Dropped;
 use mqtt5_base::{Error, Property, Sequence};
 use mqtt5_client::Client;
 use mqtt5_options::MqttOptions;
 use mqtt5_subscribe::Filter;
 use std::alloc::{AllocError, Global};
 
-/// A client, what its Connects say, and what its next packets have.
+/// A client, what its Connects say, what its next packets have, and what its session let go.
 #[derive(Drop)]
 pub struct Holder {
     /// The client.
@@ -21,16 +22,20 @@ pub struct Holder {
     pub properties: Sequence<Property>,
     /// The filters of the next Subscribe, in their order.
     pub filters: Sequence<Filter>,
+    /// The requests that the last end or resumption of its session let go, but those that were taken out.
+    pub dropped: Dropped,
 }
 
 impl Holder {
-    /// A holder of a client, with the settings of a client without identifier, and with nothing for its next packets. E21.
+    /// A holder of a client, with the settings of a client without identifier, with nothing for its next packets, and with
+    /// nothing that was let go. E21.
     pub fn new(alloc: Global, client: Client) -> Result<Holder, Error>
         ensures ok { IfOk result (λ h. h ≡ record {
           client = client;
           settings = defaults (text_of []) (text_of []) 0;
           properties = [];
           filters = [];
+          dropped = [];
         }) }
         ensures err { IfErr result (λ e. e ≡ Error.OutOfMemory) }
     {
@@ -46,6 +51,7 @@ impl Holder {
             settings,
             properties: Sequence::new(alloc),
             filters: Sequence::new(alloc),
+            dropped: Dropped::new(alloc),
         })
     }
 

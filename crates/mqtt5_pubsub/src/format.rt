@@ -2,13 +2,19 @@
 
 ghost use Rattle.std.specs.Prelude.{◌≡◌, ◌<◌, true, length};
 
+use crate::json::{Form, json_of};
+use jiff::Timestamp;
 use mqtt5_publish::{Publish, PublishProperties};
 use mqtt5_talk::{Screen, TalkError};
 use std::alloc::{AllocError, Global};
 use std::io::Write;
+use std::time::Clock;
 
 /// The letters behind `%`, and those behind a backslash.
-const FIELDS: &[u8] = b"%ACDEFPRSXlmpqrtx";
+const FIELDS: &[u8] = b"%ACDEFIJPRSUXjlmpqrtx";
+
+/// A moment in Coordinated Universal Time (ISO 8601).
+const MOMENT: &str = "%Y-%m-%dT%H:%M:%S%z";
 
 const ESCAPES: &[u8] = b"\\0aenrtv";
 
@@ -40,20 +46,23 @@ fn has_letter(rest: &[u8], letters: &[u8]) -> bool
 
 /// Each message is what a format makes of it.
 #[derive(Drop)]
-pub struct Formatted<'a, W> {
+pub struct Formatted<'a, W, F> {
     pub alloc: Global,
     pub writer: W,
     pub format: &'a str,
+    pub clock: &'a F,
+    /// Whether JSON takes several lines.
+    pub is_pretty: bool,
     /// Whether a newline stands behind it.
     pub with_newline: bool,
 }
 
-impl<W: Write> Screen for Formatted<'_, W> {
+impl<W: Write, F: Clock> Screen for Formatted<'_, W, F> {
     ghost shows = { λ old p is_shown new. is_shown ≡ true };
 
     fn show(&mut self, publish: &Publish) -> Result<bool, TalkError> {
         let mut text = Vec::new(self.alloc);
-        add_all(&mut text, self.format, publish)?;
+        self.add_all(&mut text, publish)?;
         if self.with_newline {
             text.push(b'\n')?;
         }
@@ -64,21 +73,61 @@ impl<W: Write> Screen for Formatted<'_, W> {
     }
 }
 
-fn add_all(text: &mut Vec<u8>, format: &str, publish: &Publish) -> Result<(), AllocError> {
-    let mut mark = b' ';
-    for byte in format.as_bytes() {
-        match mark {
-            b'%' => add_field(text, *byte, publish)?,
-            b'\\' => text.push(escape_of(*byte))?,
-            _none if *byte == b'%' || *byte == b'\\' => {
-                mark = *byte;
-                continue;
+impl<W, F: Clock> Formatted<'_, W, F> {
+    fn add_all(&self, text: &mut Vec<u8>, publish: &Publish) -> Result<(), AllocError> {
+        let mut mark = b' ';
+        for byte in self.format.as_bytes() {
+            match mark {
+                b'%' => self.add_field(text, *byte, publish)?,
+                b'\\' => text.push(escape_of(*byte))?,
+                _none if *byte == b'%' || *byte == b'\\' => {
+                    mark = *byte;
+                    continue;
+                }
+                _none => text.push(*byte)?,
             }
-            _none => text.push(*byte)?,
+            mark = b' ';
         }
-        mark = b' ';
+        Ok(())
     }
-    Ok(())
+
+    /// What a letter behind `%` stands for.
+    fn add_field(
+        &self,
+        text: &mut Vec<u8>,
+        letter: u8,
+        publish: &Publish,
+    ) -> Result<(), AllocError> {
+        match letter {
+            b'I' | b'U' => self.add_moment(text, letter),
+            b'j' | b'J' => {
+                let form = Form {
+                    reads_payload: letter == b'J',
+                    is_pretty: self.is_pretty,
+                };
+                let json = json_of(self.alloc, publish, self.moment(), form)?;
+                text.extend_from_slice(json.as_bytes())
+            }
+            other => add_field(text, other, publish),
+        }
+    }
+
+    /// The moment that it is, where the clock can be read.
+    fn moment(&self) -> Option<Timestamp> {
+        Timestamp::now(self.clock).ok()
+    }
+
+    /// The moment, of `U` in seconds since 1970; nothing where the clock can't be read.
+    fn add_moment(&self, text: &mut Vec<u8>, letter: u8) -> Result<(), AllocError> {
+        let Some(moment) = self.moment() else {
+            return Ok(());
+        };
+        let format = if letter == b'U' { "%s.%9f" } else { MOMENT };
+        match moment.strftime(self.alloc, format) {
+            Ok(words) => text.extend_from_slice(words.as_bytes()),
+            Err(_) => Ok(()),
+        }
+    }
 }
 
 /// The byte that a letter behind a backslash stands for.
@@ -95,14 +144,21 @@ fn escape_of(letter: u8) -> u8 {
     }
 }
 
-/// What a letter behind `%` stands for.
+/// What a letter behind `%` stands for that is neither the time nor JSON.
 fn add_field(text: &mut Vec<u8>, letter: u8, publish: &Publish) -> Result<(), AllocError> {
+    let alloc = *text.allocator();
     match letter {
         b'%' => text.push(b'%')?,
         b't' => text.extend_from_slice(publish.topic.as_slice())?,
         b'p' => text.extend_from_slice(publish.payload.as_slice())?,
-        b'x' => add_hex(text, publish.payload.as_slice(), b"0123456789abcdef")?,
-        b'X' => add_hex(text, publish.payload.as_slice(), b"0123456789ABCDEF")?,
+        b'x' => {
+            let digits = hex::encode(alloc, publish.payload.as_slice())?;
+            text.extend_from_slice(digits.as_bytes())?
+        }
+        b'X' => {
+            let digits = hex::encode_upper(alloc, publish.payload.as_slice())?;
+            text.extend_from_slice(digits.as_bytes())?
+        }
         b'l' => add_number(text, publish.payload.len() as u64)?,
         b'm' => add_number(text, publish.pkid as u64)?,
         b'q' => add_number(text, publish.qos as u64)?,
@@ -112,14 +168,6 @@ fn add_field(text: &mut Vec<u8>, letter: u8, publish: &Publish) -> Result<(), Al
                 add_property(text, property, properties)?;
             }
         }
-    }
-    Ok(())
-}
-
-fn add_hex(text: &mut Vec<u8>, bytes: &[u8], digits: &[u8; 16]) -> Result<(), AllocError> {
-    for byte in bytes {
-        text.push(digits[(*byte / 16) as usize])?;
-        text.push(digits[(*byte % 16) as usize])?;
     }
     Ok(())
 }

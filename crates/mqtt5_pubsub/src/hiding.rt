@@ -1,4 +1,4 @@
-//! A screen that leaves some messages out.
+//! Screens before a screen: one that leaves some messages out, and one that counts.
 
 ghost use Rattle.std.specs.Prelude.{◌≡◌, ◌⊎◌, false};
 
@@ -37,5 +37,24 @@ impl<S: Screen> Screen for Hiding<'_, S> {
             return Ok(false);
         }
         self.screen.show(publish)
+    }
+}
+
+/// A screen, and how many messages it showed.
+#[derive(Drop)]
+pub struct Counting<S> {
+    pub screen: S,
+    pub shown: u64,
+}
+
+impl<S: Screen> Screen for Counting<S> {
+    ghost shows = { λ old p is_shown new. S.shows old.screen p is_shown new.screen };
+
+    fn show(&mut self, publish: &Publish) -> Result<bool, TalkError> {
+        let is_shown = self.screen.show(publish)?;
+        if is_shown {
+            self.shown = self.shown.saturating_add(1);
+        }
+        Ok(is_shown)
     }
 }

@@ -1,12 +1,18 @@
 //! The program of `mqtt5 pub` and `mqtt5 sub`: a client that publishes or subscribes. Its standard input is what the broker
-//! sends, and its standard output goes to the broker; messages and faults are told on standard error.
+//! sends, and its standard output goes to the broker; messages and faults are told on standard error. After `relay` it hands on
+//! what the broker sends, in the chunks of which the client then reads.
 #![tactic(auto)]
 
+mod ending;
 mod format;
 mod hiding;
+mod json;
+mod properties;
 mod publishing;
+mod relay;
 pub mod run;
 mod subscribing;
+mod timed;
 mod words;
 
 use mqtt5_talk::refuse_words;

@@ -1,16 +1,20 @@
 //! A client that publishes: what it does with the words after `pub`, its input and its output.
 
-ghost use Rattle.std.specs.Prelude.{◌<◌, OnOk};
+ghost use Rattle.std.specs.Prelude.{◌≡◌, ◌<◌, ◌⊎◌, OnOk};
 ghost use Rattle.mqtt5_client.specs.Client.{IsReady};
 
-use crate::words::{parse_pub, refuses_texts, refuses_topic};
+use crate::ending::{status_of, tell_end};
+use crate::properties::{WithProperties, connect_with, copy_of, properties_of, refuses_properties};
+use crate::timed::{Timed, timed_reader};
+use crate::words::{keep_alive_in, parse_pub, refuses_texts, refuses_time, refuses_topic};
 use clap::ArgMatches;
 use mqtt5_client::{Client, StateError};
 use mqtt5_codec::Packet;
 use mqtt5_pipe::PipeError;
+use mqtt5_publish::{Publish, PublishProperties};
 use mqtt5_talk::{
-    Capabilities, Heading, LineSource, TalkError, close, connect_of, new_client, open, publish,
-    publish_all, quality_of, refuse, tell,
+    Capabilities, Heading, LineSource, TalkError, close, new_client, open, publish, publish_all,
+    quality_of, refuse,
 };
 use std::alloc::Global;
 use std::io::{Read, Write};
@@ -26,6 +30,8 @@ struct Task<'a> {
     alloc: Global,
     heading: Heading<'a>,
     window: u16,
+    /// The keep alive that is asked for, in seconds.
+    keep_alive: u16,
 }
 
 /// What is published: the bytes of one message, or each line of a file.
@@ -45,7 +51,8 @@ enum Stop {
     Elsewhere(TalkError),
 }
 
-/// Publishes, and answers the exit status: 0; 1 after a fault; 2 where the words are refused. The log tells why.
+/// Publishes, and answers the exit status: 0; 1 after a fault, 3 after one that another connection may mend; 2 where the
+/// words are refused. The log tells why.
 pub fn run<F: Files + AllocGlobal, R: Read, W: Write, E: Write>(
     rt: &F,
     words: &[String],
@@ -53,7 +60,7 @@ pub fn run<F: Files + AllocGlobal, R: Read, W: Write, E: Write>(
     writer: &mut W,
     log: &mut E,
 ) -> u8
-    ensures { result < 3 }
+    ensures { (result < 4) ⊎ (result ≡ 27) }
 {
     match parse_pub(rt.alloc(), words) {
         Ok(matches) => run_matches(rt, &matches, reader, writer, log),
@@ -68,27 +75,48 @@ fn run_matches<F: Files + AllocGlobal, R: Read, W: Write, E: Write>(
     writer: &mut W,
     log: &mut E,
 ) -> u8
-    ensures { result < 3 }
+    ensures { (result < 4) ⊎ (result ≡ 27) }
 {
     let heading = Heading {
         topic: matches.get_str("topic").unwrap_or(""),
         qos: quality_of(matches, "qos"),
         retain: matches.get_flag("retain"),
     };
-    if refuses_texts(matches, log) || refuses_topic(heading.topic, log) {
+    if refuses_texts(matches, log)
+        || refuses_topic(heading.topic, log)
+        || refuses_time(matches, log)
+        || refuses_properties(rt.alloc(), matches, &commands_of(matches), log)
+    {
         return 2;
     }
     let task = Task {
         alloc: rt.alloc(),
         heading,
         window: window_of(matches),
+        keep_alive: keep_alive_in(matches),
     };
-    match content_of(rt, matches) {
-        Ok(content) => tell(talk(task, matches, content, reader, writer), log),
+    let content = match content_of(rt, matches) {
+        Ok(content) => content,
         Err(error) => {
             let _ = writeln!(log, "error: the file can't be read: {error}");
-            1
+            return 1;
         }
+    };
+    match talk(task, matches, content, reader, writer) {
+        Ok(()) => 0,
+        Err(stop) => {
+            let status = status_of(stop.trouble());
+            tell_end(&stop, status, log)
+        }
+    }
+}
+
+/// The packets whose properties the words may say.
+fn commands_of(matches: &ArgMatches<'_>) -> [&'static str; 3] {
+    if matches.get_str("will-topic").is_some() {
+        ["connect", "publish", "will"]
+    } else {
+        ["connect", "publish", "publish"]
     }
 }
 
@@ -126,9 +154,34 @@ fn talk<F: Read + Drop, R: Read, W: Write>(
 ) -> Result<(), Stop>
     requires { 0 < task.window }
 {
-    let connect = connect_of(task.alloc, matches)?;
+    let properties = properties_of::<PublishProperties>(task.alloc, matches, "publish")?;
+    let ended = talk_with(task, matches, content, &properties, reader, writer);
+    drop(properties);
+    ended
+}
+
+fn talk_with<F: Read + Drop, R: Read, W: Write>(
+    task: Task<'_>,
+    matches: &ArgMatches<'_>,
+    content: Content<F>,
+    properties: &Option<PublishProperties>,
+    reader: &mut R,
+    writer: &mut W,
+) -> Result<(), Stop>
+    requires { 0 < task.window }
+{
+    let connect = connect_with(task.alloc, matches)?;
+    let mut reader = timed_reader(task.alloc, matches, reader)?;
     let mut client = new_client(task.alloc, task.window, false);
-    let ended = talk_over(&mut client, &connect, task, content, reader, writer);
+    let ended = talk_over(
+        &mut client,
+        &connect,
+        task,
+        content,
+        properties,
+        &mut reader,
+        writer,
+    );
     drop(client);
     drop(connect);
     ended
@@ -139,17 +192,35 @@ fn talk_over<F: Read + Drop, R: Read, W: Write>(
     connect: &Packet,
     task: Task<'_>,
     content: Content<F>,
-    reader: &mut R,
+    properties: &Option<PublishProperties>,
+    reader: &mut Timed<R>,
     writer: &mut W,
 ) -> Result<(), Stop>
     requires { IsReady client.old }
 {
     let capabilities = open(client, connect, reader, writer)?;
+    let pings = reader.keep_alive(capabilities.keep_alive.unwrap_or(task.keep_alive));
     match content {
-        Content::Message(bytes) => {
-            publish_one(client, capabilities, task, bytes.as_slice(), reader, writer)?
-        }
-        Content::Lines(file) => publish_lines(client, capabilities, task, file, reader, writer)?,
+        Content::Message(bytes) => publish_one(
+            client,
+            capabilities,
+            task,
+            bytes.as_slice(),
+            properties,
+            pings,
+            reader,
+            writer,
+        )?,
+        Content::Lines(file) => publish_lines(
+            client,
+            capabilities,
+            task,
+            file,
+            properties,
+            pings,
+            reader,
+            writer,
+        )?,
     }
     close(client, writer)?;
     Ok(())
@@ -160,35 +231,52 @@ fn publish_one<R: Read, W: Write>(
     capabilities: Capabilities,
     task: Task<'_>,
     payload: &[u8],
-    reader: &mut R,
+    properties: &Option<PublishProperties>,
+    pings: bool,
+    reader: &mut Timed<R>,
     writer: &mut W,
 ) -> Result<(), TalkError>
     requires { IsReady client.old }
     ensures { OnOk result (IsReady client.new) }
 {
-    let message = task.heading.message(task.alloc, payload)?;
-    publish(client, capabilities, message, reader, writer)
+    let message = message_with(task, payload, properties)?;
+    publish(client, capabilities, message, pings, reader, writer)
 }
 
+/// The message of a payload, with these properties.
+fn message_with(
+    task: Task<'_>,
+    payload: &[u8],
+    properties: &Option<PublishProperties>,
+) -> Result<Publish, TalkError> {
+    let mut message = task.heading.message(task.alloc, payload)?;
+    message.properties = copy_of(properties)?;
+    Ok(message)
+}
+
+/// While a line is waited for no ping is sent.
 fn publish_lines<F: Read + Drop, R: Read, W: Write>(
     client: &mut Client,
     capabilities: Capabilities,
     task: Task<'_>,
     file: F,
-    reader: &mut R,
+    properties: &Option<PublishProperties>,
+    pings: bool,
+    reader: &mut Timed<R>,
     writer: &mut W,
 ) -> Result<(), Stop>
     requires { IsReady client.old }
     ensures { OnOk result (IsReady client.new) }
 {
-    let mut lines = match LineSource::new(task.alloc, task.heading, task.window, file) {
-        Ok(lines) => lines,
+    let source = match LineSource::new(task.alloc, task.heading, task.window, file) {
+        Ok(source) => source,
         Err(error) => return Err(Stop::Elsewhere(TalkError::Unread(error))),
     };
-    let ended = publish_all(client, capabilities, &mut lines, reader, writer);
+    let mut lines = WithProperties { source, properties };
+    let ended = publish_all(client, capabilities, &mut lines, pings, reader, writer);
     match ended {
         Ok(()) => Ok(()),
-        Err(trouble) => Err(stop_at(trouble, &lines)),
+        Err(trouble) => Err(stop_at(trouble, &lines.source)),
     }
 }
 
@@ -201,6 +289,15 @@ fn stop_at<F: Read + Drop>(trouble: TalkError, lines: &LineSource<'_, F>) -> Sto
             Stop::AtLine(lines.count(), trouble)
         }
         _other => Stop::Elsewhere(trouble),
+    }
+}
+
+impl Stop {
+    /// Why, without the line.
+    fn trouble(&self) -> &TalkError {
+        match self {
+            Stop::AtLine(_, trouble) | Stop::Elsewhere(trouble) => trouble,
+        }
     }
 }
 

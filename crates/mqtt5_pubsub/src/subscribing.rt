@@ -1,24 +1,30 @@
 //! A client that subscribes: what it does with the words after `sub`, its input and its output.
 
-ghost use Rattle.std.specs.Prelude.{◌<◌, OnOk};
+ghost use Rattle.std.specs.Prelude.{◌≡◌, ◌<◌, ◌⊎◌, OnOk};
 ghost use Rattle.mqtt5_client.specs.Client.{IsReady};
 
+use crate::ending::{is_over, status_of, tell_end};
 use crate::format::{Formatted, is_format};
-use crate::hiding::Hiding;
-use crate::words::{parse_sub, refuses_texts};
+use crate::hiding::{Counting, Hiding};
+use crate::properties::{connect_with, properties_of, refuses_properties};
+use crate::timed::{Timed, timed_reader};
+use crate::words::{keep_alive_in, parse_sub, refuses_texts, refuses_time};
 use clap::ArgMatches;
 use mqtt5_base::{Error, Sequence, Text, valid_filter};
 use mqtt5_client::Client;
 use mqtt5_codec::Packet;
-use mqtt5_subscribe::{Filter, Subscribe, Unsubscribe};
+use mqtt5_subscribe::{
+    Filter, RetainForwardRule, Subscribe, SubscribeProperties, Unsubscribe, UnsubscribeProperties,
+};
 use mqtt5_talk::{
-    Lines, Raw, Screen, TalkError, await_end, await_subscribed, close, connect_of, new_client,
-    open, quality_of, receive, refuse, subscribe, tell, unsubscribe,
+    Lines, Raw, Screen, TalkError, await_end, await_subscribed, close, new_client, open,
+    quality_of, receive, refuse, subscribe, unsubscribe,
 };
 use std::alloc::Global;
+use std::fs;
 use std::io::{Read, Write};
 use std::rt::Files;
-use std::{fs, io};
+use std::time::Clock;
 
 /// The words that are topic filters.
 const FILTERS: [&str; 4] = ["filters", "topic", "unsubscribe", "filter-out"];
@@ -30,18 +36,23 @@ struct Task {
     unwanted: Option<Unsubscribe>,
     /// How many messages are shown; None where the program ends once it is subscribed.
     count: Option<u64>,
+    /// The keep alive that is asked for, in seconds.
+    keep_alive: u16,
 }
 
-/// Subscribes, and answers the exit status: 0; 1 after a fault; 2 where the words are refused. The log has the
-/// messages, and tells why the program ended.
-pub fn run<F: Files + AllocGlobal, R: Read, W: Write, E: Write>(
+/// For how many seconds the broker's end is awaited once the time is over.
+const GRACE: u64 = 5;
+
+/// Subscribes, and answers the exit status: 0; 1 after a fault, 3 after one that another connection may mend, 27 where the time
+/// is over; 2 where the words are refused. The log has the messages, and tells why the program ended.
+pub fn run<F: Files + AllocGlobal + Clock, R: Read, W: Write, E: Write>(
     rt: &F,
     words: &[String],
     reader: &mut R,
     writer: &mut W,
     log: &mut E,
 ) -> u8
-    ensures { result < 3 }
+    ensures { (result < 4) ⊎ (result ≡ 27) }
 {
     match parse_sub(rt.alloc(), words) {
         Ok(matches) => run_matches(rt, &matches, reader, writer, log),
@@ -49,24 +60,55 @@ pub fn run<F: Files + AllocGlobal, R: Read, W: Write, E: Write>(
     }
 }
 
-fn run_matches<F: Files + AllocGlobal, R: Read, W: Write, E: Write>(
+fn run_matches<F: Files + AllocGlobal + Clock, R: Read, W: Write, E: Write>(
     rt: &F,
     matches: &ArgMatches<'_>,
     reader: &mut R,
     writer: &mut W,
     log: &mut E,
 ) -> u8
-    ensures { result < 3 }
+    ensures { (result < 4) ⊎ (result ≡ 27) }
 {
     if refuses_texts(matches, log)
         || refuses_filters(matches, log)
         || refuses_format(matches, log)
+        || refuses_time(matches, log)
+        || refuses_properties(rt.alloc(), matches, &commands_of(matches), log)
     {
         return 2;
     }
-    match matches.get_str("output") {
-        Some(file) => write_file(rt, file, matches, reader, writer, log),
-        None => write_log(rt.alloc(), matches, reader, writer, log),
+    let mut shown = 0;
+    let ended = match matches.get_str("output") {
+        Some(file) => write_file(rt, file, matches, &mut shown, reader, writer),
+        None => write_to(rt, &mut *log, true, matches, &mut shown, reader, writer),
+    };
+    tell_left(rt, matches, shown);
+    match ended {
+        Ok(()) => 0,
+        Err(trouble) => tell_end(&trouble, status_of(&trouble), log),
+    }
+}
+
+/// The packets whose properties the words may say.
+fn commands_of(matches: &ArgMatches<'_>) -> [&'static str; 4] {
+    let will = match matches.get_str("will-topic") {
+        Some(_topic) => "will",
+        None => "connect",
+    };
+    match matches.get_strs("unsubscribe") {
+        Some(_filters) => ["connect", "subscribe", will, "unsubscribe"],
+        None => ["connect", "subscribe", will, "connect"],
+    }
+}
+
+/// Writes how many messages are still to be shown to the file that the words name for it, where they do.
+fn tell_left<F: Files + AllocGlobal>(rt: &F, matches: &ArgMatches<'_>, shown: u64) {
+    let Some(file) = matches.get_str("left") else {
+        return;
+    };
+    let count = matches.get_one::<u64>("count").unwrap_or(u64::MAX);
+    if let Ok(mut left) = fs::create(rt, file) {
+        let _ = writeln!(&mut left, "{}", count.saturating_sub(shown));
     }
 }
 
@@ -103,53 +145,33 @@ fn bad_filter<'a>(matches: &ArgMatches<'a>, id: &str) -> Option<&'a str> {
     None
 }
 
-/// Shows each message as a line of the log.
-fn write_log<R: Read, W: Write, E: Write>(
-    alloc: Global,
-    matches: &ArgMatches<'_>,
-    reader: &mut R,
-    writer: &mut W,
-    log: &mut E,
-) -> u8
-    ensures { result < 3 }
-{
-    let ended = write_to(alloc, &mut *log, true, matches, reader, writer);
-    tell(ended, log)
-}
-
 /// Writes each message to a file that is made anew.
-fn write_file<F: Files + AllocGlobal, R: Read, W: Write, E: Write>(
+fn write_file<F: Files + AllocGlobal + Clock, R: Read, W: Write>(
     rt: &F,
     file: &str,
     matches: &ArgMatches<'_>,
+    shown: &mut u64,
     reader: &mut R,
     writer: &mut W,
-    log: &mut E,
-) -> u8
-    ensures { result < 3 }
-{
+) -> Result<(), TalkError> {
     let escapes = matches.get_flag("escape");
     match fs::create(rt, file) {
-        Ok(output) => tell(
-            write_to(rt.alloc(), output, escapes, matches, reader, writer),
-            log,
-        ),
-        Err(error) => {
-            let _ = writeln!(log, "error: the file can't be written: {error}");
-            1
-        }
+        Ok(output) => write_to(rt, output, escapes, matches, shown, reader, writer),
+        Err(error) => Err(TalkError::Unshown(error)),
     }
 }
 
 /// Writes each message by its format, where there is one, or else escaped as a line, or as it is.
-fn write_to<F: Write + Drop, R: Read, W: Write>(
-    alloc: Global,
-    output: F,
+fn write_to<F: AllocGlobal + Clock, O: Write + Drop, R: Read, W: Write>(
+    rt: &F,
+    output: O,
     escapes: bool,
     matches: &ArgMatches<'_>,
+    shown: &mut u64,
     reader: &mut R,
     writer: &mut W,
 ) -> Result<(), TalkError> {
+    let alloc = rt.alloc();
     let with_topic = matches.get_flag("verbose");
     let with_newline = !matches.get_flag("joined");
     if let Some(format) = matches.get_str("format") {
@@ -157,9 +179,11 @@ fn write_to<F: Write + Drop, R: Read, W: Write>(
             alloc,
             writer: output,
             format,
+            clock: rt,
+            is_pretty: matches.get_flag("pretty"),
             with_newline,
         };
-        return show(alloc, matches, screen, reader, writer);
+        return show(alloc, matches, screen, shown, reader, writer);
     }
     if escapes {
         let screen = Lines {
@@ -167,7 +191,7 @@ fn write_to<F: Write + Drop, R: Read, W: Write>(
             writer: output,
             with_topic,
         };
-        return show(alloc, matches, screen, reader, writer);
+        return show(alloc, matches, screen, shown, reader, writer);
     }
     let screen = Raw {
         alloc,
@@ -175,23 +199,30 @@ fn write_to<F: Write + Drop, R: Read, W: Write>(
         with_topic,
         with_newline,
     };
-    show(alloc, matches, screen, reader, writer)
+    show(alloc, matches, screen, shown, reader, writer)
 }
 
-/// Shows each message on a screen, but for those that the words hide.
+/// Shows each message on a screen, but for those that the words hide, and counts them.
 fn show<R: Read, W: Write, S: Screen + Drop>(
     alloc: Global,
     matches: &ArgMatches<'_>,
     screen: S,
+    shown: &mut u64,
     reader: &mut R,
     writer: &mut W,
 ) -> Result<(), TalkError> {
-    let mut screen = Hiding {
+    let hiding = Hiding {
         screen,
         retained: matches.get_flag("no-retained"),
         filters: matches.get_strs("filter-out").unwrap_or(&[]),
     };
-    talk(alloc, matches, &mut screen, reader, writer)
+    let mut screen = Counting {
+        screen: hiding,
+        shown: 0,
+    };
+    let ended = talk(alloc, matches, &mut screen, reader, writer);
+    *shown = screen.shown;
+    ended
 }
 
 fn talk<R: Read, W: Write, S: Screen>(
@@ -205,10 +236,20 @@ fn talk<R: Read, W: Write, S: Screen>(
         wanted: subscribe_of(alloc, matches)?,
         unwanted: unsubscribe_of(alloc, matches)?,
         count: count_of(matches),
+        keep_alive: keep_alive_in(matches),
     };
-    let connect = connect_of(alloc, matches)?;
+    let connect = connect_with(alloc, matches)?;
+    let mut reader = timed_reader(alloc, matches, reader)?;
     let mut client = new_client(alloc, 2, true);
-    let ended = talk_over(&mut client, &connect, task, screen, reader, writer);
+    let ended = talk_over(
+        alloc,
+        &mut client,
+        &connect,
+        task,
+        screen,
+        &mut reader,
+        writer,
+    );
     drop(client);
     drop(connect);
     ended
@@ -222,34 +263,72 @@ fn count_of(matches: &ArgMatches<'_>) -> Option<u64> {
     Some(matches.get_one::<u64>("count").unwrap_or(u64::MAX))
 }
 
-/// Shows so many messages. The end is awaited, since where more is on its way the broker may lose acks with a socket that
-/// is closed before.
+/// Shows so many messages, and ends the connection, also where the time is over.
 fn talk_over<R: Read, W: Write, S: Screen>(
+    alloc: Global,
     client: &mut Client,
     connect: &Packet,
     task: Task,
     screen: &mut S,
-    reader: &mut R,
+    reader: &mut Timed<R>,
     writer: &mut W,
 ) -> Result<(), TalkError>
     requires { IsReady client.old }
+{
+    match show_all(client, connect, task, screen, reader, writer) {
+        Ok(()) => {
+            close(client, writer)?;
+            await_broker(reader)
+        }
+        Err(trouble) if is_over(&trouble) => {
+            leave(alloc, reader, writer);
+            Err(trouble)
+        }
+        Err(trouble) => Err(trouble),
+    }
+}
+
+/// Sends a Disconnect, and awaits the broker's end for some seconds. What fails then is of no use any more.
+fn leave<R: Read, W: Write>(alloc: Global, reader: &mut Timed<R>, writer: &mut W) {
+    let mut client = new_client(alloc, 1, true);
+    let _ = close(&mut client, writer);
+    reader.end_within(GRACE);
+    let _ = await_end(reader);
+}
+
+/// Opens the connection, subscribes, and shows so many messages.
+fn show_all<R: Read, W: Write, S: Screen>(
+    client: &mut Client,
+    connect: &Packet,
+    task: Task,
+    screen: &mut S,
+    reader: &mut Timed<R>,
+    writer: &mut W,
+) -> Result<(), TalkError>
+    requires { IsReady client.old }
+    ensures { OnOk result (IsReady client.new) }
 {
     let Task {
         wanted,
         unwanted,
         count,
+        keep_alive,
     } = task;
     let capabilities = open(client, connect, reader, writer)?;
+    let pings = reader.keep_alive(capabilities.keep_alive.unwrap_or(keep_alive));
     subscribe(client, capabilities, wanted, writer)?;
     let asked = end_others(client, unwanted, writer)?;
     match count {
-        Some(count) => receive(client, screen, count, reader, writer)?,
-        None => await_subscribed(client, asked, reader, writer)?,
+        Some(count) => receive(client, screen, count, pings, reader, writer),
+        None => await_subscribed(client, asked, pings, reader, writer),
     }
-    close(client, writer)?;
-    await_end(reader)
 }
 
+/// Awaits the broker's end, since where more is on its way it may lose acks with a socket that is closed before.
+fn await_broker<R: Read>(reader: &mut Timed<R>) -> Result<(), TalkError> {
+    reader.keep_alive(0);
+    await_end(reader)
+}
 /// Ends other subscriptions, and answers how many requests of subscriptions there are then.
 fn end_others<W: Write>(
     client: &mut Client,
@@ -273,10 +352,11 @@ fn subscribe_of(alloc: Global, matches: &ArgMatches<'_>) -> Result<Subscribe, Er
     let mut filters = Sequence::new(alloc);
     add_filters(alloc, matches, "filters", &mut filters)?;
     add_filters(alloc, matches, "topic", &mut filters)?;
+    let properties = properties_of::<SubscribeProperties>(alloc, matches, "subscribe")?;
     Ok(Subscribe {
         pkid: 0,
         filters,
-        properties: None,
+        properties,
     })
 }
 
@@ -291,10 +371,23 @@ fn add_filters(
         return Ok(());
     };
     let quality = quality_of(matches, "qos");
+    let rule = rule_of(matches);
     for path in paths {
-        filters.push(Filter::new(alloc, path, quality)?)?;
+        let mut filter = Filter::new(alloc, path, quality)?;
+        filter.retain_forward_rule = rule;
+        filters.push(filter)?;
     }
     Ok(())
+}
+
+/// Which retained messages come: where the subscriptions were asked for before, those alone of one that is new
+/// (3.8.3.1).
+fn rule_of(matches: &ArgMatches<'_>) -> RetainForwardRule {
+    if matches.get_flag("again") {
+        RetainForwardRule::OnNewSubscribe
+    } else {
+        RetainForwardRule::OnEverySubscribe
+    }
 }
 
 /// The Unsubscribe that the words ask for, where they do.
@@ -306,9 +399,10 @@ fn unsubscribe_of(alloc: Global, matches: &ArgMatches<'_>) -> Result<Option<Unsu
     for path in paths {
         filters.push(Text::from_str(alloc, path)?)?;
     }
+    let properties = properties_of::<UnsubscribeProperties>(alloc, matches, "unsubscribe")?;
     Ok(Some(Unsubscribe {
         pkid: 0,
         filters,
-        properties: None,
+        properties,
     }))
 }

@@ -1,5 +1,6 @@
 //! What the words after `pub` and after `sub` ask for.
 
+use crate::properties::WORDS;
 use clap::{Arg, ArgAction, ArgGroup, ArgMatches, Command, Error, value_parser};
 use mqtt5_base::valid_topic;
 use mqtt5_talk::connection_options;
@@ -13,8 +14,9 @@ const QUALITIES: [&str; 3] = ["0", "1", "2"];
 const LONGEST: usize = 65_535;
 
 /// The options whose values are such texts, and what each is.
-const TEXTS: [(&str, &str); 8] = [
+const TEXTS: [(&str, &str); 9] = [
     ("filters", "topic filter"),
+    ("properties", "property"),
     ("topic", "topic"),
     ("unsubscribe", "topic filter"),
     ("id", "client identifier"),
@@ -100,6 +102,7 @@ fn pub_command<'a>(alloc: Global) -> Result<Command<'a>, AllocError> {
     let command = message_options(alloc, command)?;
     let command = content_options(alloc, command)?;
     let command = command.arg(window_option(alloc))?;
+    let command = shared_options(alloc, command)?;
     connection_options(alloc, command)
 }
 
@@ -109,6 +112,46 @@ fn window_option<'a>(alloc: Global) -> Arg<'a> {
         .long("max-inflight")
         .value_name("COUNT")
         .value_parser(value_parser!(u16).range(1..))
+}
+
+/// What the words of both clients have.
+fn shared_options<'a>(alloc: Global, command: Command<'a>) -> Result<Command<'a>, AllocError> {
+    let command = command.arg(properties_option(alloc))?;
+    command.arg(chunks_option(alloc))
+}
+
+/// Properties of packets, of which `properties` reads.
+fn properties_option<'a>(alloc: Global) -> Arg<'a> {
+    Arg::new(alloc, "properties")
+        .short('D')
+        .long("property")
+        .value_name("WORD")
+        .num_args(WORDS)
+        .allow_hyphen_values(true)
+        .action(ArgAction::Append)
+}
+
+/// The broker's bytes come in chunks, and the seconds that pass beside them.
+fn chunks_option<'a>(alloc: Global) -> Arg<'a> {
+    Arg::new(alloc, "chunks")
+        .long("chunks")
+        .action(ArgAction::SetTrue)
+}
+
+/// The keep alive that the words ask for, in seconds; 0, which is none, without.
+pub fn keep_alive_in(matches: &ArgMatches<'_>) -> u16 {
+    matches.get_one::<u16>("keep-alive").unwrap_or(0)
+}
+
+/// Whether there are no chunks that say when a ping is due, and a keep alive or a limit on the time, of which the log tells.
+pub fn refuses_time<E: Write>(matches: &ArgMatches<'_>, log: &mut E) -> bool {
+    let keeps_alive = keep_alive_in(matches) > 0;
+    let has_limit = matches.get_one::<u64>("limit").is_some();
+    if (keeps_alive || has_limit) && !matches.get_flag("chunks") {
+        let _ = writeln!(log, "error: -k and -W need a connection of their own (-h)");
+        return true;
+    }
+    false
 }
 
 fn message_options<'a>(alloc: Global, command: Command<'a>) -> Result<Command<'a>, AllocError> {
@@ -162,6 +205,7 @@ fn lines_option<'a>(alloc: Global) -> Result<Arg<'a>, AllocError> {
         .long("lines")
         .action(ArgAction::SetTrue)
         .conflicts_with("message")?
+        .conflicts_with("keep-alive")?
         .conflicts_with("empty")
 }
 
@@ -189,6 +233,7 @@ fn sub_command<'a>(alloc: Global) -> Result<Command<'a>, AllocError> {
     );
     let command = filter_options(alloc, command)?;
     let command = show_options(alloc, command)?;
+    let command = shared_options(alloc, command)?;
     connection_options(alloc, command)
 }
 
@@ -203,7 +248,34 @@ fn filter_options<'a>(alloc: Global, command: Command<'a>) -> Result<Command<'a>
 /// When the program ends.
 fn end_options<'a>(alloc: Global, command: Command<'a>) -> Result<Command<'a>, AllocError> {
     let command = command.arg(count_option(alloc))?;
-    command.arg(exit_option(alloc)?)
+    let command = command.arg(exit_option(alloc)?)?;
+    let command = command.arg(limit_option(alloc))?;
+    again_options(alloc, command)
+}
+
+fn limit_option<'a>(alloc: Global) -> Arg<'a> {
+    Arg::new(alloc, "limit")
+        .short('W')
+        .value_name("SECONDS")
+        .value_parser(value_parser!(u64).range(1..))
+}
+
+/// What the script that makes a connection again tells and asks.
+fn again_options<'a>(alloc: Global, command: Command<'a>) -> Result<Command<'a>, AllocError> {
+    let command = command.arg(again_option(alloc))?;
+    command.arg(left_option(alloc))
+}
+
+/// The subscriptions were asked for before.
+fn again_option<'a>(alloc: Global) -> Arg<'a> {
+    Arg::new(alloc, "again")
+        .long("again")
+        .action(ArgAction::SetTrue)
+}
+
+/// Where it is told how many messages are still to be shown.
+fn left_option<'a>(alloc: Global) -> Arg<'a> {
+    Arg::new(alloc, "left").long("left").value_name("FILE")
 }
 
 fn unsubscribe_option<'a>(alloc: Global) -> Arg<'a> {
@@ -249,6 +321,7 @@ fn show_options<'a>(alloc: Global, command: Command<'a>) -> Result<Command<'a>, 
     let command = command.arg(joined_option(alloc)?)?;
     let command = command.arg(escape_option(alloc)?)?;
     let command = command.arg(format_option(alloc)?)?;
+    let command = command.arg(pretty_option(alloc)?)?;
     hide_options(alloc, command)
 }
 
@@ -259,6 +332,13 @@ fn format_option<'a>(alloc: Global) -> Result<Arg<'a>, AllocError> {
         .allow_hyphen_values(true)
         .conflicts_with("escape")?
         .conflicts_with("verbose")
+}
+
+fn pretty_option<'a>(alloc: Global) -> Result<Arg<'a>, AllocError> {
+    Arg::new(alloc, "pretty")
+        .long("pretty")
+        .action(ArgAction::SetTrue)
+        .requires_arg("format")
 }
 
 /// What isn't shown.

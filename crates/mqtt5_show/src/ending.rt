@@ -48,26 +48,10 @@ impl From<AllocError> for Stop {
 }
 
 /// Prints why the packets ended, with the offset of the first byte that is of no whole frame; nothing where the input
-/// ended with a frame, and then alone the status is Done.
+/// ended with a frame, and then alone the status is Done. It is a line of text, or of JSON.
 pub fn write_ending<W: Write>(
-    output: &mut W,
-    offset: u64,
-    ended: Result<(), Stop>,
-) -> io::Result<Status>
-    ensures { IfOk result (λ s. s ≡ Done → ended ≡ Ok tt) }
-{
-    match ended {
-        Ok(()) => Ok(Status::Done),
-        Err(stop) => {
-            write_stop(output, offset, &stop)?;
-            Ok(Status::Fault)
-        }
-    }
-}
-
-/// The same as a line of JSON.
-pub fn write_json_ending<W: Write>(
     alloc: Global,
+    as_json: bool,
     output: &mut W,
     offset: u64,
     ended: Result<(), Stop>,
@@ -77,7 +61,11 @@ pub fn write_json_ending<W: Write>(
     match ended {
         Ok(()) => Ok(Status::Done),
         Err(stop) => {
-            write_json_stop(alloc, output, offset, &stop)?;
+            if as_json {
+                write_json_stop(alloc, output, offset, &stop)?;
+            } else {
+                write_stop(output, offset, &stop)?;
+            }
             Ok(Status::Fault)
         }
     }

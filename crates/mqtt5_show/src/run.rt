@@ -4,7 +4,7 @@ ghost use Rattle.std.specs.Prelude.{◌≡◌, ◌<◌, IfOk};
 ghost use Rattle.mqtt5_show.specs.declared.ending.Status.TheVariants.{Refused};
 
 use crate::capture::Capture;
-use crate::ending::{Status, write_ending, write_json_ending, write_memory_fault};
+use crate::ending::{Status, write_ending, write_memory_fault};
 use crate::screen::{JsonLines, Lines};
 use crate::words::{Asked, parse_words};
 use std::alloc::Global;
@@ -42,21 +42,19 @@ fn show_all<R: Read, W: Write>(
     output: &mut W,
 ) -> io::Result<Status> {
     let mut capture = Capture::new(alloc, asked);
-    if asked.json {
+    let ended = if asked.json {
         let mut lines = JsonLines {
             alloc,
             output: &mut *output,
         };
-        let ended = capture.show_all(input, &mut lines);
-        drop(lines);
-        return write_json_ending(alloc, output, capture.offset(), ended);
-    }
-    let mut lines = Lines {
-        output: &mut *output,
+        capture.show_all(input, &mut lines)
+    } else {
+        let mut lines = Lines {
+            output: &mut *output,
+        };
+        capture.show_all(input, &mut lines)
     };
-    let ended = capture.show_all(input, &mut lines);
-    drop(lines);
-    write_ending(output, capture.offset(), ended)
+    write_ending(alloc, asked.json, output, capture.offset(), ended)
 }
 
 fn write_usage<W: Write>(output: &mut W) -> io::Result<Status>

@@ -1,5 +1,5 @@
 -- What was published.
-use Rattle.std.proofs.Common.{◌≡◌, List, [], ◌∷◌, ◌++◌, ℕ, refl, sym, ap, subst, ◌∙◌, append_assoc, append-nil}
+use Rattle.std.proofs.Common.{◌≡◌, Bool, List, [], ◌∷◌, ◌++◌, ℕ, refl, sym, ap, subst, ◌∙◌, append_assoc, append-nil}
 use Rattle.std.specs.Prelude.{Option, Some}
 use Rattle.mqtt5_publish.specs.declared.publish.Publish.{Publish}
 use Rattle.mqtt5_client.specs.declared.client.Client.{Client}
@@ -23,6 +23,6 @@ gives_append gives s t u (p ∷ ps) qs h k = (h.0, h.1, gives_append gives h.0 t
 pub gives_more : {S : Type 0} (gives : S → Option Publish → S → Type 0) (s t u : S) (ps : List Publish) (p : Publish) → GivesAll gives s ps t → gives t (Some p) u → GivesAll gives s (ps ++ p ∷ []) u
 gives_more gives s t u ps p h k = gives_append gives s t u ps (p ∷ []) h (u, k, refl)
 
-module _ (a b : Option (List ℕ)) (x y z : Option (List ℕ)) (p q r : Client) (c : Capabilities) (ps : List Publish) (m : Publish) where
-  pub more_asked : Talked a b x y p (asks_of_all c ps) q → SendsOnly y z q (asks_of c m) r → Talked a b x z p (asks_of_all c (ps ++ m ∷ [])) r
-  more_asked t u = subst (λ (said : List Saying). Talked a b x z p said r) (asks_more c ps m) (then_talked a b b x y z p q r (asks_of_all c ps) (asks_of c m) t (as_talked b y z q r (asks_of c m) u))
+module _ {k : Bool} (a b : Option (List ℕ)) (x y z : Option (List ℕ)) (p q r : Client) (c : Capabilities) (ps : List Publish) (m : Publish) where
+  pub more_asked : Talked k a b x y p (asks_of_all c ps) q → SendsOnly y z q (asks_of c m) r → Talked k a b x z p (asks_of_all c (ps ++ m ∷ [])) r
+  more_asked t u = subst (λ (said : List Saying). Talked k a b x z p said r) (asks_more c ps m) (then_talked a b b x y z p q r (asks_of_all c ps) (asks_of c m) t (as_talked b y z q r (asks_of c m) u))

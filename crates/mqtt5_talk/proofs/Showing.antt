@@ -47,9 +47,9 @@ module _ (x y z : Option (List ℕ)) (p q r : Client) (ps qs : List Publish) whe
   pub more_told : SendsOnly x y p (acks_of ps) q → SendsOnly y z q (acks_of qs) r → SendsOnly x z p (acks_of (ps ++ qs)) r
   more_told t u = subst (λ (said : List Saying). SendsOnly x z p said r) (sym (acks_append ps qs)) (then_told x y z p q r (acks_of ps) (acks_of qs) t u)
 
-module _ (a b : Option (List ℕ)) (x y z : Option (List ℕ)) (p q r : Client) (ps qs : List Publish) where
-  pub more_talked : Talked a b x y p (acks_of ps) q → SendsOnly y z q (acks_of qs) r → Talked a b x z p (acks_of (ps ++ qs)) r
-  more_talked t u = subst (λ (said : List Saying). Talked a b x z p said r) (sym (acks_append ps qs)) (then_talked a b b x y z p q r (acks_of ps) (acks_of qs) t (as_talked b y z q r (acks_of qs) u))
+module _ {k : Bool} (a b : Option (List ℕ)) (x y z : Option (List ℕ)) (p q r : Client) (ps qs : List Publish) where
+  pub more_talked : Talked k a b x y p (acks_of ps) q → SendsOnly y z q (acks_of qs) r → Talked k a b x z p (acks_of (ps ++ qs)) r
+  more_talked t u = subst (λ (said : List Saying). Talked k a b x z p said r) (sym (acks_append ps qs)) (then_talked a b b x y z p q r (acks_of ps) (acks_of qs) t (as_talked b y z q r (acks_of qs) u))
 
 -- where nothing was shown
 pub shows_none : {S : Type 0} (shows : S → Publish → Bool → S → Type 0) (s : S) (r : Result ℕ TalkError) → IfOk r (λ n. n ≡ 0) → IfOk r (λ n. (count : ℕ) × ShowsAll shows s [] count s × (count ≡ n))

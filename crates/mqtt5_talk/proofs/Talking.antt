@@ -1,5 +1,6 @@
 -- Talks one after another are one.
-use Rattle.std.proofs.Common.{◌≡◌, ℕ, List, [], ◌∷◌, ◌++◌, inl, inr, refl, sym, subst, append_assoc, append-nil, Result, Ok, Err, drop, length}
+use Rattle.std.proofs.Common.{◌≡◌, ℕ, Bool, true, false, List, [], ◌∷◌, ◌++◌, inl, inr, refl, sym, ap, subst, append_assoc, append-nil, Result, Ok, Err, drop, length}
+use Rattle.std.proofs.lemmas.Bool.{false≢true}
 use Rattle.std.specs.Io.KnownBytes.{Appends, Consumes}
 use Rattle.std.proofs.KnownBytes.{Appends-nil, Appends-trans, Consumes-nil, Consumes-trans}
 use Rattle.std.specs.Prelude.{Option, OnOk}
@@ -10,7 +11,8 @@ use Rattle.mqtt5_drive.specs.Limit.{codec_after}
 use Rattle.mqtt5_client.specs.declared.client.Client.{Client}
 use Rattle.mqtt5_pipe.specs.declared.error.PipeError.{PipeError}
 use Rattle.mqtt5_pipe.specs.Pipe.{Leaves}
-use Rattle.mqtt5_talk.specs.Conversation.{Saying, Opens, Asks, Heard, Requested, Conversation, Begins, Hears, Requests, Writes, Puts, Takes, Talked, SendsOnly}
+use Rattle.mqtt5_inflight.specs.declared.event.Request.TheVariants as requests
+use Rattle.mqtt5_talk.specs.Conversation.{Saying, Opens, Asks, Heard, Requested, Conversation, Begins, Hears, Requests, Writes, Puts, Takes, WithPings, Ends, Says, Pings, Talked, SendsOnly}
 
 -- the same talk, with its lists written otherwise
 pub reindex : (p q : Client) (said said' : List Saying) (came came' sent sent' : List ℕ) → said ≡ said' → came ≡ came' → sent ≡ sent' → Conversation p said came sent q → Conversation p said' came' sent' q
@@ -39,17 +41,36 @@ join p q r said said' came came' sent sent' t (Puts s c b bytes x y connect u e 
 join p q r said said' came came' sent sent' t (Takes s c b x u) =
     Takes (said ++ s) (came ++ c) (sent ++ b) x (join p q x said s came c sent b t u)
 
+-- all that was said, and no ping
+pub unpinged : (pings : Bool) (said : List Saying) → WithPings pings said said
+unpinged pings [] = Ends
+unpinged pings (word ∷ said) = Says word said said (unpinged pings said)
+
+pub join_pings : (pings : Bool) (said words said' words' : List Saying) → WithPings pings said words → WithPings pings said' words' → WithPings pings (said ++ said') (words ++ words')
+join_pings pings said words said' words' Ends h = h
+join_pings pings said words said' words' (Says word s w t) h = Says word (s ++ said') (w ++ words') (join_pings pings s w said' words' t h)
+join_pings pings said words said' words' (Pings s w on t) h = Pings (said ++ said') (w ++ words') on (join_pings pings said w said' words' t h)
+
+-- where there are none, nothing but that was said
+pub no_pings : (said words : List Saying) → WithPings false said words → words ≡ said
+no_pings said words Ends = refl
+no_pings said words (Says word s w t) = ap (λ (l : List Saying). word ∷ l) (no_pings s w t)
+no_pings said words (Pings s w on t) = absurd (false≢true on)
+
+pub any_pings : (pings : Bool) (said words : List Saying) → WithPings false said words → WithPings pings said words
+any_pings pings said words t = subst (λ (l : List Saying). WithPings pings said l) (sym (no_pings said words t)) (unpinged pings said)
+
 -- a turn
 heard : {T : Type 0} (result : Result T PipeError) (p : Client) (at : ℕ) (came sent : List ℕ) (q : Client) → Leaves result p (piece at came ∷ []) sent q
     → q.codec ≡ codec_after (drop (length p.state.events) q.state.events) p.codec → Heard p at came sent q
 heard (Ok x) p at came sent q h k = (inl h.0, k)
 heard (Err fault) p at came sent q h k = (inr (fault, h), k)
 
-pub as_turned : {T : Type 0} (a b x y : Option (List ℕ)) (result : Result T PipeError) (p q : Client) (came sent : List ℕ)
+pub as_turned : {T : Type 0} {k : Bool} (a b x y : Option (List ℕ)) (result : Result T PipeError) (p q : Client) (came sent : List ℕ)
     → Consumes a b came → Appends x y sent → Leaves result p (piece 0 came ∷ []) sent q
-    → q.codec ≡ codec_after (drop (length p.state.events) q.state.events) p.codec → Talked a b x y p [] q
+    → q.codec ≡ codec_after (drop (length p.state.events) q.state.events) p.codec → Talked k a b x y p [] q
 as_turned a b x y result p q came sent consumed appended h k =
-    record { came = came; sent = sent; consumed = consumed; appended = appended; talks = Hears [] [] [] came sent p q 0 Begins (heard result p 0 came sent q h k) }
+    record { words = []; all = Ends; came = came; sent = sent; consumed = consumed; appended = appended; talks = Hears [] [] [] came sent p q 0 Begins (heard result p 0 came sent q h k) }
 
 -- a request
 pub requested : (p q : Client) (request : Request) → Requested p 0 request q → Conversation p (Asks request ∷ []) [] [] q
@@ -63,20 +84,22 @@ as_sent x y p q sent appended split kept = record { sent = sent; appended = appe
 pub took : (p : Client) (s : Session) → s ≡ record p.state { events = drop 1 p.state.events } → Conversation p [] [] [] (record p { state = s })
 took p s e = subst (λ (t : Session). Conversation p [] [] [] (record p { state = t })) (sym e) (Takes [] [] [] p Begins)
 
-module _ (a b c : Option (List ℕ)) (x y z : Option (List ℕ)) (p q r : Client) (said more : List Saying) where
-  pub then_talked : Talked a b x y p said q → Talked b c y z q more r → Talked a c x z p (said ++ more) r
+module _ {k : Bool} (a b c : Option (List ℕ)) (x y z : Option (List ℕ)) (p q r : Client) (said more : List Saying) where
+  pub then_talked : Talked k a b x y p said q → Talked k b c y z q more r → Talked k a c x z p (said ++ more) r
   then_talked t u = record {
+    words = t.words ++ u.words;
+    all = join_pings k said t.words more u.words t.all u.all;
     came = t.came ++ u.came;
     sent = t.sent ++ u.sent;
     consumed = Consumes-trans a b c t.came u.came t.consumed u.consumed;
     appended = Appends-trans x y z t.sent u.sent t.appended u.appended;
-    talks = join p q r said more t.came u.came t.sent u.sent t.talks u.talks;
+    talks = join p q r t.words u.words t.came u.came t.sent u.sent t.talks u.talks;
   }
 
 -- nothing was said then
-module _ (a b c : Option (List ℕ)) (x y z : Option (List ℕ)) (p q r : Client) (said : List Saying) where
-  pub then_silent : Talked a b x y p said q → Talked b c y z q [] r → Talked a c x z p said r
-  then_silent t u = subst (λ (s : List Saying). Talked a c x z p s r) (append-nil said) (then_talked a b c x y z p q r said [] t u)
+module _ {k : Bool} (a b c : Option (List ℕ)) (x y z : Option (List ℕ)) (p q r : Client) (said : List Saying) where
+  pub then_silent : Talked k a b x y p said q → Talked k b c y z q [] r → Talked k a c x z p said r
+  then_silent t u = subst (λ (s : List Saying). Talked k a c x z p s r) (append-nil said) (then_talked a b c x y z p q r said [] t u)
 
 module _ (x y z : Option (List ℕ)) (p q r : Client) (said more : List Saying) where
   pub then_told : SendsOnly x y p said q → SendsOnly y z q more r → SendsOnly x z p (said ++ more) r
@@ -86,20 +109,30 @@ module _ (x y z : Option (List ℕ)) (p q r : Client) (said more : List Saying) 
     talks = join p q r said more [] [] t.sent u.sent t.talks u.talks;
   }
 
+-- a talk without pings is one with them
+pub with_pings : (k : Bool) (a b x y : Option (List ℕ)) (p q : Client) (said : List Saying) → Talked false a b x y p said q → Talked k a b x y p said q
+with_pings k a b x y p q said t =
+    record { words = t.words; all = any_pings k said t.words t.all; came = t.came; sent = t.sent; consumed = t.consumed; appended = t.appended; talks = t.talks }
+
 -- nothing was said, read and written
-pub no_talk : (a x : Option (List ℕ)) (p : Client) → Talked a a x x p [] p
-no_talk a x p = record { came = []; sent = []; consumed = Consumes-nil a; appended = Appends-nil x; talks = Begins }
+pub no_talk : {k : Bool} (a x : Option (List ℕ)) (p : Client) → Talked k a a x x p [] p
+no_talk a x p = record { words = []; all = Ends; came = []; sent = []; consumed = Consumes-nil a; appended = Appends-nil x; talks = Begins }
 
 pub nothing_told : (x : Option (List ℕ)) (p : Client) → SendsOnly x x p [] p
 nothing_told x p = record { sent = []; appended = Appends-nil x; talks = Begins }
 
 -- nothing was read
-pub as_talked : (a x y : Option (List ℕ)) (p q : Client) (said : List Saying) → SendsOnly x y p said q → Talked a a x y p said q
-as_talked a x y p q said t = record { came = []; sent = t.sent; consumed = Consumes-nil a; appended = t.appended; talks = t.talks }
+pub as_talked : {k : Bool} (a x y : Option (List ℕ)) (p q : Client) (said : List Saying) → SendsOnly x y p said q → Talked k a a x y p said q
+as_talked {k} a x y p q said t = record { words = said; all = unpinged k said; came = []; sent = t.sent; consumed = Consumes-nil a; appended = t.appended; talks = t.talks }
 
 -- nothing was read and written
-pub silent : (a x : Option (List ℕ)) (p q : Client) (said : List Saying) → Conversation p said [] [] q → Talked a a x x p said q
-silent a x p q said t = record { came = []; sent = []; consumed = Consumes-nil a; appended = Appends-nil x; talks = t }
+pub silent : {k : Bool} (a x : Option (List ℕ)) (p q : Client) (said : List Saying) → Conversation p said [] [] q → Talked k a a x x p said q
+silent {k} a x p q said t = record { words = said; all = unpinged k said; came = []; sent = []; consumed = Consumes-nil a; appended = Appends-nil x; talks = t }
+
+-- a turn in vain, and a ping
+pub then_pinged : (k : Bool) (a b x y z : Option (List ℕ)) (p q r : Client) → k ≡ true → Talked false a b x y p [] q → SendsOnly y z q (Asks requests.PingReq ∷ []) r → Talked k a b x z p [] r
+then_pinged k a b x y z p q r on t u = then_talked a b b x y z p q r [] [] (with_pings k a b x y p q [] t)
+    (record { words = Asks requests.PingReq ∷ []; all = Pings [] [] on Ends; came = []; sent = u.sent; consumed = Consumes-nil b; appended = u.appended; talks = u.talks })
 
 pub silent_told : (x : Option (List ℕ)) (p q : Client) (said : List Saying) → Conversation p said [] [] q → SendsOnly x x p said q
 silent_told x p q said t = record { sent = []; appended = Appends-nil x; talks = t }

@@ -24,16 +24,23 @@ is_available (Some n) = not (nat_eq n 0)
 
 -- what the properties of a ConnAck say: a maximum QoS (3.2.2.3.4), whether there are retained
 -- messages (3.2.2.3.5), wildcards (3.2.2.3.11), subscription identifiers (3.2.2.3.12) and shared
--- subscriptions (3.2.2.3.13)
+-- subscriptions (3.2.2.3.13), and its own keep alive (3.2.2.3.14)
 abbrev pub capabilities_of : Option ConnAckProperties → Capabilities
-capabilities_of None =
-    record { max_qos = None; retain = true; wildcards = true; identifiers = true; shared = true }
+capabilities_of None = record {
+  max_qos = None;
+  retain = true;
+  wildcards = true;
+  identifiers = true;
+  shared = true;
+  keep_alive = None;
+}
 capabilities_of (Some set) = record {
   max_qos = set.max_qos;
   retain = is_available set.retain_available;
   wildcards = is_available set.wildcard_subscription_available;
   identifiers = is_available set.subscription_identifiers_available;
   shared = is_available set.shared_subscription_available;
+  keep_alive = set.server_keep_alive;
 }
 
 -- what the ConnAck says that is the first event

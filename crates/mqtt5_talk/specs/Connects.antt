@@ -1,4 +1,4 @@
--- The Connect that the words of a client ask for (MQTT 5.0 section 3.1); the client has no clock.
+-- The Connect that the words of a client ask for (MQTT 5.0 section 3.1).
 use Rattle.std.specs.Prelude.{◌≡◌, ◌<◌, ℕ, Bool, true, false, not, codes, List, [], Option, None}
 use Rattle.std.specs.Prelude.{Some, option_map, unwrap_or}
 use Rattle.std.specs.Str.Parse.{IsNumeral, digits_value, without_leading_plus}
@@ -40,6 +40,14 @@ IsExpiry (Some word) goes_on seconds =
     → digits_value 10 (without_leading_plus word) < 4_294_967_296
     → seconds ≡ Some (digits_value 10 (without_leading_plus word))
 
+-- The keep alive in seconds: as an option says, and without one 0, so that no ping is due (3.1.2.10).
+abbrev pub IsKeepAlive : Option (List ℕ) → ℕ → Type 0
+IsKeepAlive None seconds = seconds ≡ 0
+IsKeepAlive (Some word) seconds =
+    IsNumeral 10 (without_leading_plus word)
+    → digits_value 10 (without_leading_plus word) < 65_536
+    → seconds ≡ digits_value 10 (without_leading_plus word)
+
 -- the properties that say it, and nothing else
 abbrev pub expiring : ℕ → ConnectProperties
 expiring seconds = record no_connect_properties { session_expiry_interval = Some seconds }
@@ -59,10 +67,11 @@ abbrev pub login_in : List ℕ → List ℕ → Option Login
 login_in [] [] = None
 login_in username password = Some (login_of username password)
 
--- Its keep alive is 0, so that no ping is due (3.1.2.10), and all else is what the words say.
+-- all is what the words say
 abbrev pub IsConnect : Found → Packet → Type 0
 IsConnect words (packets.Connect connect will login) =
-    (connect.keep_alive ≡ 0) × (connect.client_id.bytes ≡ value_in words (codes "id"))
+    IsKeepAlive (one_text words (codes "keep-alive")) connect.keep_alive
+    × (connect.client_id.bytes ≡ value_in words (codes "id"))
     × IsFlag (one_text words (codes "keep")) (not connect.clean_start)
     × ((seconds : Option ℕ)
     × IsExpiry (one_text words (codes "expiry")) (not connect.clean_start) seconds

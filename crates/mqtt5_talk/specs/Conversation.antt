@@ -1,10 +1,12 @@
 -- A talk with a broker: turns and requests of a client, one after another, between which the user
 -- takes events out (MQTT 5.0 section 4.2).
-use Rattle.std.specs.Prelude.{◌≡◌, ◌⊎◌, ℕ, false, List, [], ◌∷◌, ◌++◌, drop, Option, Ok}
+use Rattle.std.specs.Prelude.{◌≡◌, ◌⊎◌, ℕ, Bool, true, false, List, [], ◌∷◌, ◌++◌, drop, Option}
+use Rattle.std.specs.Prelude.{Ok}
 use Rattle.std.specs.Io.KnownBytes.{Appends, Consumes}
 use Rattle.mqtt5_codec.specs.declared.packet.Packet.{Packet}
 use Rattle.mqtt5_codec.specs.Packets.{writing_under}
 use Rattle.mqtt5_inflight.specs.declared.event.Request.{Request}
+use Rattle.mqtt5_inflight.specs.declared.event.Request.TheVariants as requests
 use Rattle.mqtt5_inflight.specs.declared.error.StateError.{StateError}
 use Rattle.mqtt5_drive.specs.Run.{piece}
 use Rattle.mqtt5_client.specs.declared.client.Client.{Client}
@@ -65,15 +67,29 @@ pub data Conversation (p : Client) : List Saying → List ℕ → List ℕ → C
       → Conversation p said came sent
       (record q { state = record q.state { events = drop 1 q.state.events } })
 
--- a talk over a reader, of which is known what was left before and after, and a writer, of which is
--- known what it held
-pub record Talked (unread left held written : Option (List ℕ)) (p : Client) (said : List Saying)
-    (q : Client) : Type 0 where
+-- what was said, and in all words also the PingReqs that keep the connection alive, where there are
+-- any (3.1.2.10)
+pub data WithPings (pings : Bool) : (said words : List Saying) → Type 0 where
+  -- nothing more
+  Ends : WithPings pings [] []
+  -- this was said
+  Says : (word : Saying) (said words : List Saying) → WithPings pings said words
+      → WithPings pings (word ∷ said) (word ∷ words)
+  -- a ping
+  Pings : (said words : List Saying) → pings ≡ true → WithPings pings said words
+      → WithPings pings said (Asks requests.PingReq ∷ words)
+
+-- A talk over a reader, of which is known what was left before and after, and a writer, of which is
+-- known what it held. With `pings` there may be PingReqs beside what was said.
+pub record Talked (pings : Bool) (unread left held written : Option (List ℕ)) (p : Client)
+    (said : List Saying) (q : Client) : Type 0 where
+  pub words : List Saying
   pub came : List ℕ
   pub sent : List ℕ
+  pub all : WithPings pings said words
   pub consumed : Consumes unread left came
   pub appended : Appends held written sent
-  pub talks : Conversation p said came sent q
+  pub talks : Conversation p words came sent q
 
 -- a talk in which nothing was read
 pub record SendsOnly (held written : Option (List ℕ)) (p : Client) (said : List Saying)

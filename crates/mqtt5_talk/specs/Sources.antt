@@ -1,5 +1,5 @@
 -- The messages that lines make.
-use Rattle.std.specs.Prelude.{◌≡◌, ℕ, false, List, Option, Some, None, IfSome}
+use Rattle.std.specs.Prelude.{◌≡◌, ◌≢◌, ℕ, false, List, [], Option, Some, None, IfSome}
 use Rattle.std.specs.Io.KnownBytes.{IsAtEnd}
 use Rattle.std.specs.Io.BufRead.{first_piece, DropsThrough}
 use Rattle.std.specs.Io.Buffered.{reader_remaining}
@@ -23,9 +23,11 @@ message_of h payload = record {
 abbrev pub unread : {R : Type 0} → (R → Option (List ℕ)) → LineSource R → Option (List ℕ)
 unread remaining lines = reader_remaining remaining lines.reader
 
--- what comes up to the next newline is a message's payload; or nothing is left
+-- something is left, and what comes of it up to the next newline is a message's payload; or nothing
+-- is left
 abbrev pub GivesLine : Heading → (unread left : Option (List ℕ)) → Option Publish → Type 0
 GivesLine h unread left None = IsAtEnd unread
 GivesLine h unread left (Some p) =
     (payload : List ℕ) × (p ≡ message_of h payload)
-    × IfSome unread (λ bytes. payload ≡ first_piece 10 bytes) × DropsThrough unread left 10
+    × IfSome unread (λ bytes. (bytes ≢ []) × (payload ≡ first_piece 10 bytes))
+    × DropsThrough unread left 10

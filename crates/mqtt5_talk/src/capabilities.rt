@@ -21,6 +21,8 @@ pub struct Capabilities {
     pub identifiers: bool,
     /// Whether subscriptions may be shared (3.2.2.3.13).
     pub shared: bool,
+    /// The keep alive that takes the place of the client's, in seconds, where there is one (3.2.2.3.14).
+    pub keep_alive: Option<u16>,
 }
 
 /// What the broker doesn't take, as its ConnAck says.
@@ -52,6 +54,7 @@ impl Capabilities {
                 wildcards: true,
                 identifiers: true,
                 shared: true,
+                keep_alive: None,
             },
         }
     }
@@ -65,6 +68,7 @@ impl Capabilities {
             wildcards: is_available(set.wildcard_subscription_available),
             identifiers: is_available(set.subscription_identifiers_available),
             shared: is_available(set.shared_subscription_available),
+            keep_alive: set.server_keep_alive,
         }
     }
 

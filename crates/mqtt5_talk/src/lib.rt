@@ -1,5 +1,5 @@
 //! A client that talks to a broker over a reader and a writer: it opens a connection, publishes, subscribes, and shows
-//! what comes. It has no clock, so its keep alive is 0.
+//! what comes. It has no clock: its reader says when a ping is due.
 #![tactic(auto)]
 
 mod capabilities;

@@ -1,6 +1,6 @@
 //! How a connection is opened and ended.
 
-ghost use Rattle.std.specs.Prelude.{◌≡◌, ◌⊎◌, ℕ, List, [], ◌∷◌, OnOk, IfOk, IfErr, IfSome, Ok, None};
+ghost use Rattle.std.specs.Prelude.{◌≡◌, ◌⊎◌, ℕ, true, false, List, [], ◌∷◌, OnOk, IfOk, IfErr, IfSome, Ok, None};
 ghost use Rattle.std.specs.Io.KnownBytes.{Consumes, IsAtEnd};
 ghost use Rattle.std.specs.declared.io.Error.{Error as IoError};
 ghost use Rattle.mqtt5_pipe.specs.declared.error.PipeError.TheVariants as faults;
@@ -32,9 +32,9 @@ pub fn open<R: Read, W: Write>(
 ) -> Result<Capabilities, TalkError>
     requires ready { IsReady client.old }
     // Nothing is said but the Connect.
-    ensures talked { (said : List Saying) × Talked (R.remaining reader.old) (R.remaining reader.new)
-        (W.contents writer.old) (W.contents writer.new) client.old said client.new
-        × ((said ≡ []) ⊎ (said ≡ Opens connect.now ∷ []))
+    ensures talked { (said : List Saying) × Talked false (R.remaining reader.old)
+        (R.remaining reader.new) (W.contents writer.old) (W.contents writer.new) client.old said
+        client.new × ((said ≡ []) ⊎ (said ≡ Opens connect.now ∷ []))
         × OnOk result (said ≡ Opens connect.now ∷ []) }
     ensures answered { OnOk result (IsAnswered client.new.state.events) }
     ensures takes { IfOk result (λ c. c ≡ capabilities_in client.new.state.events) }
@@ -59,7 +59,7 @@ fn start_in_words<R: Read, W: Write>(
 ) -> Result<Capabilities, TalkError>
     requires ready { IsReady client.old }
     requires none { client.old.state.events ≡ [] }
-    ensures talked { Talked (R.remaining reader.old) (R.remaining reader.new)
+    ensures talked { Talked false (R.remaining reader.old) (R.remaining reader.new)
         (W.contents writer.old) (W.contents writer.new) client.old [] client.new }
     ensures answered { OnOk result (IsAnswered client.new.state.events) }
     ensures takes { IfOk result (λ c. c ≡ capabilities_in client.new.state.events) }
@@ -112,7 +112,7 @@ fn start<R: Read, W: Write>(
 ) -> Result<Capabilities, TalkError>
     requires ready { IsReady client.old }
     requires none { client.old.state.events ≡ [] }
-    ensures talked { Talked (R.remaining reader.old) (R.remaining reader.new)
+    ensures talked { Talked false (R.remaining reader.old) (R.remaining reader.new)
         (W.contents writer.old) (W.contents writer.new) client.old [] client.new }
     ensures answered { OnOk result (IsAnswered client.new.state.events) }
     ensures takes { IfOk result (λ c. c ≡ capabilities_in client.new.state.events) }
@@ -132,7 +132,7 @@ fn await_answer<R: Read, W: Write>(
 ) -> Result<Capabilities, TalkError>
     requires ready { IsReady client.old }
     requires none { client.old.state.events ≡ [] }
-    ensures talked { Talked (R.remaining reader.old) (R.remaining reader.new)
+    ensures talked { Talked false (R.remaining reader.old) (R.remaining reader.new)
         (W.contents writer.old) (W.contents writer.new) client.old [] client.new }
     ensures answered { OnOk result (IsAnswered client.new.state.events) }
     ensures takes { IfOk result (λ c. c ≡ capabilities_in client.new.state.events) }
@@ -176,10 +176,10 @@ pub(crate) fn hear<R: Read, W: Write>(
     writer: &mut W,
 ) -> Result<(), TalkError>
     requires ready { IsReady client.old }
-    ensures talked { Talked (R.remaining reader.old) (R.remaining reader.new)
+    ensures talked { Talked false (R.remaining reader.old) (R.remaining reader.new)
         (W.contents writer.old) (W.contents writer.new) client.old [] client.new }
     ensures codec { client.new.codec ≡ codec_since client.old client.new }
-    ensures ready { OnOk result (IsReady client.new) }
+    ensures ready { IsReady client.new }
 {
     match turn(client, 0, reader, writer) {
         Ok(0) => Err(TalkError::Closed),
@@ -188,8 +188,37 @@ pub(crate) fn hear<R: Read, W: Write>(
     }
 }
 
+/// Takes a turn; with `pings` a PingReq is sent where it read in vain for as long as the reader waits.
+pub(crate) fn hear_or_ping<R: Read, W: Write>(
+    client: &mut Client,
+    pings: bool,
+    reader: &mut R,
+    writer: &mut W,
+) -> Result<(), TalkError>
+    requires ready { IsReady client.old }
+    ensures talked { Talked pings (R.remaining reader.old) (R.remaining reader.new)
+        (W.contents writer.old) (W.contents writer.new) client.old [] client.new }
+    ensures ready { OnOk result (IsReady client.new) }
+{
+    match hear(client, reader, writer) {
+        Err(trouble) if pings && is_wait(&trouble) => {
+            drop(trouble);
+            ask(client, Request::PingReq, writer)
+        }
+        heard => heard,
+    }
+}
+
+/// Whether the reader waited in vain.
+fn is_wait(trouble: &TalkError) -> bool {
+    match trouble {
+        TalkError::Failed(PipeError::Read(error)) => error.kind() == ErrorKind::WouldBlock,
+        _other => false,
+    }
+}
+
 /// Writes the output.
-fn send<W: Write>(client: &mut Client, writer: &mut W) -> Result<(), TalkError>
+pub(crate) fn send<W: Write>(client: &mut Client, writer: &mut W) -> Result<(), TalkError>
     ensures told { SendsOnly (W.contents writer.old) (W.contents writer.new) client.old []
         client.new }
     ensures kept { client.new ≡ record client.old { output = client.new.output } }
@@ -202,7 +231,7 @@ fn send<W: Write>(client: &mut Client, writer: &mut W) -> Result<(), TalkError>
 }
 
 /// Hands a request in.
-fn hand_in(client: &mut Client, request: Request) -> Result<(), TalkError>
+pub(crate) fn hand_in(client: &mut Client, request: Request) -> Result<(), TalkError>
     requires { IsReady client.old }
     ensures said { Conversation client.old (Asks request ∷ []) [] [] client.new }
     ensures ready { IsReady client.new }

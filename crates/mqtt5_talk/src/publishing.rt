@@ -11,7 +11,7 @@ ghost use Rattle.mqtt5_talk.specs.Published.{asks_of, asks_of_all, Gave, GivesOu
 
 use crate::capabilities::Capabilities;
 use crate::error::TalkError;
-use crate::opening::{ask, endless, hear};
+use crate::opening::{endless, hand_in, hear_or_ping, send};
 use crate::reason::{ReasonText, reason_in};
 use crate::source::Source;
 use mqtt5_base::AckProperties;
@@ -20,20 +20,26 @@ use mqtt5_codec::Packet;
 use mqtt5_publish::{PubAckReason, Publish};
 use std::io::{Read, Write};
 
+/// How many bytes of messages are held back at most, to be written together.
+const ENOUGH: usize = 65_536;
+
 /// Sends a message, and takes turns until it is delivered: of QoS 0 none, of QoS 1 until its PubAck, of QoS 2
-/// until its PubComp; and so until no id is in use. `Forbidden` where the ConnAck says that the broker doesn't take it,
+/// until its PubComp; and so until no id is in use. With `pings` a PingReq is sent each time that the reader waited in vain
+/// (its read ends in `WouldBlock`, as that of a socket with a limit on waiting), so that the connection is kept alive
+/// (MQTT 5.0 section 3.1.2.10). `Forbidden` where the ConnAck says that the broker doesn't take it,
 /// `NotPublished` where the PubAck or the PubRec is a refusal, `Ended`, `Closed`; `Failed`, as of a request, of a write
-/// and of a turn.
+/// and of a turn, and of a ping whose last one isn't answered.
 pub fn publish<R: Read, W: Write>(
     client: &mut Client,
     capabilities: Capabilities,
     message: Publish,
+    pings: bool,
     reader: &mut R,
     writer: &mut W,
 ) -> Result<(), TalkError>
     requires ready { IsReady client.old }
-    // Nothing is said but the message, and that only where the ConnAck allows it.
-    ensures talked { Talked (R.remaining reader.old) (R.remaining reader.new)
+    // Nothing is said but the message, and that only where the ConnAck allows it, and pings.
+    ensures talked { Talked pings (R.remaining reader.old) (R.remaining reader.new)
         (W.contents writer.old) (W.contents writer.new) client.old (asks_of capabilities message)
         client.new }
     ensures allowed { OnOk result (forbidden_message capabilities message ≡ None) }
@@ -42,26 +48,28 @@ pub fn publish<R: Read, W: Write>(
     // So another call may follow.
     ensures ready { OnOk result (IsReady client.new) }
 {
-    send_allowed(client, capabilities, message, writer)?;
-    await_acks(client, reader, writer)
+    hand_allowed(client, capabilities, message)?;
+    await_acks(client, pings, reader, writer)
 }
 
 /// Sends the messages of a source in order, as many ahead of their acks as the session has identifiers and the broker
-/// takes, and takes turns until all are delivered, as `publish` does. Where the source is late, what was sent is delivered
+/// takes, and takes turns until all are delivered, as `publish` does. Messages that the source has at hand are written
+/// together. Where the source is late, what was sent is delivered
 /// before it is asked for more. Faults as of `publish`, of the first message that has one, and those of the source.
 pub fn publish_all<R: Read, W: Write, S: Source>(
     client: &mut Client,
     capabilities: Capabilities,
     source: &mut S,
+    pings: bool,
     reader: &mut R,
     writer: &mut W,
 ) -> Result<(), TalkError>
     requires ready { IsReady client.old }
     // Nothing is said but the source's messages, in order, and each only where the ConnAck allows
-    // it; in the end those are all that the source has, and each is allowed.
-    ensures talked { (ms : List Message) × Talked (R.remaining reader.old) (R.remaining reader.new)
-        (W.contents writer.old) (W.contents writer.new) client.old (asks_of_all capabilities ms)
-        client.new
+    // it, and pings; in the end those are all that the source has, and each is allowed.
+    ensures talked { (ms : List Message) × Talked pings (R.remaining reader.old)
+        (R.remaining reader.new) (W.contents writer.old) (W.contents writer.new) client.old
+        (asks_of_all capabilities ms) client.new
         × Gave S.gives source.old ms
         × OnOk result (GivesOut S.gives source.old ms source.new
         × All (λ m. forbidden_message capabilities m ≡ None) ms) }
@@ -70,58 +78,103 @@ pub fn publish_all<R: Read, W: Write, S: Source>(
     // So another call may follow.
     ensures ready { OnOk result (IsReady client.new) }
 {
+    match publish_each(client, capabilities, source, pings, reader, writer) {
+        Ok(()) => Ok(()),
+        Err(trouble) => {
+            let _ = send(client, writer);
+            Err(trouble)
+        }
+    }
+}
+
+/// The same, but that after a fault messages before it may be unwritten.
+fn publish_each<R: Read, W: Write, S: Source>(
+    client: &mut Client,
+    capabilities: Capabilities,
+    source: &mut S,
+    pings: bool,
+    reader: &mut R,
+    writer: &mut W,
+) -> Result<(), TalkError>
+    requires ready { IsReady client.old }
+    ensures talked { (ms : List Message) × Talked pings (R.remaining reader.old)
+        (R.remaining reader.new) (W.contents writer.old) (W.contents writer.new) client.old
+        (asks_of_all capabilities ms) client.new
+        × Gave S.gives source.old ms
+        × OnOk result (GivesOut S.gives source.old ms source.new
+        × All (λ m. forbidden_message capabilities m ≡ None) ms) }
+    ensures delivered { OnOk result (map.len client.new.state.core.in_use ≡ 0) }
+    ensures ready { OnOk result (IsReady client.new) }
+{
     for _ in 0..u64::MAX {
-        make_room(client, source.is_late(), reader, writer)?;
+        make_room(client, source.is_late(), pings, reader, writer)?;
         let Some(message) = source.next(client.next_id())? else {
-            return await_acks(client, reader, writer);
+            return await_acks(client, pings, reader, writer);
         };
-        send_allowed(client, capabilities, message, writer)?;
+        hand_allowed(client, capabilities, message)?;
     }
     Err(endless())
 }
 
-/// Sends a message, unless the ConnAck forbids it.
-fn send_allowed<W: Write>(
+/// Hands a message in, unless the ConnAck forbids it.
+fn hand_allowed(
     client: &mut Client,
     capabilities: Capabilities,
     message: Publish,
-    writer: &mut W,
 ) -> Result<(), TalkError>
     requires ready { IsReady client.old }
-    ensures told { SendsOnly (W.contents writer.old) (W.contents writer.new) client.old
-        (asks_of capabilities message) client.new }
+    ensures said { Conversation client.old (asks_of capabilities message) [] [] client.new }
     ensures allowed { OnOk result (forbidden_message capabilities message ≡ None) }
-    ensures ready { OnOk result (IsReady client.new) }
+    ensures ready { IsReady client.new }
 {
     match capabilities.forbidden_message(&message) {
         Some(why) => {
             drop(message);
             Err(TalkError::Forbidden(why))
         }
-        None => ask(client, Request::Publish(message), writer),
+        None => hand_in(client, Request::Publish(message)),
     }
+}
+
+/// Writes the output where all is to be delivered, or where it is much.
+fn send_enough<W: Write>(
+    client: &mut Client,
+    delivers: bool,
+    writer: &mut W,
+) -> Result<(), TalkError>
+    requires ready { IsReady client.old }
+    ensures told { SendsOnly (W.contents writer.old) (W.contents writer.new) client.old []
+        client.new }
+    ensures ready { IsReady client.new }
+{
+    if delivers || client.output.len() >= ENOUGH {
+        return send(client, writer);
+    }
+    Ok(())
 }
 
 /// Takes turns until the next identifier is free, or where all is to be delivered, until none is in use.
 fn make_room<R: Read, W: Write>(
     client: &mut Client,
     delivers: bool,
+    pings: bool,
     reader: &mut R,
     writer: &mut W,
 ) -> Result<(), TalkError>
     requires ready { IsReady client.old }
-    ensures talked { Talked (R.remaining reader.old) (R.remaining reader.new)
+    ensures talked { Talked pings (R.remaining reader.old) (R.remaining reader.new)
         (W.contents writer.old) (W.contents writer.new) client.old [] client.new }
     ensures ready { OnOk result (IsReady client.new) }
 {
     if let Some(refusal) = take_refusal(client) {
         return Err(refusal);
     }
+    send_enough(client, delivers, writer)?;
     for _ in 0..u64::MAX {
         if has_room(client, delivers) {
             return Ok(());
         }
-        hear_acks(client, reader, writer)?;
+        hear_acks(client, pings, reader, writer)?;
     }
     Err(endless())
 }
@@ -135,39 +188,42 @@ fn has_room(client: &Client, delivers: bool) -> bool {
     client.state.outgoing_pub(id).is_none() && !client.state.outgoing_rel(id)
 }
 
-/// Takes turns until no id is in use.
+/// Takes turns until no id is in use. In the end all of the output is written.
 fn await_acks<R: Read, W: Write>(
     client: &mut Client,
+    pings: bool,
     reader: &mut R,
     writer: &mut W,
 ) -> Result<(), TalkError>
     requires ready { IsReady client.old }
-    ensures talked { Talked (R.remaining reader.old) (R.remaining reader.new)
+    ensures talked { Talked pings (R.remaining reader.old) (R.remaining reader.new)
         (W.contents writer.old) (W.contents writer.new) client.old [] client.new }
     ensures delivered { OnOk result (map.len client.new.state.core.in_use ≡ 0) }
     ensures ready { OnOk result (IsReady client.new) }
 {
     for _ in 0..u64::MAX {
         if client.state.inflight() == 0 {
-            return Ok(());
+            return send(client, writer);
         }
-        hear_acks(client, reader, writer)?;
+        hear_acks(client, pings, reader, writer)?;
     }
     Err(endless())
 }
 
-/// Takes a turn. A refusal of a message comes before a fault.
+/// Writes the output, and takes a turn. A refusal of a message comes before a fault of the turn.
 fn hear_acks<R: Read, W: Write>(
     client: &mut Client,
+    pings: bool,
     reader: &mut R,
     writer: &mut W,
 ) -> Result<(), TalkError>
     requires ready { IsReady client.old }
-    ensures talked { Talked (R.remaining reader.old) (R.remaining reader.new)
+    ensures talked { Talked pings (R.remaining reader.old) (R.remaining reader.new)
         (W.contents writer.old) (W.contents writer.new) client.old [] client.new }
     ensures ready { OnOk result (IsReady client.new) }
 {
-    let heard = hear(client, reader, writer);
+    send(client, writer)?;
+    let heard = hear_or_ping(client, pings, reader, writer);
     match take_refusal(client) {
         Some(refusal) => Err(refusal),
         None => heard,

@@ -1,6 +1,6 @@
 //! How subscriptions are made and ended, and what comes is shown.
 
-ghost use Rattle.std.specs.Prelude.{◌≡◌, ◌⊎◌, ◌+◌, ◌≤◌, List, [], ◌∷◌, OnOk, IfOk};
+ghost use Rattle.std.specs.Prelude.{◌≡◌, ◌⊎◌, ◌+◌, ◌≤◌, List, [], ◌∷◌, OnOk, IfOk, IfNone, All};
 ghost use Rattle.std.specs.Bool.{Decides};
 ghost use Rattle.mqtt5_publish.specs.declared.publish.Publish.{Publish as Message};
 ghost use Rattle.mqtt5_inflight.specs.declared.event.Request.TheVariants as requests;
@@ -11,7 +11,7 @@ ghost use Rattle.mqtt5_talk.specs.Answers.{ack_of, acks_of, asked_by, ShowsAll, 
 
 use crate::capabilities::Capabilities;
 use crate::error::TalkError;
-use crate::opening::{ask, endless, hear};
+use crate::opening::{ask, endless, hear_or_ping};
 use crate::reason::{ReasonText, reason_in};
 use crate::show::Screen;
 use mqtt5_base::QoS;
@@ -68,16 +68,17 @@ pub fn unsubscribe<W: Write>(
 
 /// Takes turns until so many SubAcks and UnsubAcks came. What else comes is let go: a message is neither shown nor
 /// acknowledged, so in a session that is kept one of QoS 1 or 2 comes again. The client's session must leave the acks to
-/// the user. `NotSubscribed` and `NotUnsubscribed` where one refuses a filter, `Ended`, `Closed`; `Failed`, as of a turn.
+/// the user. `pings` is as of `publish`. `NotSubscribed` and `NotUnsubscribed` where one refuses a filter, `Ended`, `Closed`; `Failed`, as of a turn.
 pub fn await_subscribed<R: Read, W: Write>(
     client: &mut Client,
     count: u64,
+    pings: bool,
     reader: &mut R,
     writer: &mut W,
 ) -> Result<(), TalkError>
     requires ready { IsReady client.old }
-    // Nothing is said.
-    ensures talked { Talked (R.remaining reader.old) (R.remaining reader.new)
+    // Nothing is said but pings.
+    ensures talked { Talked pings (R.remaining reader.old) (R.remaining reader.new)
         (W.contents writer.old) (W.contents writer.new) client.old [] client.new }
     // So another call may follow.
     ensures ready { OnOk result (IsReady client.new) }
@@ -87,7 +88,7 @@ pub fn await_subscribed<R: Read, W: Write>(
         if left == 0 {
             return Ok(());
         }
-        hear_event(client, reader, writer)?;
+        hear_event(client, pings, reader, writer)?;
         if is_subscribed(client)? {
             left -= 1;
         }
@@ -98,16 +99,17 @@ pub fn await_subscribed<R: Read, W: Write>(
 /// Takes a turn where no event is there.
 fn hear_event<R: Read, W: Write>(
     client: &mut Client,
+    pings: bool,
     reader: &mut R,
     writer: &mut W,
 ) -> Result<(), TalkError>
     requires ready { IsReady client.old }
-    ensures talked { Talked (R.remaining reader.old) (R.remaining reader.new)
+    ensures talked { Talked pings (R.remaining reader.old) (R.remaining reader.new)
         (W.contents writer.old) (W.contents writer.new) client.old [] client.new }
     ensures ready { OnOk result (IsReady client.new) }
 {
     if client.state.events().is_empty() {
-        return hear(client, reader, writer);
+        return hear_or_ping(client, pings, reader, writer);
     }
     Ok(())
 }
@@ -142,21 +144,24 @@ fn is_granted(event: Event) -> Result<bool, TalkError> {
 }
 
 /// Shows each message that came and comes, and then acknowledges it, until so many were shown. One that the screen doesn't
-/// show is acknowledged too, and not counted. The client's session must leave the acks to the user. `NotSubscribed` and
+/// show is acknowledged too, and not counted. The client's session must leave the acks to the user. `pings` is as of
+/// `publish`. `NotSubscribed` and
 /// `NotUnsubscribed` where a SubAck or an UnsubAck refuses a filter, `Unshown`, `Ended`, `Closed`; `Failed`, as of a turn.
 /// What came with a fault is shown and not acknowledged.
 pub fn receive<R: Read, W: Write, S: Screen>(
     client: &mut Client,
     screen: &mut S,
     count: u64,
+    pings: bool,
     reader: &mut R,
     writer: &mut W,
 ) -> Result<(), TalkError>
     requires ready { IsReady client.old }
-    // Nothing is said but the acks of messages that the screen was given; in the end those are all
-    // that it was, of which it showed so many.
-    ensures talked { (ps : List Message) × Talked (R.remaining reader.old) (R.remaining reader.new)
-        (W.contents writer.old) (W.contents writer.new) client.old (acks_of ps) client.new
+    // Nothing is said but the acks of messages that the screen was given, and pings; in the end those
+    // are all that it was, of which it showed so many.
+    ensures talked { (ps : List Message) × Talked pings (R.remaining reader.old)
+        (R.remaining reader.new) (W.contents writer.old) (W.contents writer.new) client.old
+        (acks_of ps) client.new
         × Showed S.shows screen.old ps
         × OnOk result (ShowsAll S.shows screen.old ps count screen.new) }
     // So another call may follow.
@@ -168,7 +173,7 @@ pub fn receive<R: Read, W: Write, S: Screen>(
         if left == 0 {
             return Ok(());
         }
-        hear_messages(client, screen, left, reader, writer)?;
+        hear_messages(client, screen, left, pings, reader, writer)?;
     }
     Err(endless())
 }
@@ -178,16 +183,17 @@ fn hear_messages<R: Read, W: Write, S: Screen>(
     client: &mut Client,
     screen: &mut S,
     count: u64,
+    pings: bool,
     reader: &mut R,
     writer: &mut W,
 ) -> Result<(), TalkError>
     requires ready { IsReady client.old }
-    ensures talked { Talked (R.remaining reader.old) (R.remaining reader.new)
+    ensures talked { Talked pings (R.remaining reader.old) (R.remaining reader.new)
         (W.contents writer.old) (W.contents writer.new) client.old [] client.new }
     ensures screen { OnOk result (screen.new ≡ screen.old) }
     ensures ready { OnOk result (IsReady client.new) }
 {
-    match hear(client, reader, writer) {
+    match hear_or_ping(client, pings, reader, writer) {
         Ok(()) => Ok(()),
         Err(trouble) => {
             show_rest(client, screen, count);
@@ -284,7 +290,8 @@ fn take_event<W: Write, S: Screen>(
 
 /// 0 where each filter has its subscription.
 fn judge(ack: SubAck) -> Result<u64, TalkError>
-    ensures { IfOk result (λ shown. shown ≡ 0) }
+    ensures none { IfOk result (λ shown. shown ≡ 0) }
+    ensures granted { OnOk result (All IsSuccess ack.return_codes) }
 {
     let SubAck {
         return_codes,
@@ -302,13 +309,21 @@ fn judge(ack: SubAck) -> Result<u64, TalkError>
     }
 }
 
-fn first_refusal(codes: &[SubscribeReasonCode]) -> Option<SubscribeReasonCode> {
-    codes.iter().copied().find(|code| !is_success(*code))
+fn first_refusal(codes: &[SubscribeReasonCode]) -> Option<SubscribeReasonCode>
+    ensures { IfNone result (All IsSuccess codes.now) }
+{
+    for code in codes {
+        if !is_success(*code) {
+            return Some(*code);
+        }
+    }
+    None
 }
 
 /// 0 where no filter has its subscription any more.
 fn judge_end(ack: UnsubAck) -> Result<u64, TalkError>
-    ensures { IfOk result (λ shown. shown ≡ 0) }
+    ensures none { IfOk result (λ shown. shown ≡ 0) }
+    ensures ended { OnOk result (All IsEnded ack.reasons) }
 {
     let UnsubAck {
         reasons,
@@ -326,8 +341,15 @@ fn judge_end(ack: UnsubAck) -> Result<u64, TalkError>
     }
 }
 
-fn first_left(reasons: &[UnsubAckReason]) -> Option<UnsubAckReason> {
-    reasons.iter().copied().find(|reason| !is_ended(*reason))
+fn first_left(reasons: &[UnsubAckReason]) -> Option<UnsubAckReason>
+    ensures { IfNone result (All IsEnded reasons.now) }
+{
+    for reason in reasons {
+        if !is_ended(*reason) {
+            return Some(*reason);
+        }
+    }
+    None
 }
 
 fn is_ended(reason: UnsubAckReason) -> bool

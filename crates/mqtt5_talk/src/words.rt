@@ -6,6 +6,7 @@ ghost use Rattle.mqtt5_talk.specs.Connects.{
   value_in,
   IsQuality,
   IsExpiry,
+  IsKeepAlive,
   expiring,
   IsWill,
   login_in,
@@ -68,7 +69,23 @@ fn session_options<'a>(alloc: Global, command: Command<'a>) -> Result<Command<'a
     )
     .short('x')
     .value_parser(value_parser!(u32));
-    command.arg(id)?.arg(keep)?.arg(expiry)
+    command
+        .arg(id)?
+        .arg(keep)?
+        .arg(expiry)?
+        .arg(keep_alive_option(alloc))
+}
+
+fn keep_alive_option<'a>(alloc: Global) -> Arg<'a> {
+    option(
+        alloc,
+        "keep-alive",
+        "keepalive",
+        "SECONDS",
+        "The longest time without a packet of the client",
+    )
+    .short('k')
+    .value_parser(value_parser!(u16))
 }
 
 fn login_options<'a>(alloc: Global, command: Command<'a>) -> Result<Command<'a>, AllocError> {
@@ -135,13 +152,13 @@ fn value_of<'a>(matches: &ArgMatches<'a>, id: &str) -> &'a str
     matches.get_str(id).unwrap_or("")
 }
 
-/// The Connect that the words ask for, whose keep alive is 0. E21.
+/// The Connect that the words ask for. E21.
 pub fn connect_of(alloc: Global, matches: &ArgMatches<'_>) -> Result<Packet, Error>
     ensures { IfOk result (λ connect. IsConnect (found_of matches.now) connect) }
 {
     let goes_on = matches.get_flag("keep");
     let connect = Connect {
-        keep_alive: 0,
+        keep_alive: keep_alive_of(matches),
         client_id: Text::from_str(alloc, value_of(matches, "id"))?,
         clean_start: !goes_on,
         properties: properties_of(alloc, expiry_of(matches, goes_on)),
@@ -149,6 +166,16 @@ pub fn connect_of(alloc: Global, matches: &ArgMatches<'_>) -> Result<Packet, Err
     let will = will_of(alloc, matches)?;
     let login = login_of(alloc, matches)?;
     Ok(Packet::Connect(connect, will, login))
+}
+
+/// The keep alive that the words ask for, in seconds; 0, which is none, without.
+fn keep_alive_of(matches: &ArgMatches<'_>) -> u16
+    ensures { IsKeepAlive (one_text (found_of matches.now) (codes "keep-alive")) result }
+{
+    match matches.get_one::<u16>("keep-alive") {
+        Some(seconds) => seconds,
+        None => 0,
+    }
 }
 
 /// How long the broker keeps the session: as the option says, or for ever where the session is gone on with.

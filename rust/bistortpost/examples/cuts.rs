@@ -47,6 +47,8 @@ fn main() {
             Err(ConnectionError::Io(_)) => {
                 cuts.fetch_add(1, Ordering::SeqCst);
             }
+            // (ejabberd refuses by 128 who comes back while it still hands the session on to the last connection)
+            Err(ConnectionError::ConnectionRefused(128)) => thread::sleep(Duration::from_millis(50)),
             Err(error) => panic!("{error}"),
             Ok(_) => {}
         }

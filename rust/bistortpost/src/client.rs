@@ -3,7 +3,7 @@
 use crate::inbox::{Came, Inbox};
 use crate::mqttbytes::QoS;
 use crate::options::MqttOptions;
-use crate::packets::{Event, Filter, Packet, Publish};
+use crate::packets::{Dropped, Event, Filter, Packet, Publish};
 use crate::properties::Properties;
 use crate::session::{Fault, Session};
 use std::collections::VecDeque;
@@ -33,8 +33,11 @@ pub enum ConnectionError {
     ConnectionRefused(u8),
     /// The broker doesn't answer.
     NetworkTimeout,
-    /// The broker lost the session: so many requests were let go. The connection stands.
-    SessionLost(usize),
+    /// The broker lost the session: these requests were let go, in order. The connection stands.
+    SessionLost(Vec<Dropped>),
+    /// These messages can't be sent again, since they are over the packet size that the broker takes now. The connection
+    /// stands.
+    TooLarge(Vec<Dropped>),
     /// No client is left.
     RequestsDone,
 }
@@ -49,8 +52,11 @@ impl fmt::Display for ConnectionError {
             }
             ConnectionError::ConnectionRefused(code) => write!(f, "the broker refused the connection: {code}"),
             ConnectionError::NetworkTimeout => write!(f, "the broker doesn't answer"),
-            ConnectionError::SessionLost(count) => {
-                write!(f, "the broker lost the session: {count} requests are let go")
+            ConnectionError::SessionLost(dropped) => {
+                write!(f, "the broker lost the session: {} requests are let go", dropped.len())
+            }
+            ConnectionError::TooLarge(dropped) => {
+                write!(f, "{} messages are over the packet size that the broker takes now", dropped.len())
             }
             ConnectionError::RequestsDone => write!(f, "no client is left"),
         }
@@ -397,11 +403,12 @@ impl Connection {
             self.came.push_back(Ok(event));
         }
         let Some(present) = present else { return Ok(()) };
-        let let_go = session.take_up(present, 0)?;
+        let dropped = session.take_up(present, 0)?;
         self.is_acked = true;
         self.was_acked = true;
-        if let_go > 0 {
-            self.came.push_back(Err(ConnectionError::SessionLost(let_go)));
+        if !dropped.is_empty() {
+            let told = if present { ConnectionError::TooLarge } else { ConnectionError::SessionLost };
+            self.came.push_back(Err(told(dropped)));
         }
         while let Some(event) = session.next_event()? {
             self.came.push_back(Ok(event));

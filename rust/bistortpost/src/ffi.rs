@@ -9,7 +9,7 @@ pub(crate) struct Handle {
     pub client: *mut c_void,
 }
 
-/// An event as numbers.
+/// An event, or a request that was let go, as numbers.
 #[repr(C)]
 #[derive(Default)]
 pub(crate) struct EventInfo {
@@ -121,4 +121,30 @@ extern "C" {
     pub(crate) fn mqtt5_client_event_reason(h: *mut Handle, index: usize, reason: *mut u8) -> u32;
     pub(crate) fn mqtt5_client_take_up(h: *mut Handle, session_present: bool, at: u64, count: *mut usize) -> u32;
     pub(crate) fn mqtt5_client_clean(h: *mut Handle, count: *mut usize) -> u32;
+    pub(crate) fn mqtt5_client_next_dropped(
+        h: *mut Handle,
+        dropped: *mut EventInfo,
+        topic: *mut u8,
+        topic_len: usize,
+        payload: *mut u8,
+        payload_len: usize,
+    ) -> u32;
+    pub(crate) fn mqtt5_client_dropped_number(h: *mut Handle, property: u32, number: *mut u32) -> u32;
+    pub(crate) fn mqtt5_client_dropped_bytes(
+        h: *mut Handle,
+        property: u32,
+        buffer: *mut u8,
+        len: usize,
+        count: *mut usize,
+    ) -> u32;
+    pub(crate) fn mqtt5_client_dropped_pair(
+        h: *mut Handle,
+        index: usize,
+        name: *mut u8,
+        name_len: usize,
+        name_count: *mut usize,
+        value: *mut u8,
+        value_len: usize,
+        value_count: *mut usize,
+    ) -> u32;
 }

@@ -27,7 +27,7 @@ mod session;
 
 pub use client::{Client, ClientError, Connection, ConnectionError, Iter};
 pub use options::{LastWill, MqttOptions};
-pub use packets::{Event, Filter, Outgoing, Packet, Publish, RetainForwardRule};
+pub use packets::{Dropped, Event, Filter, Outgoing, Packet, Publish, RetainForwardRule};
 pub use properties::Properties;
 pub use session::{Fault, Session};
 

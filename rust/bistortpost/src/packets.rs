@@ -122,6 +122,15 @@ pub enum Outgoing {
     AwaitAck(u16),
 }
 
+/// What a session let go.
+#[derive(Clone, Debug, PartialEq, Eq)]
+pub enum Dropped {
+    /// A message that awaited its ack; `dup` says whether it was sent before.
+    Publish(Publish),
+    /// The release of this packet identifier, whose message of QoS 2 the broker has.
+    PubRel(u16),
+}
+
 /// What happened in a session.
 #[derive(Clone, Debug, PartialEq, Eq)]
 pub enum Event {

@@ -2,7 +2,7 @@
 
 use crate::ffi::*;
 use crate::options::{LastWill, MqttOptions};
-use crate::packets::{Event, Filter, Outgoing, Packet, Publish, QoS};
+use crate::packets::{Dropped, Event, Filter, Outgoing, Packet, Publish, QoS};
 use crate::properties::{Place, Properties, Value};
 use std::fmt;
 
@@ -25,6 +25,13 @@ impl std::error::Error for Fault {}
 const SMALL_BUFFER: u32 = 203;
 /// How many bytes are taken out of the output at a time.
 const PIECE: usize = 16384;
+
+/// What is told of and taken out: the oldest event, or the oldest request that was let go.
+#[derive(Clone, Copy)]
+enum Oldest {
+    Event,
+    Dropped,
+}
 
 /// A client without sockets and without a clock: bytes that came in and requests go in, bytes to send and events come out.
 /// A moment `at` is a number of seconds, or of another unit.
@@ -176,19 +183,35 @@ impl Session {
         }
     }
 
-    /// After a cut, once the ConnAck's event was taken out: what awaits an ack is sent again, or let go; how many requests
-    /// were let go.
-    pub fn take_up(&mut self, session_present: bool, at: u64) -> Result<usize, Fault> {
+    /// After a cut, once the ConnAck's event was taken out: what awaits an ack is sent again, or let go. What was let go, in
+    /// order: with the broker's session the messages over its limit, without it all.
+    pub fn take_up(&mut self, session_present: bool, at: u64) -> Result<Vec<Dropped>, Fault> {
         let mut count = 0;
         done(unsafe { mqtt5_client_take_up(&mut *self.handle, session_present, at, &mut count) })?;
-        Ok(count)
+        (0..count).map(|_| self.next_dropped()).collect()
     }
 
-    /// Ends the session; how many requests were let go.
-    pub fn clean(&mut self) -> Result<usize, Fault> {
+    /// Ends the session. What was let go, in order.
+    pub fn clean(&mut self) -> Result<Vec<Dropped>, Fault> {
         let mut count = 0;
         done(unsafe { mqtt5_client_clean(&mut *self.handle, &mut count) })?;
-        Ok(count)
+        (0..count).map(|_| self.next_dropped()).collect()
+    }
+
+    fn next_dropped(&mut self) -> Result<Dropped, Fault> {
+        // (a message with neither topic nor payload is taken out at once)
+        let properties = self.properties(Oldest::Dropped)?;
+        let mut info = EventInfo::default();
+        let (mut topic, mut payload) = (Vec::new(), Vec::new());
+        let mut code = self.take_out(Oldest::Dropped, &mut info, &mut topic, &mut payload);
+        if code == Err(Fault(SMALL_BUFFER)) {
+            code = self.take_with_room(Oldest::Dropped, &mut info, &mut topic, &mut payload);
+        }
+        code?;
+        Ok(match info.packet {
+            3 => Dropped::Publish(publish_of(&info, properties, topic, payload)),
+            _ => Dropped::PubRel(info.pkid as u16),
+        })
     }
 
     /// The oldest event, taken out.
@@ -196,24 +219,45 @@ impl Session {
         let reasons = self.reasons();
         let mut properties = Properties::default();
         if !reasons.is_empty() {
-            properties = self.properties()?;
+            properties = self.properties(Oldest::Event)?;
         }
         let mut info = EventInfo::default();
         let (mut topic, mut payload) = (Vec::new(), Vec::new());
-        let mut code = self.take_event(&mut info, &mut topic, &mut payload);
+        let mut code = self.take_out(Oldest::Event, &mut info, &mut topic, &mut payload);
         if code == Err(Fault(SMALL_BUFFER)) {
-            properties = self.properties()?;
-            topic.resize(info.topic_len, 0);
-            payload.resize(info.payload_len, 0);
-            code = self.take_event(&mut info, &mut topic, &mut payload);
+            properties = self.properties(Oldest::Event)?;
+            code = self.take_with_room(Oldest::Event, &mut info, &mut topic, &mut payload);
         }
         code?;
         Ok(event_of(&info, reasons, properties, topic, payload))
     }
 
-    fn take_event(&mut self, info: &mut EventInfo, topic: &mut [u8], payload: &mut [u8]) -> Result<(), Fault> {
+    fn take_out(
+        &mut self,
+        oldest: Oldest,
+        info: &mut EventInfo,
+        topic: &mut [u8],
+        payload: &mut [u8],
+    ) -> Result<(), Fault> {
         let (t, p) = (topic.as_mut_ptr(), payload.as_mut_ptr());
-        done(unsafe { mqtt5_client_next_event(&mut *self.handle, info, t, topic.len(), p, payload.len()) })
+        let next = match oldest {
+            Oldest::Event => mqtt5_client_next_event,
+            Oldest::Dropped => mqtt5_client_next_dropped,
+        };
+        done(unsafe { next(&mut *self.handle, info, t, topic.len(), p, payload.len()) })
+    }
+
+    /// The same with as much room as was told.
+    fn take_with_room(
+        &mut self,
+        oldest: Oldest,
+        info: &mut EventInfo,
+        topic: &mut Vec<u8>,
+        payload: &mut Vec<u8>,
+    ) -> Result<(), Fault> {
+        topic.resize(info.topic_len, 0);
+        payload.resize(info.payload_len, 0);
+        self.take_out(oldest, info, topic, payload)
     }
 
     fn reasons(&mut self) -> Vec<u8> {
@@ -224,67 +268,79 @@ impl Session {
         reasons
     }
 
-    /// The properties of the oldest event.
-    fn properties(&mut self) -> Result<Properties, Fault> {
-        let mut properties = Properties {
-            user_properties: self.pairs()?,
-            subscription_identifiers: self.subscriptions(),
-            ..Properties::default()
-        };
+    /// The properties of the oldest one, which stays.
+    fn properties(&mut self, oldest: Oldest) -> Result<Properties, Fault> {
+        let mut properties = Properties { user_properties: self.pairs(oldest)?, ..Properties::default() };
+        if let Oldest::Event = oldest {
+            properties.subscription_identifiers = self.subscriptions();
+        }
         for (identifier, place) in properties.places() {
             match place {
-                Place::Byte(byte) => *byte = self.number(identifier).map(|number| number as u8),
-                Place::Two(two) => *two = self.number(identifier).map(|number| number as u16),
-                Place::Four(four) => *four = self.number(identifier),
-                Place::Text(text) => *text = self.bytes(identifier)?.map(text_of),
-                Place::Binary(binary) => *binary = self.bytes(identifier)?,
+                Place::Byte(byte) => *byte = self.number(oldest, identifier).map(|number| number as u8),
+                Place::Two(two) => *two = self.number(oldest, identifier).map(|number| number as u16),
+                Place::Four(four) => *four = self.number(oldest, identifier),
+                Place::Text(text) => *text = self.bytes(oldest, identifier)?.map(text_of),
+                Place::Binary(binary) => *binary = self.bytes(oldest, identifier)?,
             }
         }
         Ok(properties)
     }
 
-    fn number(&mut self, identifier: u32) -> Option<u32> {
+    fn number(&mut self, oldest: Oldest, identifier: u32) -> Option<u32> {
         let mut number = 0;
-        (unsafe { mqtt5_client_event_number(&mut *self.handle, identifier, &mut number) } == 0).then_some(number)
+        let tell = match oldest {
+            Oldest::Event => mqtt5_client_event_number,
+            Oldest::Dropped => mqtt5_client_dropped_number,
+        };
+        (unsafe { tell(&mut *self.handle, identifier, &mut number) } == 0).then_some(number)
     }
 
-    fn bytes(&mut self, identifier: u32) -> Result<Option<Vec<u8>>, Fault> {
+    fn bytes(&mut self, oldest: Oldest, identifier: u32) -> Result<Option<Vec<u8>>, Fault> {
         let (mut bytes, mut count) = (Vec::new(), 0);
         let h: *mut Handle = &mut *self.handle;
-        let code = unsafe { mqtt5_client_event_bytes(h, identifier, bytes.as_mut_ptr(), 0, &mut count) };
+        let copy = match oldest {
+            Oldest::Event => mqtt5_client_event_bytes,
+            Oldest::Dropped => mqtt5_client_dropped_bytes,
+        };
+        let code = unsafe { copy(h, identifier, bytes.as_mut_ptr(), 0, &mut count) };
         if code != 0 && code != SMALL_BUFFER {
             return Ok(None);
         }
         bytes.resize(count, 0);
-        done(unsafe { mqtt5_client_event_bytes(h, identifier, bytes.as_mut_ptr(), bytes.len(), &mut count) })?;
+        done(unsafe { copy(h, identifier, bytes.as_mut_ptr(), bytes.len(), &mut count) })?;
         Ok(Some(bytes))
     }
 
-    fn pairs(&mut self) -> Result<Vec<(String, String)>, Fault> {
+    fn pairs(&mut self, oldest: Oldest) -> Result<Vec<(String, String)>, Fault> {
         let mut pairs = Vec::new();
         loop {
             let (mut name, mut value, mut counts) = (Vec::new(), Vec::new(), (0, 0));
-            let code = self.pair(pairs.len(), &mut name, &mut value, &mut counts);
+            let code = self.pair(oldest, pairs.len(), &mut name, &mut value, &mut counts);
             if code != Ok(()) && code != Err(Fault(SMALL_BUFFER)) {
                 return Ok(pairs);
             }
             name.resize(counts.0, 0);
             value.resize(counts.1, 0);
-            self.pair(pairs.len(), &mut name, &mut value, &mut counts)?;
+            self.pair(oldest, pairs.len(), &mut name, &mut value, &mut counts)?;
             pairs.push((text_of(name), text_of(value)));
         }
     }
 
     fn pair(
         &mut self,
+        oldest: Oldest,
         index: usize,
         name: &mut [u8],
         value: &mut [u8],
         counts: &mut (usize, usize),
     ) -> Result<(), Fault> {
         let (n, v) = (name.as_mut_ptr(), value.as_mut_ptr());
+        let copy = match oldest {
+            Oldest::Event => mqtt5_client_event_pair,
+            Oldest::Dropped => mqtt5_client_dropped_pair,
+        };
         let h = &mut *self.handle;
-        done(unsafe { mqtt5_client_event_pair(h, index, n, name.len(), &mut counts.0, v, value.len(), &mut counts.1) })
+        done(unsafe { copy(h, index, n, name.len(), &mut counts.0, v, value.len(), &mut counts.1) })
     }
 
     fn subscriptions(&mut self) -> Vec<usize> {
@@ -334,6 +390,18 @@ fn event_of(
     }
 }
 
+fn publish_of(info: &EventInfo, properties: Properties, topic: Vec<u8>, payload: Vec<u8>) -> Publish {
+    Publish {
+        dup: info.dup,
+        qos: QoS::of(info.qos),
+        retain: info.retain,
+        topic,
+        pkid: info.pkid as u16,
+        payload,
+        properties: (properties != Properties::default()).then_some(properties),
+    }
+}
+
 fn packet_of(
     info: &EventInfo,
     pkid: u16,
@@ -345,15 +413,7 @@ fn packet_of(
     let reason = reasons.first().copied().unwrap_or(0);
     match info.packet {
         2 => Packet::ConnAck { session_present: info.session_present, code: reason, properties },
-        3 => Packet::Publish(Publish {
-            dup: info.dup,
-            qos: QoS::of(info.qos),
-            retain: info.retain,
-            topic,
-            pkid,
-            payload,
-            properties: (properties != Properties::default()).then_some(properties),
-        }),
+        3 => Packet::Publish(publish_of(info, properties, topic, payload)),
         4 => Packet::PubAck { pkid, reason, properties },
         5 => Packet::PubRec { pkid, reason, properties },
         6 => Packet::PubRel { pkid, reason, properties },

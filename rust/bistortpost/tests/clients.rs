@@ -2,7 +2,9 @@
 //! of MQTT 5.0 that stand beside them.
 
 use bistortpost::mqttbytes::QoS;
-use bistortpost::{Client, ConnectionError, Event, Filter, LastWill, MqttOptions, Outgoing, Packet, Properties};
+use bistortpost::{
+    Client, ConnectionError, Dropped, Event, Filter, LastWill, MqttOptions, Outgoing, Packet, Properties, Publish,
+};
 use std::io::{ErrorKind, Read, Write};
 use std::net::{TcpListener, TcpStream};
 use std::sync::mpsc::{self, RecvTimeoutError, Sender};
@@ -210,7 +212,7 @@ fn refusals() {
     // A login that is refused (3.2.2.2); a session that the broker lost (3.2.2.1.1).
     let scripts = vec![
         vec![Gets(CONNECT), Says("20 03 00 86 00")],
-        vec![Gets(CONNECT), Says(CONNACK), Gets("32 07 0001 61 0001 00 78")],
+        vec![Gets(CONNECT), Says(CONNACK), Gets("33 13 0001 61 0001 0C 02 0000000A 26 0001 6B 0001 76 78")],
         vec![Gets(CONNECT_AGAIN), Says(CONNACK)],
     ];
     let (options, following) = broker(scripts);
@@ -221,9 +223,98 @@ fn refusals() {
     let Err(ConnectionError::ConnectionRefused(134)) = connection.recv() else {
         panic!("no refusal");
     };
-    client.publish("a", QoS::AtLeastOnce, false, "x").unwrap();
-    let lost = connection.iter().find(|event| matches!(event, Err(ConnectionError::SessionLost(_))));
-    assert!(matches!(lost, Some(Err(ConnectionError::SessionLost(1)))));
+    let properties = Properties {
+        message_expiry_interval: Some(10),
+        user_properties: vec![("k".to_owned(), "v".to_owned())],
+        ..Properties::default()
+    };
+    client.publish_with_properties("a", QoS::AtLeastOnce, true, "x", properties.clone()).unwrap();
+    let lost = connection.iter().find_map(|event| match event {
+        Err(ConnectionError::SessionLost(dropped)) => Some(dropped),
+        _other => None,
+    });
+    // The message comes back as it would be sent again (3.3.1.1).
+    assert_eq!(
+        lost.unwrap(),
+        [Dropped::Publish(Publish {
+            dup: true,
+            qos: QoS::AtLeastOnce,
+            retain: true,
+            topic: b"a".to_vec(),
+            pkid: 1,
+            payload: b"x".to_vec(),
+            properties: Some(properties),
+        })]
+    );
+    following.join().unwrap();
+}
+
+#[test]
+fn a_release_that_is_let_go() {
+    let _limit = limit("a_release_that_is_let_go");
+    // The broker has the first message, whose PubRec came, and loses the session before its PubComp (4.3.3).
+    let scripts = vec![
+        vec![
+            Gets(CONNECT),
+            Says(CONNACK),
+            Gets("34 07 0001 61 0001 00 78"),
+            Gets("34 07 0001 62 0002 00 79"),
+            Says("50 02 0001"),
+            Gets("62 02 0001"),
+        ],
+        vec![Gets(CONNECT_AGAIN), Says(CONNACK)],
+    ];
+    let (options, following) = broker(scripts);
+    let (client, mut connection) = Client::new(options, 10);
+    client.publish("a", QoS::ExactlyOnce, false, "x").unwrap();
+    client.publish("b", QoS::ExactlyOnce, false, "y").unwrap();
+    let lost = connection.iter().find_map(|event| match event {
+        Err(ConnectionError::SessionLost(dropped)) => Some(dropped),
+        _other => None,
+    });
+    let publish = Publish {
+        dup: true,
+        qos: QoS::ExactlyOnce,
+        topic: b"b".to_vec(),
+        pkid: 2,
+        payload: b"y".to_vec(),
+        ..Publish::default()
+    };
+    assert_eq!(lost.unwrap(), [Dropped::Publish(publish), Dropped::PubRel(1)]);
+    following.join().unwrap();
+}
+
+#[test]
+fn smaller_packets() {
+    let _limit = limit("smaller_packets");
+    // The broker takes packets of 10 bytes now (3.2.2.3.6), so a message of 20 can't be sent again; its identifier is
+    // released (3.7.2.1), and the connection goes on.
+    let scripts = vec![
+        vec![Gets(CONNECT), Says(CONNACK), Gets("32 1A 0001 61 0001 00 7878787878787878787878787878787878787878")],
+        vec![
+            Gets(CONNECT_AGAIN),
+            Says("20 08 01 00 05 27 0000000A"),
+            Gets("62 02 0001"),
+            Says("70 03 0001 92"),
+            Gets("32 07 0001 61 0002 00 79"),
+        ],
+    ];
+    let (options, following) = broker(scripts);
+    let (client, mut connection) = Client::new(options, 10);
+    client.publish("a", QoS::AtLeastOnce, false, [b'x'; 20]).unwrap();
+    let over = connection.iter().find_map(|event| match event {
+        Err(ConnectionError::TooLarge(dropped)) => Some(dropped),
+        _other => None,
+    });
+    let [Dropped::Publish(publish)] = &over.unwrap()[..] else {
+        panic!("another request is let go");
+    };
+    assert_eq!((&publish.topic[..], &publish.payload[..], publish.pkid), (&b"a"[..], &[b'x'; 20][..], 1));
+    client.publish("a", QoS::AtLeastOnce, false, "y").unwrap();
+    let sent = connection.iter().any(|event| matches!(event, Ok(Event::Outgoing(Outgoing::Publish(2)))));
+    assert!(sent);
+    // (the output goes out at the next turn, before the broker ends the connection)
+    while connection.recv().is_ok() {}
     following.join().unwrap();
 }
 

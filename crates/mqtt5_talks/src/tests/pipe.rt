@@ -14,10 +14,11 @@ use std::io;
 use std::io::{ErrorKind, Read, Write};
 use std::test::Fail;
 
-/// `from` has what each read gives between `/`: a piece, `!` for an interruption, `x` for a failure. `room` is a new writer
-/// that takes one byte at a time, is interrupted before each write and each flush, and fails once it has so many; `idle`
-/// one that takes nothing. `write` asks for a publish of "hi" to "a/b" at a quality of service (3.3), or for nothing, and writes; `turn` and `end`
-/// are calls that read. `written` is what the writer has, `left` what isn't written, `unread` what the reader still gives. The rows have a publish and its ack
+/// `from` has what each read gives between `/`: a piece, `!` for an interruption, `x` for a failure, `w` for a wait in vain.
+/// `room` is a new writer that takes one byte at a time, is interrupted before each write and each flush, and fails once it
+/// has so many; `idle` one that takes nothing. With `pings` a talk sends a PingReq at a wait in vain. `write` asks for a publish
+/// of "hi" to "a/b" at a quality of service (3.3), or for nothing, and writes; `turn` and `end` are calls that read. `written`
+/// is what the writer has, `left` what isn't written, `unread` what the reader still gives. The rows have a publish and its ack
 /// (3.4) in pieces; three turns; a publish of QoS 1 under id 7 and the ack of id 5, which awaits none; that publish alone
 /// with writers and readers that fail; limits that are set later, and one of a ConnAck (3.2.2.3.6).
 const CALLS: &str =
@@ -51,6 +52,7 @@ impl Read for Source {
         match piece {
             "!" => Err(ErrorKind::Interrupted.into()),
             "x" => Err(ErrorKind::ConnectionReset.into()),
+            "w" => Err(ErrorKind::WouldBlock.into()),
             digits => decode(digits, buf),
         }
     }
@@ -117,6 +119,8 @@ pub(super) struct Ends {
     pub sink: Sink,
     pub screen: Lines<Vec<u8>>,
     pub capabilities: Capabilities,
+    /// Whether a ping is sent where the source has nothing.
+    pub pings: bool,
 }
 
 fn new_ends(alloc: Global) -> Ends {
@@ -134,7 +138,9 @@ fn new_ends(alloc: Global) -> Ends {
             wildcards: true,
             identifiers: true,
             shared: true,
+            keep_alive: None,
         },
+        pings: false,
     }
 }
 
@@ -208,6 +214,7 @@ fn sets(
         "from" => ends.source.rest = argument,
         "room" => ends.sink = new_sink(alloc, number_of(argument)? as usize),
         "idle" => ends.sink.most = 0,
+        "pings" => ends.pings = true,
         "in" => client.codec.max_incoming_size = Some(number_of(argument)?),
         _out => client.codec.max_outgoing_size = Some(number_of(argument)?),
     }
@@ -274,7 +281,7 @@ fn takes(
 ) -> Result<(), Error> {
     let (name, _argument) = cut(call, ':');
     match name {
-        "from" | "room" | "idle" | "in" | "out" => sets(alloc, client, ends, call)?,
+        "from" | "room" | "idle" | "pings" | "in" | "out" => sets(alloc, client, ends, call)?,
         "ready" | "ids" | "events" | "left" | "shown" | "unread" | "written" => {
             looks(alloc, client, ends, name, text)?;
         }

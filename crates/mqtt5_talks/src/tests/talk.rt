@@ -21,7 +21,7 @@ use std::test::Fail;
 /// shows two messages, `await` waits for two answers of these, and `await_end` reads what comes behind them. The broker's
 /// answers are ConnAcks, some not authorized, one with a maximum packet size of 10, and some without QoS 1, wildcards or
 /// shared subscriptions (3.2), acks of ids 1 and 2, some with quota exceeded (3.4 to 3.7), SubAcks and UnsubAcks, some not
-/// authorized (3.9, 3.11), and a Disconnect for shutting down (3.14). Some have the reason string "no".
+/// authorized (3.9, 3.11), PingResps (3.13), and a Disconnect for shutting down (3.14). Some have the reason string "no".
 const TALKS: &str =
     "publisher; from:2003000000; open; publish:0; close; written=100D00044D5154540502000000000030080003612F62006869E000
 publisher; from:2003008700; open=the broker refused the connection: NotAuthorized; written=100D00044D51545405020000000000
@@ -54,6 +54,11 @@ subscriber; from:20050000022800; open; subscribe=the broker takes no filter with
 subscriber; from:20050000022A00; open; share=the broker takes no shared subscription; written=100D00044D51545405020000000000
 subscriber; from:2003000000/90090001051F00026E6F87; open; subscribe; receive=the broker refused the subscription: NotAuthorized (\"no\"); shown=-
 subscriber; from:2003000000/900400010002/30080003612F62006869/B00400020000; open; subscribe; unsubscribe; await; close; shown=-; written=100D00044D5154540502000000000082090001000003612F2302A2080002000003612F23E000
+publisher; from:2003000000/w/D000/40020001; pings; open; publish:1; close; written=100D00044D51545405020000000000320A0003612F620001006869C000E000
+publisher; from:2003000000/w; open; publish:1=reads: WouldBlock; written=100D00044D51545405020000000000320A0003612F620001006869
+publisher; from:w/2003000000; pings; open=reads: WouldBlock; written=100D00044D51545405020000000000
+subscriber; from:2003000000/w/900400010002/D000/30080003612F62006869/w/D000/30080003612F62006869; pings; open; subscribe; receive; close; written=100D00044D5154540502000000000082090001000003612F2302C000C000E000; shown=612F622068690A612F622068690A
+subscriber; from:2003000000/900400010002/w/w; pings; open; subscribe; receive=Last pingreq isn't acked; written=100D00044D5154540502000000000082090001000003612F2302C000
 subscriber; from:2003000000/900400010002/B00400020087; open; subscribe; unsubscribe; await=the broker refused to end the subscription: NotAuthorized; written=100D00044D5154540502000000000082090001000003612F2302A2080002000003612F23
 ";
 
@@ -90,6 +95,7 @@ fn publishes(
         client,
         ends.capabilities,
         message,
+        ends.pings,
         &mut ends.source,
         &mut ends.sink,
     )
@@ -117,6 +123,7 @@ fn publishes_lines(
         client,
         ends.capabilities,
         &mut lines,
+        ends.pings,
         &mut ends.source,
         &mut ends.sink,
     )
@@ -149,6 +156,7 @@ fn receives(client: &mut Client, ends: &mut Ends) -> Result<(), TalkError>
         client,
         &mut ends.screen,
         2,
+        ends.pings,
         &mut ends.source,
         &mut ends.sink,
     )
@@ -171,7 +179,7 @@ pub(super) fn talks(
         "subscribe" => subscribes(alloc, client, ends, "a/#"),
         "share" => subscribes(alloc, client, ends, "$share/g/a"),
         "unsubscribe" => unsubscribes(alloc, client, ends),
-        "await" => await_subscribed(client, 2, &mut ends.source, &mut ends.sink),
+        "await" => await_subscribed(client, 2, ends.pings, &mut ends.source, &mut ends.sink),
         "receive" => receives(client, ends),
         "await_end" => await_end(&mut ends.source),
         _close => close(client, &mut ends.sink),

@@ -16,6 +16,7 @@ use std::test::Fail;
 /// them.
 const WORDS: &str = "-=100D00044D51545405020000000000 AtMostOnce
 -i me -u u -P p -c=101A00044D51545405C000000511FFFFFFFF00026D65000175000170 AtMostOnce
+-k 60=100D00044D5154540502003C000000 AtMostOnce
 -x 7 --will-topic t --will-payload m --will-qos 2 --will-retain=101900044D5154540536000005110000000700000000017400016D ExactlyOnce
 --help=0
 --nothing=2

@@ -21,7 +21,7 @@ pub loop-preserved : goal.loop-preserved
 loop-preserved g c =
     let none = c.in_ok-capabilities.ensures.none (ap Ok c.in_default.is) in
     record {
-      ready = c.in_ok-hear.ensures.ready;
+      ready = c.hear.ensures.ready;
       none = none;
       codec = rw (c.loop.invariant.none, none, c.loop.invariant.codec) at c.hear.ensures.codec;
       talked = then_talked _ _ _ _ _ _ _ _ _ [] [] c.loop.invariant.talked c.hear.ensures.talked;

@@ -6,5 +6,5 @@ use Rattle.mqtt5_talk.proofs.publishing.await_acks.Given as goal
 abbrev pub invariant-loop : goal.invariant-loop
 invariant-loop g l = record {
   ready : IsReady l.client;
-  talked : Talked (g.R.Read.remaining l.fn.reader) (g.R.Read.remaining l.reader) (g.W.Write.contents l.fn.writer) (g.W.Write.contents l.writer) l.fn.client [] l.client;
+  talked : Talked l.pings (g.R.Read.remaining l.fn.reader) (g.R.Read.remaining l.reader) (g.W.Write.contents l.fn.writer) (g.W.Write.contents l.writer) l.fn.client [] l.client;
 }
