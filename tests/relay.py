@@ -1,9 +1,13 @@
 """Stands between clients and a broker, cuts their connections, and delays what it carries. Usage: relay.py HOST PORT CUTS
-[MILLISECONDS] prints its own port, cuts so often, carries each byte so much later, and goes on until its input ends."""
+[MILLISECONDS] prints its own port, cuts so often once the talk is under way, carries each byte so much later, and goes on until
+its input ends."""
 
 import asyncio
 import random
 import sys
+
+# So many bytes are more than a Connect, a Subscribe and their answers.
+UNDER_WAY = 1000
 
 
 class Relay:
@@ -11,7 +15,7 @@ class Relay:
         self.broker = host, port
         self.delay = delay
         self.ways = set()
-        self.cuts = 0
+        self.cuts = self.carried = 0
 
     async def __aenter__(self):
         self.server = await asyncio.start_server(self.serve, "127.0.0.1", 0)
@@ -55,6 +59,7 @@ class Relay:
                     break
                 writer.write(data)
                 await writer.drain()
+                self.carried += len(data)
         except OSError:
             pass
         finally:
@@ -74,7 +79,8 @@ async def main(host, port, cuts, delay="0"):
         print(relay.port, flush=True)
         while relay.cuts < int(cuts):
             await asyncio.sleep(chance.uniform(0.1, 0.5))
-            relay.cut()
+            if relay.carried > UNDER_WAY:
+                relay.cut()
         await asyncio.to_thread(sys.stdin.read)
 
 
