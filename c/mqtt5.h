@@ -18,7 +18,8 @@ extern "C" {
    both as tables, and mqtt5_names.h their names. */
 enum {
     MQTT5_DONE = 0,
-    /* A publish whose identifier is in use while another waits, or a clean while an event isn't taken out. */
+    /* A publish whose identifier is in use while another waits, a clean while an event isn't taken out, a reason of a
+       Disconnect that only a broker gives, or an Auth of reason 0 or without a method. */
     MQTT5_INVALID_STATE = 1,
     /* An ack of an identifier that awaits none. */
     MQTT5_UNSOLICITED = 2,
@@ -40,7 +41,7 @@ enum {
     MQTT5_SERVER_DISCONNECT = 10,
     MQTT5_CONNECTION_REFUSED = 11,
     MQTT5_OUT_OF_MEMORY = 12,
-    /* A request after mqtt5_client_disconnect, until the next mqtt5_client_connect. */
+    /* A request after a Disconnect, until the next mqtt5_client_connect. */
     MQTT5_DISCONNECTED = 13,
     /* The handle has no client. */
     MQTT5_NO_CLIENT = 200,
@@ -229,9 +230,9 @@ uint32_t mqtt5_client_connect(mqtt5_client *h, const uint8_t *client_id, size_t 
                               bool clean_start, uint32_t session_expiry);
 
 /* The next packet that the program makes takes a list of properties, and empties it, also where it is refused: the next
-   connect, publish, subscribe, subscribe_all or unsubscribe, or the will of set_will. These add to its end: a number, a
-   text or binary data, or a user property. Of a property that may stand once the last one counts. A packet that can't
-   have one of them is refused with 201. */
+   connect, publish, subscribe, subscribe_all, unsubscribe, disconnect_with or auth, or the will of set_will. These add to
+   its end: a number, a text or binary data, or a user property. Of a property that may stand once the last one counts. A
+   packet that can't have one of them is refused with 201. */
 uint32_t mqtt5_client_add_number(mqtt5_client *h, uint32_t property, uint32_t number);
 uint32_t mqtt5_client_add_bytes(mqtt5_client *h, uint32_t property, const uint8_t *bytes, size_t len);
 uint32_t mqtt5_client_add_pair(mqtt5_client *h, const uint8_t *name, size_t name_len, const uint8_t *value,
@@ -291,6 +292,19 @@ uint32_t mqtt5_client_ping(mqtt5_client *h, uint64_t at);
 /* Asks for a Disconnect, which ends the connection. Nothing is sent behind it (MQTT 5.0 section 3.14.4): each later request
    is answered by 13, until the next connect. */
 uint32_t mqtt5_client_disconnect(mqtt5_client *h, uint64_t at);
+
+/* The same for a reason (MQTT 5.0 section 3.14.2.1), as 4, after which the broker publishes the will, with the properties of
+   the list: a session expiry interval (other than 0 only where the Connect said one that isn't 0, section 3.14.2.2.2), a
+   reason string, user properties. 1: only a broker gives that reason. 201: it is no reason of a Disconnect. After a refusal
+   the connection goes on. */
+uint32_t mqtt5_client_disconnect_with(mqtt5_client *h, uint8_t reason, uint64_t at);
+
+/* Extended authentication (MQTT 5.0 section 4.12), which the Connect's properties 21 (the method) and 22 (data) begin. The
+   broker asks for more by an Auth of reason 24, which comes as an event, also before the ConnAck, and is answered by an Auth
+   of reason 24; an Auth of reason 25 begins anew on a connection that stands, and the broker's yes is an Auth of reason 0.
+   The list has the method of the Connect, and the data. 1: reason 0, which only a broker gives, or no method. 201: it is no
+   reason of an Auth. A broker sends none where the Connect names no method: end the connection then, for reason 130. */
+uint32_t mqtt5_client_auth(mqtt5_client *h, uint8_t reason, uint64_t at);
 
 /* Tells of the oldest event, copies topic and payload of a Publish that came, and takes the event out. */
 uint32_t mqtt5_client_next_event(mqtt5_client *h, mqtt5_event *event, uint8_t *topic, size_t topic_len,

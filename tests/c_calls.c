@@ -78,6 +78,9 @@ static int failures;
 #define PINGREQ "\xc0\0"
 #define PINGRESP "\xd0\0"
 #define DISCONNECT "\xe0\0"
+/* Method m and data s; a yes of the broker's. */
+#define AUTH_THAT_GOES_ON "\xf0\x0a\x18\x08\x15\0\x01m\x16\0\x01s"
+#define AUTH_OF_SUCCESS "\xf0\x06\0\x04\x15\0\x01m"
 
 static uint8_t topic[4], payload[4];
 
@@ -149,6 +152,8 @@ static void expect_no_client(mqtt5_client *h, int line) {
         mqtt5_client_pubrec(h, 1, 0),
         mqtt5_client_ping(h, 0),
         mqtt5_client_disconnect(h, 0),
+        mqtt5_client_disconnect_with(h, 4, 0),
+        mqtt5_client_auth(h, 24, 0),
         mqtt5_client_next_event(h, &e, topic, 4, payload, 4),
         mqtt5_client_resume(h, 0),
         mqtt5_client_clean(h, &count),
@@ -394,6 +399,103 @@ static void properties_to_send(void) {
     EXPECT(mqtt5_client_forget(&h), MQTT5_DONE);
     EXPECT(mqtt5_client_connect(&h, BYTES("c"), 60, true, 3600), MQTT5_DONE);
     OUTPUT(&h, CONNECT);
+    EXPECT(mqtt5_client_free(&h), MQTT5_DONE);
+    EXPECT(blocks, 0);
+}
+
+/* A Disconnect with its reason and the properties of the list; one that a client doesn't send leaves all as it was. */
+static void goodbye_for_a_reason(void) {
+    mqtt5_client h = {0};
+    EXPECT(mqtt5_client_new(&h, 10, false), MQTT5_DONE);
+    EXPECT(mqtt5_client_connect(&h, BYTES("c"), 60, true, 3600), MQTT5_DONE);
+    OUTPUT(&h, CONNECT);
+    EXPECT(mqtt5_client_receive(&h, BYTES(CONNACK), 1), MQTT5_DONE);
+    EVENT(&h, 1, 2, 0);
+    EXPECT(mqtt5_client_add_bytes(&h, MQTT5_REASON_STRING, BYTES("r")), MQTT5_DONE);
+    EXPECT(mqtt5_client_disconnect_with(&h, MQTT5_REASON_SERVER_BUSY, 2), MQTT5_INVALID_STATE);
+    EXPECT(mqtt5_client_disconnect_with(&h, 5, 2), MQTT5_BAD_ARGUMENT);
+    EXPECT(mqtt5_client_add_number(&h, MQTT5_RECEIVE_MAXIMUM, 1), MQTT5_DONE);
+    EXPECT(mqtt5_client_disconnect_with(&h, MQTT5_REASON_DISCONNECT_WITH_WILL, 2), MQTT5_BAD_ARGUMENT);
+    OUTPUT(&h, "");
+    EVENT(&h, 0, 0, 0);
+    EXPECT(mqtt5_client_publish(&h, BYTES("a"), BYTES("x"), 0, false, 2), MQTT5_DONE);
+    OUTPUT(&h, "\x30\x05\0\x01" "a" "\0" "x");
+    EVENT(&h, 2, 3, 0);
+
+    EXPECT(mqtt5_client_add_bytes(&h, MQTT5_REASON_STRING, BYTES("r")), MQTT5_DONE);
+    EXPECT(mqtt5_client_add_pair(&h, BYTES("k"), BYTES("v")), MQTT5_DONE);
+    EXPECT(mqtt5_client_disconnect_with(&h, MQTT5_REASON_DISCONNECT_WITH_WILL, 2), MQTT5_DONE);
+    OUTPUT(&h, "\xe0\x0d\x04\x0b\x1f\0\x01r\x26\0\x01k\0\x01v");
+    EVENT(&h, 2, 14, 0);
+    EXPECT(mqtt5_client_disconnect_with(&h, MQTT5_REASON_DISCONNECT_WITH_WILL, 2), MQTT5_DISCONNECTED);
+    EXPECT(mqtt5_client_publish(&h, BYTES("a"), BYTES("x"), 0, false, 2), MQTT5_DISCONNECTED);
+    OUTPUT(&h, "");
+
+    EXPECT(mqtt5_client_connect(&h, BYTES("c"), 60, true, 3600), MQTT5_DONE);
+    OUTPUT(&h, CONNECT);
+    EXPECT(mqtt5_client_receive(&h, BYTES(CONNACK_OF_EIGHT), 3), MQTT5_DONE);
+    EVENT(&h, 1, 2, 0);
+    EXPECT(mqtt5_client_add_bytes(&h, MQTT5_REASON_STRING, BYTES("reason")), MQTT5_DONE);
+    EXPECT(mqtt5_client_disconnect_with(&h, MQTT5_REASON_UNSPECIFIED_ERROR, 3), MQTT5_PACKET_TOO_LARGE);
+    EXPECT(mqtt5_client_disconnect_with(&h, MQTT5_REASON_UNSPECIFIED_ERROR, 3), MQTT5_DONE);
+    OUTPUT(&h, "\xe0\x02\x80\0");
+    EVENT(&h, 2, 14, 0);
+    EXPECT(mqtt5_client_connect(&h, BYTES("c"), 60, true, 3600), MQTT5_DONE);
+    OUTPUT(&h, CONNECT);
+    EXPECT(mqtt5_client_disconnect_with(&h, MQTT5_REASON_SUCCESS, 4), MQTT5_DONE);
+    OUTPUT(&h, DISCONNECT);
+    EXPECT(mqtt5_client_free(&h), MQTT5_DONE);
+    EXPECT(blocks, 0);
+}
+
+/* An exchange of authentication data before the ConnAck, and one that begins anew (4.12). */
+static void extended_authentication(void) {
+    mqtt5_client h = {0};
+    uint8_t reason;
+    EXPECT(mqtt5_client_new(&h, 10, false), MQTT5_DONE);
+    EXPECT(mqtt5_client_add_bytes(&h, MQTT5_AUTHENTICATION_METHOD, BYTES("m")), MQTT5_DONE);
+    EXPECT(mqtt5_client_add_bytes(&h, MQTT5_AUTHENTICATION_DATA, BYTES("\0")), MQTT5_DONE);
+    EXPECT(mqtt5_client_connect(&h, BYTES("c"), 60, true, 3600), MQTT5_DONE);
+    OUTPUT(&h, "\x10\x1b\0\x04MQTT\x05\x02\0\x3c\x0d\x11\0\0\x0e\x10\x15\0\x01m\x16\0\x01\0\0\x01" "c");
+    EXPECT(mqtt5_client_receive(&h, BYTES(AUTH_THAT_GOES_ON), 1), MQTT5_DONE);
+    EVENT_BYTES(&h, MQTT5_AUTHENTICATION_METHOD, "m");
+    EVENT_BYTES(&h, MQTT5_AUTHENTICATION_DATA, "s");
+    EXPECT(mqtt5_client_event_reason(&h, 0, &reason), MQTT5_DONE);
+    EXPECT(reason, MQTT5_REASON_CONTINUE_AUTHENTICATION);
+    EVENT(&h, 1, 15, 0);
+    OUTPUT(&h, "");
+    EXPECT(mqtt5_client_add_bytes(&h, MQTT5_AUTHENTICATION_METHOD, BYTES("m")), MQTT5_DONE);
+    EXPECT(mqtt5_client_add_bytes(&h, MQTT5_AUTHENTICATION_DATA, BYTES("\0\xff")), MQTT5_DONE);
+    EXPECT(mqtt5_client_auth(&h, MQTT5_REASON_CONTINUE_AUTHENTICATION, 1), MQTT5_DONE);
+    OUTPUT(&h, "\xf0\x0b\x18\x09\x15\0\x01m\x16\0\x02\0\xff");
+    EVENT(&h, 2, 15, 0);
+    EXPECT(mqtt5_client_receive(&h, BYTES(CONNACK), 1), MQTT5_DONE);
+    EVENT(&h, 1, 2, 0);
+
+    EXPECT(mqtt5_client_add_bytes(&h, MQTT5_AUTHENTICATION_METHOD, BYTES("m")), MQTT5_DONE);
+    EXPECT(mqtt5_client_auth(&h, MQTT5_REASON_REAUTHENTICATE, 2), MQTT5_DONE);
+    OUTPUT(&h, "\xf0\x06\x19\x04\x15\0\x01m");
+    EVENT(&h, 2, 15, 0);
+    EXPECT(mqtt5_client_receive(&h, BYTES(AUTH_OF_SUCCESS), 2), MQTT5_DONE);
+    EXPECT(mqtt5_client_event_reason(&h, 0, &reason), MQTT5_DONE);
+    EXPECT(reason, MQTT5_REASON_SUCCESS);
+    EVENT(&h, 1, 15, 0);
+
+    /* Without a method, of the broker's reason, of no reason, and with what an Auth hasn't. */
+    EXPECT(mqtt5_client_auth(&h, MQTT5_REASON_CONTINUE_AUTHENTICATION, 3), MQTT5_INVALID_STATE);
+    EXPECT(mqtt5_client_add_bytes(&h, MQTT5_AUTHENTICATION_DATA, BYTES("d")), MQTT5_DONE);
+    EXPECT(mqtt5_client_auth(&h, MQTT5_REASON_CONTINUE_AUTHENTICATION, 3), MQTT5_INVALID_STATE);
+    EXPECT(mqtt5_client_add_bytes(&h, MQTT5_AUTHENTICATION_METHOD, BYTES("m")), MQTT5_DONE);
+    EXPECT(mqtt5_client_auth(&h, MQTT5_REASON_SUCCESS, 3), MQTT5_INVALID_STATE);
+    EXPECT(mqtt5_client_auth(&h, 1, 3), MQTT5_BAD_ARGUMENT);
+    EXPECT(mqtt5_client_add_number(&h, MQTT5_RECEIVE_MAXIMUM, 1), MQTT5_DONE);
+    EXPECT(mqtt5_client_auth(&h, MQTT5_REASON_CONTINUE_AUTHENTICATION, 3), MQTT5_BAD_ARGUMENT);
+    OUTPUT(&h, "");
+    EVENT(&h, 0, 0, 0);
+    EXPECT(mqtt5_client_disconnect(&h, 4), MQTT5_DONE);
+    OUTPUT(&h, DISCONNECT);
+    EXPECT(mqtt5_client_add_bytes(&h, MQTT5_AUTHENTICATION_METHOD, BYTES("m")), MQTT5_DONE);
+    EXPECT(mqtt5_client_auth(&h, MQTT5_REASON_CONTINUE_AUTHENTICATION, 4), MQTT5_DISCONNECTED);
     EXPECT(mqtt5_client_free(&h), MQTT5_DONE);
     EXPECT(blocks, 0);
 }
@@ -887,7 +989,11 @@ static bool all_calls(mqtt5_client *h, uint32_t *code) {
         && !(*code = mqtt5_client_ping(h, 1))
         && !(*code = mqtt5_client_resume(h, 1))
         && !(*code = mqtt5_client_take_up(h, true, 1, &count))
-        && !(*code = mqtt5_client_disconnect(h, 1))
+        && !(*code = mqtt5_client_add_bytes(h, MQTT5_AUTHENTICATION_METHOD, BYTES("m")))
+        && !(*code = mqtt5_client_receive(h, BYTES(AUTH_THAT_GOES_ON), 1))
+        && !(*code = mqtt5_client_auth(h, MQTT5_REASON_CONTINUE_AUTHENTICATION, 1))
+        && !(*code = mqtt5_client_add_bytes(h, MQTT5_REASON_STRING, BYTES("r")))
+        && !(*code = mqtt5_client_disconnect_with(h, MQTT5_REASON_DISCONNECT_WITH_WILL, 1))
         && !(*code = mqtt5_client_forget(h))
         && !(*code = mqtt5_client_output(h, buffer, sizeof buffer, &count))
         && !(*code = mqtt5_client_sent(h, count));
@@ -958,6 +1064,8 @@ int main(void) {
     each_call();
     properties_that_came();
     properties_to_send();
+    goodbye_for_a_reason();
+    extended_authentication();
     empty_topics();
     several_filters();
     names_of_the_header();
@@ -971,6 +1079,6 @@ int main(void) {
     version();
     misuse();
     refused();
-    if (!failures) printf("each call of c/mqtt5.h, acks by hand, a cut, a lost session, null pointers, and misuse: as they should be\n");
+    if (!failures) printf("each call of c/mqtt5.h, a goodbye for a reason, extended authentication, acks by hand, a cut, a lost session, null pointers, and misuse: as they should be\n");
     return failures != 0;
 }

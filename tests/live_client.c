@@ -37,7 +37,7 @@ typedef struct {
     uint64_t written;
     uint8_t codes[128]; /* of the last SubAck */
     size_t code_count, given_up;
-    int acked, subscribed, pings;
+    int acked, subscribed, pings, proven;
     message came[64];
     size_t taken, count;
 } peer;
@@ -161,6 +161,17 @@ static size_t codes_of(peer *p, uint8_t codes[128]) {
     return count;
 }
 
+/* Answers the letter of the broker's Auth, which is the oldest event, by the next one. */
+static void answer_auth(peer *p) {
+    uint8_t letter;
+    size_t count;
+    is(mqtt5_client_event_bytes(&p->client, MQTT5_AUTHENTICATION_DATA, &letter, 1, &count), 0, "a letter");
+    letter++;
+    is(mqtt5_client_add_bytes(&p->client, MQTT5_AUTHENTICATION_METHOD, bytes("letters"), 7), 0, "add_bytes");
+    is(mqtt5_client_add_bytes(&p->client, MQTT5_AUTHENTICATION_DATA, &letter, 1), 0, "add_bytes");
+    is(mqtt5_client_auth(&p->client, MQTT5_REASON_CONTINUE_AUTHENTICATION, 0), 0, "auth");
+}
+
 /* Takes the oldest event out; false where there is none. */
 static bool take_event(peer *p) {
     mqtt5_event e;
@@ -168,6 +179,8 @@ static bool take_event(peer *p) {
     message m = properties_of(p);
     size_t code_count = codes_of(p, codes);
     uint32_t seconds;
+    /* (of what comes an Auth alone has this reason) */
+    if (code_count == 1 && codes[0] == MQTT5_REASON_CONTINUE_AUTHENTICATION) answer_auth(p);
     if (mqtt5_client_event_number(&p->client, MQTT5_SERVER_KEEP_ALIVE, &seconds)) seconds = 0;
     is(mqtt5_client_next_event(&p->client, &e, (uint8_t *)m.topic, sizeof m.topic - 1, (uint8_t *)m.payload,
                                sizeof m.payload - 1), 0, "next_event");
@@ -190,6 +203,7 @@ static bool take_event(peer *p) {
         p->subscribed++;
     }
     p->pings += e.packet == MQTT5_PINGRESP;
+    p->proven += e.packet == MQTT5_AUTH && codes[0] == MQTT5_REASON_SUCCESS;
     return true;
 }
 
@@ -334,23 +348,24 @@ static void run_login(void) {
     printf("refused: %s (%u)\n", mqtt5_reason_name((uint8_t)two.refusal), two.refusal);
 }
 
-static void set_will(peer *p, const char *payload) {
+static void set_will(peer *p, const char *topic, const char *payload) {
     add_properties(p, "a/c/back");
-    is(mqtt5_client_set_will(&p->client, bytes("a/c/will"), 8, bytes(payload), strlen(payload), 1, false), 0, "set_will");
+    is(mqtt5_client_set_will(&p->client, bytes(topic), strlen(topic), bytes(payload), strlen(payload), 1, false), 0,
+       "set_will");
 }
 
 static void run_will(void) {
     begin(&one, (settings){.id = "c-heir"});
     subscribe(&one, "a/c/will", 1);
     make(&two);
-    set_will(&two, "cut off");
+    set_will(&two, "a/c/will", "cut off");
     begin_over(&two, (settings){.id = "c-leaves"}, dial());
     close(two.s);
     message *m = next_of(&one);
     is_text(m->payload, "cut off", "a will");
     has_properties(m, "a/c/back");
     is(mqtt5_client_forget(&two.client), 0, "forget");
-    set_will(&two, "disconnected");
+    set_will(&two, "a/c/will", "disconnected");
     begin_over(&two, (settings){.id = "c-leaves"}, dial());
     is(two.connected, true, "a connection");
     leave(&two);
@@ -359,6 +374,46 @@ static void run_will(void) {
     publish(&one, "a/c/will", "nothing else", 1, false);
     is_text(next_of(&one)->payload, "nothing else", "what comes after a Disconnect");
     leave(&one);
+}
+
+static void run_goodbye(void) {
+    begin(&one, (settings){.id = "c-stays"});
+    subscribe(&one, "a/c/goodbye", 1);
+    make(&two);
+    set_will(&two, "a/c/goodbye", "left");
+    begin_over(&two, (settings){.id = "c-goes"}, dial());
+    add_text(&two, MQTT5_REASON_STRING, "gone");
+    is(mqtt5_client_disconnect_with(&two.client, MQTT5_REASON_DISCONNECT_WITH_WILL, 0), 0, "disconnect_with");
+    flush_output(&two);
+    close(two.s);
+    is(mqtt5_client_free(&two.client), 0, "free");
+    is_text(next_of(&one)->payload, "left", "a will");
+    leave(&one);
+}
+
+/* The method, and the first letter. */
+static void begin_proof(peer *p, const char *letter) {
+    add_text(p, MQTT5_AUTHENTICATION_METHOD, "letters");
+    add_text(p, MQTT5_AUTHENTICATION_DATA, letter);
+}
+
+static void run_proof(void) {
+    make(&one);
+    begin_proof(&one, "a");
+    begin_over(&one, (settings){.id = "c-proves"}, dial());
+    is(one.connected, true, "a connection with a proof");
+    subscribe(&one, "a/c/proof", 1);
+    begin_proof(&one, "d");
+    is(mqtt5_client_auth(&one.client, MQTT5_REASON_REAUTHENTICATE, 0), 0, "auth");
+    AWAIT(&one, one.proven, "an Auth of success");
+    publish(&one, "a/c/proof", "proven", 1, false);
+    is_text(next_of(&one)->payload, "proven", "a message");
+    leave(&one);
+    make(&two);
+    begin_proof(&two, "x");
+    begin_over(&two, (settings){.id = "c-fails"}, dial());
+    is(two.connected, false, "a connection without a proof");
+    printf("refused: %s (%u)\n", mqtt5_reason_name((uint8_t)two.refusal), two.refusal);
 }
 
 static void run_response(void) {
@@ -554,9 +609,9 @@ int main(int argc, char **argv) {
     const struct {
         const char *name;
         void (*run)(void);
-    } rows[] = {{"login", run_login}, {"will", run_will}, {"response", run_response}, {"expiry", run_expiry},
-                {"filters", run_filters}, {"keep_alive", run_keep_alive}, {"kept", run_kept}, {"lost", run_lost},
-                {"tls", run_tls}};
+    } rows[] = {{"login", run_login}, {"will", run_will}, {"goodbye", run_goodbye}, {"proof", run_proof},
+                {"response", run_response}, {"expiry", run_expiry}, {"filters", run_filters},
+                {"keep_alive", run_keep_alive}, {"kept", run_kept}, {"lost", run_lost}, {"tls", run_tls}};
     if (argc != 6) return 2;
     host = argv[2], port = argv[3], user = argv[4], password = argv[5];
     for (size_t i = 0; i < sizeof rows / sizeof *rows; i++) {

@@ -51,6 +51,12 @@ class Blocking:
     async def unsubscribe(self, *words):
         await asyncio.to_thread(self.client.unsubscribe, *words)
 
+    async def disconnect(self, *words):
+        await asyncio.to_thread(self.client.disconnect, *words)
+
+    async def reauthenticate(self, *words):
+        return await asyncio.to_thread(self.client.reauthenticate, *words)
+
     async def next_message(self, timeout):
         message = await asyncio.to_thread(next, self.client.messages(timeout), None)
         if message is None:
@@ -98,6 +104,36 @@ async def will():
         await asyncio.sleep(0.5)
         await heir.publish(topic("will"), b"nothing else", 1)
         assert (message := await next_of(heir)).payload == b"nothing else", message
+
+
+async def goodbye():
+    """A Disconnect with Will Message, after which the will is published."""
+    async with client("stays") as stays:
+        await stays.subscribe(topic("goodbye"), 1)
+        async with client("goes", will=Will(topic("goodbye"), b"left", 1)) as goes:
+            await goes.disconnect(4, Properties(reason_string="gone"))
+        assert (message := await next_of(stays)).payload == b"left", message
+
+
+def proving(first):
+    """Extended authentication by letters: each is answered by the next one."""
+    return {
+        "properties": Properties(authentication_method="letters", authentication_data=first),
+        "authenticate": lambda came: bytes([came.authentication_data[0] + 1]),
+    }
+
+
+async def proof():
+    async with client("proves", **proving(b"a")) as proves:
+        await proves.subscribe(topic("proof"), 1)
+        assert (last := await proves.reauthenticate(b"d")).authentication_method == "letters", last
+        await proves.publish(topic("proof"), b"proven", 1)
+        assert (message := await next_of(proves)).payload == b"proven", message
+    try:
+        async with client("fails", **proving(b"x")):
+            raise AssertionError("a connection without a proof")
+    except Refused as refused:
+        print(f"refused: {refused.name} ({refused.reason})")
 
 
 async def response():
@@ -313,7 +349,9 @@ async def qualities():
         await c.unsubscribe(topic("qualities/+"))
 
 
-ROWS = [login, will, response, expiry, filters, thirty, keep_alive, kept, lost, tls, cuts, leaving, qualities]
+ROWS = [
+    login, will, goodbye, proof, response, expiry, filters, thirty, keep_alive, kept, lost, tls, cuts, leaving, qualities
+]  # fmt: skip
 
 
 async def main():

@@ -517,6 +517,62 @@ class Clients(unittest.TestCase):
         with mock.patch.object(asyncio, "open_connection", open_connection):
             runs(use, [(GETS, CONNECT), (SAYS, CONNACK), (GETS, DISCONNECT)])
 
+    def test_goodbye_for_a_reason(self):
+        # Disconnect with Will Message, and a reason string (3.14.2); server busy is the broker's reason, 5 none.
+        script = [(GETS, CONNECT), (SAYS, CONNACK), (GETS, "30 05 0001 61 00 78"), (GETS, "E0 06 04 04 1F 0001 72")]
+        with Broker(script) as broker, Client("127.0.0.1", broker.port, identifier="c") as client:
+            for reason, name in (137, "InvalidState"), (5, "BadArgument"):
+                with self.assertRaises(Fault) as fault:
+                    client.disconnect(reason)
+                self.assertEqual(fault.exception.name, name)
+            with self.assertRaises(Fault):
+                client.disconnect(4, Properties(receive_maximum=1))
+            client.publish("a", b"x")
+            client.disconnect(4, Properties(reason_string="r"))
+            with self.assertRaises(ConnectionLost):
+                client.publish("a", b"x", 1)
+
+    def test_authentication(self):
+        # Method "m": data 1, answered by 2 and asked again by 3, answered by 4; the last word of the broker is 5 (4.12). Then
+        # it begins anew with 6, and is answered by 7, by which the broker asks once more (4.12.1).
+        connect = "10 1B 0004 4D515454 05 02 003C 0D 11 00000000 15 0001 6D 16 0001 01 0001 63"
+        script = [
+            (GETS, connect), (SAYS, "F0 0A 18 08 15 0001 6D 16 0001 02"), (GETS, "F0 0A 18 08 15 0001 6D 16 0001 03"),
+            (SAYS, "F0 0A 18 08 15 0001 6D 16 0001 04"), (GETS, "F0 0A 18 08 15 0001 6D 16 0001 05"),
+            (SAYS, "20 0B 00 00 08 15 0001 6D 16 0001 05"), (GETS, "F0 0A 19 08 15 0001 6D 16 0001 06"),
+            (SAYS, "F0 0A 18 08 15 0001 6D 16 0001 07"), (GETS, "F0 0A 18 08 15 0001 6D 16 0001 08"),
+            (SAYS, "F0 0A 00 08 15 0001 6D 16 0001 09"), (GETS, DISCONNECT),
+        ]  # fmt: skip
+        settings = {
+            "properties": Properties(authentication_method="m", authentication_data=b"\1"),
+            "authenticate": lambda came: bytes([came.authentication_data[0] + 1]),
+        }
+        with Broker(script) as broker, Client("127.0.0.1", broker.port, identifier="c", **settings) as client:
+            self.assertEqual(client.connack.authentication_data, b"\5")
+            self.assertEqual(client.reauthenticate(b"\6").authentication_data, b"\t")
+
+    def test_authentication_anew_is_refused(self):
+        # The broker ends the connection: not authorized (4.12.1, 3.14.2.1).
+        connect = "10 17 0004 4D515454 05 02 003C 09 11 00000000 15 0001 6D 0001 63"
+        script = [(GETS, connect), (SAYS, CONNACK), (GETS, "F0 06 19 04 15 0001 6D"), (SAYS, "E0 01 87")]
+        settings = {"properties": Properties(authentication_method="m"), "authenticate": lambda _: b""}
+        with Broker(script) as broker, Client("127.0.0.1", broker.port, identifier="c", **settings) as client:
+            with self.assertRaises(Refused) as refused:
+                client.reauthenticate()
+            self.assertEqual(refused.exception.name, "Not authorized")
+
+    def test_auth_that_nobody_asked_for(self):
+        # No method was named, so an Auth is a protocol error (4.12): before the ConnAck, and after it.
+        refused = [(SAYS, "F0 0A 18 08 15 0001 6D 16 0001 02"), (GETS, "E0 02 82 00")]
+        with Broker([(GETS, CONNECT), *refused]) as broker:
+            with self.assertRaisesRegex(ConnectionLost, "no method was named"):
+                Client("127.0.0.1", broker.port, identifier="c").__enter__()
+        script = [(GETS, CONNECT), (SAYS, CONNACK), (GETS, "30 05 0001 61 00 78"), *refused]
+        with Broker(script) as broker, Client("127.0.0.1", broker.port, identifier="c", reconnect=False) as client:
+            client.publish("a", b"x")
+            with self.assertRaisesRegex(ConnectionLost, "no method was named"):
+                next(client.messages(PATIENCE))
+
     def test_asyncio(self):
         # Two publishes under way at once; a ping where nothing was sent for the keep alive of 5 seconds (3.12).
         connect = "10 13 0004 4D515454 05 02 0005 05 11 00000000 0001 63"

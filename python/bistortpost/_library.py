@@ -15,7 +15,10 @@ ABSENT = 204
 
 # The kinds of an event, and the types of packets (MQTT 5.0 section 2.1.2).
 CAME = 1
-CONNACK, PUBLISH, PUBACK, PUBREC, PUBCOMP, SUBACK, UNSUBACK, DISCONNECT = 2, 3, 4, 5, 7, 9, 11, 14
+CONNACK, PUBLISH, PUBACK, PUBREC, PUBCOMP, SUBACK, UNSUBACK, DISCONNECT, AUTH = 2, 3, 4, 5, 7, 9, 11, 14, 15
+
+# Reason codes (2.4): of an exchange of authentication data that goes on, of one that begins anew, and of a protocol error.
+CONTINUE, REAUTHENTICATE, PROTOCOL_ERROR = 24, 25, 130
 
 
 class Handle(c.Structure):
@@ -57,7 +60,8 @@ CALLS = {
     "next_id": [c.POINTER(c.c_uint16)],
     "may_publish": [c.POINTER(c.c_bool)],
     "ping": MOMENT,
-    "disconnect": MOMENT,
+    "disconnect_with": [c.c_uint8] + MOMENT,
+    "auth": [c.c_uint8] + MOMENT,
     "next_event": [c.POINTER(EventInfo)] + BYTES + BYTES,
     "event_number": [c.c_uint32, c.POINTER(c.c_uint32)],
     "event_bytes": [c.c_uint32] + BYTES + COUNT,

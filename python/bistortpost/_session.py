@@ -116,8 +116,15 @@ class Session:
     def ping(self, at):
         self._done("ping", at)
 
-    def disconnect(self, at):
-        self._done("disconnect", at)
+    def disconnect(self, reason, properties, at):
+        self._begin()
+        self._add(properties)
+        self._done("disconnect_with", reason, at)
+
+    def auth(self, reason, properties, at):
+        self._begin()
+        self._add(properties)
+        self._done("auth", reason, at)
 
     def take_up(self, session_present, at) -> list[Dropped]:
         """What the session lets go on the new connection: with the broker's session the messages over its limit, without it

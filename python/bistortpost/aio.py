@@ -6,7 +6,7 @@ import asyncio
 import ssl
 import time
 from collections import deque
-from collections.abc import AsyncIterator
+from collections.abc import AsyncIterator, Callable
 from dataclasses import replace
 
 from . import _library as library
@@ -21,9 +21,9 @@ FIRST_PAUSE, LAST_PAUSE = 1, 60
 # How long a broker may take to answer a Connect, in seconds.
 PATIENCE = 20
 # The reason codes of what passes by itself, after which a connection is opened again (MQTT 5.0 sections 2.4, 4.13): a normal
-# end, server unavailable, server busy, server shutting down, keep alive timeout, message rate too high, connection rate
-# exceeded, maximum connect time.
-PASSING = {0, 136, 137, 139, 141, 150, 159, 160}
+# end, unspecified error (ejabberd's to a client that comes back while it still hands the session on), server unavailable,
+# server busy, server shutting down, keep alive timeout, message rate too high, connection rate exceeded, maximum connect time.
+PASSING = {0, 128, 136, 137, 139, 141, 150, 159, 160}
 # Why a client ends that was asked to.
 DISCONNECTED = ConnectionLost("disconnected")
 
@@ -58,6 +58,9 @@ class Client:
     `keep_alive` is in seconds, at least 5. With `clean_start` off the broker's session of this `identifier` is gone on
     with, and kept for `session_expiry_interval` seconds without a connection. `properties` are those of the Connect.
     `tls` is True, or a context of `ssl`. With `reconnect` off a connection that is lost isn't opened again.
+
+    Extended authentication (MQTT 5.0 section 4.12): `properties` name its method and have its first data, and `authenticate`
+    is called with the properties of each Auth that the broker sends to go on, and answers the data of the next one.
     """
 
     def __init__(
@@ -76,6 +79,7 @@ class Client:
         tls: bool | ssl.SSLContext = False,
         reconnect: bool = True,
         limit: int = 65535,
+        authenticate: Callable[[Properties], bytes] | None = None,
     ):
         self._address = hostname, port or (8883 if tls else 1883)
         self._tls = ssl.create_default_context() if tls is True else tls or None
@@ -97,6 +101,9 @@ class Client:
         self._pause = FIRST_PAUSE
         self._keep_alive = keep_alive
         self._running: asyncio.Task[None] | None = None
+        self._authenticate = authenticate
+        # What awaits the end of an exchange of authentication data that began anew.
+        self._proven: asyncio.Future[Properties] | None = None
         self.connack = Properties()
 
     # ---- The life of a client.
@@ -110,10 +117,12 @@ class Client:
     async def __aexit__(self, *_):
         await self.disconnect()
 
-    async def disconnect(self):
-        """Ends the connection by a Disconnect. A client that ended does nothing."""
+    async def disconnect(self, reason: int = 0, properties: Properties | None = None):
+        """Ends the connection by a Disconnect with this reason code, as 4 after which the broker publishes the will. A client
+        that ended does nothing. Fault of a reason that only a broker gives, and of a property that a Disconnect can't have:
+        the connection then goes on."""
         if self._writer:
-            self._session.disconnect(_now())
+            self._session.disconnect(reason, properties, _now())
             self._flush()
             await self._drain()
         self._end(DISCONNECTED)
@@ -172,6 +181,18 @@ class Client:
 
         what = f"the end of the subscription to {topic_filter}"
         await self._answer_of(_Request(what, library.UNSUBACK, ask, keep=keep))
+
+    async def reauthenticate(self, data: bytes | None = None) -> Properties:
+        """Authenticates anew (MQTT 5.0 section 4.12.1), with this data first, and answers the properties of the Auth by which
+        the broker says yes. Where it says no, it ends the connection: Refused, ConnectionLost."""
+        await self._until_connected()
+        if not self._proven:
+            self._say_auth(library.REAUTHENTICATE, data)
+            self._flush()
+            self._proven = asyncio.get_running_loop().create_future()
+            # (nobody may wait for it)
+            self._proven.add_done_callback(lambda proven: proven.cancelled() or proven.exception())
+        return await asyncio.shield(self._proven)
 
     async def next_message(self, timeout: float | None = None) -> Message | None:
         """The next message that comes; None once the client ended by `disconnect`, ConnectionLost where it is lost.
@@ -265,6 +286,7 @@ class Client:
             except MqttError as error:
                 lost = error
             self._writer = None
+            self._is_proven(lost)
             is_refused = isinstance(lost, Refused) and lost.reason not in PASSING
             if not self._reconnect or not self._connected.done() or is_refused:
                 return lost
@@ -297,6 +319,9 @@ class Client:
             if not data:
                 raise ConnectionLost("the broker closed the connection")
             events = self._take(data)
+            # (an exchange of authentication data comes before the ConnAck)
+            while events and events[0].packet == library.AUTH:
+                self._go_on(events.pop(0), writer)
         connack = events[0]
         if connack.packet != library.CONNACK:
             raise ConnectionLost("the broker's first packet is no ConnAck")
@@ -359,6 +384,33 @@ class Client:
         if self._writer:
             await self._writer.drain()
 
+    # ---- Extended authentication.
+
+    def _say_auth(self, reason, data):
+        method = self._settings.properties.authentication_method if self._settings.properties else None
+        self._session.auth(reason, Properties(authentication_method=method, authentication_data=data), _now())
+
+    def _go_on(self, event, writer):
+        """Answers the broker's Auth, on this connection."""
+        try:
+            if not self._authenticate:
+                self._session.disconnect(library.PROTOCOL_ERROR, None, _now())
+                raise ConnectionLost("the broker sends an Auth, and no method was named")
+            self._say_auth(library.CONTINUE, self._authenticate(event.properties))
+        finally:
+            writer.write(self._session.output())
+            self._written = time.monotonic()
+
+    def _is_proven(self, answer: Properties | MqttError):
+        """Tells who waits for it how an authentication ended that began anew."""
+        proven, self._proven = self._proven, None
+        if not proven or proven.done():
+            return
+        if isinstance(answer, MqttError):
+            proven.set_exception(answer)
+        else:
+            proven.set_result(answer)
+
     # ---- What comes.
 
     def _take(self, data) -> list[Event]:
@@ -385,8 +437,16 @@ class Client:
         for event in events:
             if event.message:
                 self._messages.put_nowait(event.message)
+            elif event.packet == library.AUTH:
+                self._hear_auth(event)
             else:
                 self._answer(event)
+
+    def _hear_auth(self, event):
+        if event.reasons[0] == library.CONTINUE:
+            self._go_on(event, self._writer)
+        else:
+            self._is_proven(event.properties)
 
     def _answer(self, event):
         request = self._awaited.get(event.pkid)
@@ -416,6 +476,7 @@ class Client:
         self._has_changed()
         for request in [*self._awaited.values(), *self._waiting]:
             request.fail(why)
+        self._is_proven(why)
         if self._connected and not self._connected.done():
             self._connected.set_exception(why)
 

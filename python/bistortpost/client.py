@@ -66,6 +66,13 @@ class Client:
     def unsubscribe(self, topic_filter: str, properties=None):
         self._do(self._client.unsubscribe(topic_filter, properties))
 
+    def disconnect(self, reason: int = 0, properties=None):
+        """Ends the connection for a reason. At the end of `with` that is done by itself, for the normal one."""
+        self._do(self._client.disconnect(reason, properties))
+
+    def reauthenticate(self, data: bytes | None = None) -> Properties:
+        return self._do(self._client.reauthenticate(data))
+
     def messages(self, timeout: float | None = None) -> Iterator[Message]:
         """The messages that come, in order. Ends where none comes for `timeout` seconds, or the client ends."""
         while True:

@@ -1,8 +1,8 @@
 -- This file serves the logic alone: how an export shows what it left of a handle's client.
-use Rattle.std.proofs.Common.{◌≡◌, ℕ, List, Option, None, Some, is_some, subst, ap, ◌∙◌, inl, inr, refl}
+use Rattle.std.proofs.Common.{◌≡◌, ℕ, List, Option, None, Some, Ok, Err, is_some, subst, ap, ◌∙◌, inl, inr, refl}
 use lib.Dec.{T}
 use mathlib.Core.Bool.{Bool, not}
-use Rattle.std.specs.Prelude.{unwrap_or}
+use Rattle.std.specs.Prelude.{unwrap_or, OnOk}
 use Rattle.mqtt5_inflight.specs.declared.event.Request.{Request}
 use Rattle.mqtt5_client.specs.declared.client.Client.{Client}
 use Rattle.mqtt5_holder.specs.declared.holder.Holder.{Holder}
@@ -83,3 +83,8 @@ none_let_go was is answered = record {
 pub same_filters : (before : Option Holder) → filters_in (emptied before) ≡ filters_in before
 same_filters None = refl
 same_filters (Some h) = refl
+
+-- what holds in any case holds where a call is done
+pub on_ok : {P : Type 0} (outcome : Outcome) → P → OnOk outcome P
+on_ok (Ok done) p = p
+on_ok (Err fault) p = tt

@@ -37,8 +37,8 @@ abbrev pub dropped_after : Outcome → List Request → List Request → List Re
 dropped_after (Ok done) gone before = gone
 dropped_after (Err fault) gone before = before
 
--- The same as Called of a call that may let requests go, but for the list of these: where it is done
--- that is gone, of the client before, in its order; else it is as before.
+-- The same as Called of a call that may let requests go, but for the list of these: where it is
+-- done that is gone, of the client before, in its order; else it is as before.
 pub record LetsGo (Does : Client → Outcome → Client → Type 0) (gone : Client → List Request)
     (before : Option Holder) (code : ℕ) (after : Option Holder) : Type 0 where
   pub none : before ≡ None → (code ≡ no_client) × (after ≡ None)

@@ -1,6 +1,7 @@
 -- What a call answers that asks for the oldest of the requests that were let go.
-use Rattle.std.specs.Prelude.{◌≡◌, ℕ, Bool, true, false, List, [], drop}
-use Rattle.std.specs.Prelude.{Option, None, Some, IsSome, IfSome, slice_get}
+use Rattle.std.specs.Prelude.{◌≡◌, ℕ, Bool, true, false, List, [], drop, length, Option, IsSome}
+use Rattle.std.specs.Prelude.{IfSome, slice_get}
+use Rattle.std.specs.Option.{option_map_or, option_and_then}
 use Rattle.mqtt5_base.specs.Texts.{Utf8}
 use Rattle.mqtt5_inflight.specs.declared.event.Request.{Request}
 use Rattle.mqtt5_inflight.specs.declared.event.Request.TheVariants as requests
@@ -27,22 +28,19 @@ payload_asked (requests.Publish p) = p.payload
 payload_asked request = []
 
 -- the same of the oldest one, or of none
-abbrev pub dropped_told : Option Request → EventInfo
-dropped_told None = nothing_told
-dropped_told (Some request) = request_told request
+abbrev pub dropped_told : List Request → EventInfo
+dropped_told rs = option_map_or request_told (slice_get rs 0) nothing_told
 
-abbrev pub dropped_topic : Option Request → List ℕ
-dropped_topic None = []
-dropped_topic (Some request) = topic_asked request
+abbrev pub dropped_topic : List Request → List ℕ
+dropped_topic rs = option_map_or topic_asked (slice_get rs 0) []
 
-abbrev pub dropped_payload : Option Request → List ℕ
-dropped_payload None = []
-dropped_payload (Some request) = payload_asked request
+abbrev pub dropped_payload : List Request → List ℕ
+dropped_payload rs = option_map_or payload_asked (slice_get rs 0) []
 
--- whether its topic and payload fit into buffers of these lengths
-abbrev pub fits : Option Request → ℕ → ℕ → Bool
-fits first topic_len payload_len =
-    both_fit (dropped_topic first) (dropped_payload first) topic_len payload_len
+-- whether its topic and payload fit into these buffers
+abbrev pub fits : List Request → List ℕ → List ℕ → Bool
+fits rs topic payload =
+    both_fit (dropped_topic rs) (dropped_payload rs) (length topic) (length payload)
 
 -- with room the oldest one is taken out; without it the list is as before
 abbrev pub TakesOne : Bool → List Request → ℕ → List Request → Type 0
@@ -58,15 +56,13 @@ TakesOneIn room old code after =
     × TakesOne room old.dropped code new.dropped)
 
 -- a property of the oldest one (2.2.2.2), which stays: a number, a text or binary data
-abbrev pub number_dropped : Option Request → ℕ → Option ℕ
-number_dropped None id = None
-number_dropped (Some request) id = properties.number_asked request id
+abbrev pub number_dropped : List Request → ℕ → Option ℕ
+number_dropped rs id = option_and_then (λ r. properties.number_asked r id) (slice_get rs 0)
 
-abbrev pub content_dropped : Option Request → ℕ → Option (List ℕ)
-content_dropped None id = None
-content_dropped (Some request) id = properties.content_asked request id
+abbrev pub content_dropped : List Request → ℕ → Option (List ℕ)
+content_dropped rs id = option_and_then (λ r. properties.content_asked r id) (slice_get rs 0)
 
 -- a user property at a place
-abbrev pub pair_dropped : Option Request → ℕ → Option (Utf8 × Utf8)
-pair_dropped None index = None
-pair_dropped (Some request) index = slice_get (properties.pairs_asked request) index
+abbrev pub pair_dropped : List Request → ℕ → Option (Utf8 × Utf8)
+pair_dropped rs index =
+    option_and_then (λ r. slice_get (properties.pairs_asked r) index) (slice_get rs 0)

@@ -99,6 +99,7 @@ outgoing_told (outgoing.Subscribe id) = sent 8 id
 outgoing_told (outgoing.Unsubscribe id) = sent 10 id
 outgoing_told outgoing.PingReq = sent 12 0
 outgoing_told outgoing.Disconnect = sent 14 0
+outgoing_told outgoing.Auth = sent 15 0
 outgoing_told (outgoing.AwaitAck id) = record (came 3 id 0) { kind = 3 }
 
 -- an event

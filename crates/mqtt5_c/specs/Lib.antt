@@ -4,6 +4,7 @@ pub mod Numbers
 pub mod Calls
 pub mod Topics
 pub mod Asked
+pub mod Said
 pub mod Properties
 pub mod Filters
 pub mod Connected

@@ -1,6 +1,6 @@
 //! Calls that tell of the oldest request that was let go: its properties, while it stays, and itself, which takes it out.
 
-ghost use Rattle.std.specs.Prelude.{◌≡◌, None, IsNone, IfSome, length, slice_get, option_copied};
+ghost use Rattle.std.specs.Prelude.{◌≡◌, None, IsNone, IfSome, option_copied};
 ghost use Rattle.mqtt5_c.specs.Dropped.{request_told, topic_asked, payload_asked, dropped_told, dropped_topic, dropped_payload, fits, TakesOne, TakesOneIn, number_dropped, content_dropped, pair_dropped};
 ghost use Rattle.mqtt5_c.specs.Events.{over_if};
 ghost use Rattle.mqtt5_c.specs.Handles.{IsKept};
@@ -10,7 +10,7 @@ ghost use Rattle.mqtt5_c.specs.Told.{Tells, TellsBytes, TellsPair};
 use crate::event::{EventInfo, NOTHING, came, copy_both, publish_told};
 use crate::handle::{Handle, put, take};
 use crate::number::{ABSENT, NO_CLIENT, SMALL_BUFFER};
-use crate::told::{copy_if_fits, copy_pair};
+use crate::told::{copy_if_fits, copy_pair, tell_found};
 use mqtt5_base::Text;
 use mqtt5_client::Request;
 use mqtt5_events::{content_asked, number_asked, pairs_asked};
@@ -56,14 +56,14 @@ fn payload_asked(request: &Request) -> &[u8]
 
 /// Tells of the oldest request and copies its topic and payload, where they fit; answers whether they do.
 fn show(dropped: &Dropped, info: &mut EventInfo, topic: &mut [u8], payload: &mut [u8]) -> bool
-    ensures told { info.new ≡ dropped_told (slice_get dropped.now 0) }
-    ensures room { result ≡ fits (slice_get dropped.now 0) (length topic.old) (length payload.old) }
+    ensures told { info.new ≡ dropped_told dropped.now }
+    ensures room { result ≡ fits dropped.now topic.old payload.old }
     ensures topic { topic.new
-        ≡ over_if (fits (slice_get dropped.now 0) (length topic.old) (length payload.old))
-        (dropped_topic (slice_get dropped.now 0)) topic.old }
+        ≡ over_if (fits dropped.now topic.old payload.old)
+        (dropped_topic dropped.now) topic.old }
     ensures payload { payload.new
-        ≡ over_if (fits (slice_get dropped.now 0) (length topic.old) (length payload.old))
-        (dropped_payload (slice_get dropped.now 0)) payload.old }
+        ≡ over_if (fits dropped.now topic.old payload.old)
+        (dropped_payload dropped.now) payload.old }
 {
     let Some(request) = dropped.first() else {
         *info = NOTHING;
@@ -75,15 +75,15 @@ fn show(dropped: &Dropped, info: &mut EventInfo, topic: &mut [u8], payload: &mut
 
 /// Shows the oldest request, and takes it out where its topic and payload fit.
 fn pop(dropped: &mut Dropped, info: &mut EventInfo, topic: &mut [u8], payload: &mut [u8]) -> u32
-    ensures told { info.new ≡ dropped_told (slice_get dropped.old 0) }
-    ensures takes { TakesOne (fits (slice_get dropped.old 0) (length topic.old) (length payload.old))
+    ensures told { info.new ≡ dropped_told dropped.old }
+    ensures takes { TakesOne (fits dropped.old topic.old payload.old)
         dropped.old result dropped.new }
     ensures topic { topic.new
-        ≡ over_if (fits (slice_get dropped.old 0) (length topic.old) (length payload.old))
-        (dropped_topic (slice_get dropped.old 0)) topic.old }
+        ≡ over_if (fits dropped.old topic.old payload.old)
+        (dropped_topic dropped.old) topic.old }
     ensures payload { payload.new
-        ≡ over_if (fits (slice_get dropped.old 0) (length topic.old) (length payload.old))
-        (dropped_payload (slice_get dropped.old 0)) payload.old }
+        ≡ over_if (fits dropped.old topic.old payload.old)
+        (dropped_payload dropped.old) payload.old }
 {
     if !show(dropped, info, topic, payload) {
         return SMALL_BUFFER;
@@ -109,16 +109,16 @@ pub extern "C" fn mqtt5_client_next_dropped(
         × (h.new.client_ptr.value ≡ None) × (info.new ≡ info.old) × (topic.new ≡ topic.old)
         × (payload.new ≡ payload.old) }
     ensures told { IfSome h.old.client_ptr.value
-        (λ x. info.new ≡ dropped_told (slice_get x.dropped 0)) }
+        (λ x. info.new ≡ dropped_told x.dropped) }
     ensures takes { IfSome h.old.client_ptr.value
-        (λ x. TakesOneIn (fits (slice_get x.dropped 0) (length topic.old) (length payload.old)) x
+        (λ x. TakesOneIn (fits x.dropped topic.old payload.old) x
         result h.new.client_ptr.value) }
     ensures topic { IfSome h.old.client_ptr.value (λ x. topic.new
-        ≡ over_if (fits (slice_get x.dropped 0) (length topic.old) (length payload.old))
-        (dropped_topic (slice_get x.dropped 0)) topic.old) }
+        ≡ over_if (fits x.dropped topic.old payload.old)
+        (dropped_topic x.dropped) topic.old) }
     ensures payload { IfSome h.old.client_ptr.value (λ x. payload.new
-        ≡ over_if (fits (slice_get x.dropped 0) (length topic.old) (length payload.old))
-        (dropped_payload (slice_get x.dropped 0)) payload.old) }
+        ≡ over_if (fits x.dropped topic.old payload.old)
+        (dropped_payload x.dropped) payload.old) }
 {
     let Some(mut holder) = take(alloc, h) else {
         return NO_CLIENT;
@@ -129,17 +129,13 @@ pub extern "C" fn mqtt5_client_next_dropped(
 }
 
 fn tell_number(dropped: &Dropped, property: u32, number: &mut u32) -> u32
-    ensures { Tells (number_dropped (slice_get dropped.now 0) property) number.old result
+    ensures { Tells (number_dropped dropped.now property) number.old result
         number.new }
 {
     let Some(request) = dropped.first() else {
         return ABSENT;
     };
-    let Some(found) = number_asked(request, property) else {
-        return ABSENT;
-    };
-    *number = found;
-    0
+    tell_found!(number_asked(request, property), number)
 }
 
 /// Tells the number of the property with this identifier of the Publish that is the oldest request that was let go. 0; 204
@@ -157,7 +153,7 @@ pub extern "C" fn mqtt5_client_dropped_number(
     ensures none { IsNone h.old.client_ptr.value
         → (result ≡ no_client) × (number.new ≡ number.old) }
     ensures told { IfSome h.old.client_ptr.value
-        (λ x. Tells (number_dropped (slice_get x.dropped 0) property) number.old result
+        (λ x. Tells (number_dropped x.dropped property) number.old result
         number.new) }
 {
     let Some(holder) = take(alloc, h) else {
@@ -169,7 +165,7 @@ pub extern "C" fn mqtt5_client_dropped_number(
 }
 
 fn tell_bytes(dropped: &Dropped, property: u32, buffer: &mut [u8], count: &mut usize) -> u32
-    ensures { TellsBytes (content_dropped (slice_get dropped.now 0) property) buffer.old count.old
+    ensures { TellsBytes (content_dropped dropped.now property) buffer.old count.old
         result buffer.new count.new }
 {
     let Some(request) = dropped.first() else {
@@ -198,7 +194,7 @@ pub extern "C" fn mqtt5_client_dropped_bytes(
     ensures none { IsNone h.old.client_ptr.value
         → (result ≡ no_client) × (buffer.new ≡ buffer.old) × (count.new ≡ count.old) }
     ensures told { IfSome h.old.client_ptr.value
-        (λ x. TellsBytes (content_dropped (slice_get x.dropped 0) property) buffer.old count.old
+        (λ x. TellsBytes (content_dropped x.dropped property) buffer.old count.old
         result buffer.new count.new) }
 {
     let Some(holder) = take(alloc, h) else {
@@ -211,7 +207,7 @@ pub extern "C" fn mqtt5_client_dropped_bytes(
 
 /// The user property at a place of the oldest request.
 fn first_pair(dropped: &Dropped, index: usize) -> Option<&(Text, Text)>
-    ensures { option_copied result ≡ pair_dropped (slice_get dropped.now 0) index }
+    ensures { option_copied result ≡ pair_dropped dropped.now index }
 {
     let request = dropped.first()?;
     pairs_asked(request).get(index)
@@ -225,7 +221,7 @@ fn tell_pair(
     value: &mut [u8],
     value_count: &mut usize,
 ) -> u32
-    ensures { TellsPair (pair_dropped (slice_get dropped.now 0) index) (name.old, value.old)
+    ensures { TellsPair (pair_dropped dropped.now index) (name.old, value.old)
         (name_count.old, value_count.old) result (name.new, value.new)
         (name_count.new, value_count.new) }
 {
@@ -255,7 +251,7 @@ pub extern "C" fn mqtt5_client_dropped_pair(
         → (result ≡ no_client) × (name.new ≡ name.old) × (value.new ≡ value.old)
         × (name_count.new ≡ name_count.old) × (value_count.new ≡ value_count.old) }
     ensures told { IfSome h.old.client_ptr.value
-        (λ x. TellsPair (pair_dropped (slice_get x.dropped 0) index) (name.old, value.old)
+        (λ x. TellsPair (pair_dropped x.dropped index) (name.old, value.old)
         (name_count.old, value_count.old) result (name.new, value.new)
         (name_count.new, value_count.new)) }
 {

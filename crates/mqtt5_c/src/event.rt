@@ -167,6 +167,7 @@ fn outgoing_told(outgoing: &Outgoing) -> EventInfo
         Outgoing::Unsubscribe(pkid) => sent(10, *pkid),
         Outgoing::PingReq => sent(12, 0),
         Outgoing::Disconnect => sent(14, 0),
+        Outgoing::Auth => sent(15, 0),
         Outgoing::AwaitAck(pkid) => EventInfo {
             kind: 3,
             ..came(3, *pkid, 0)

@@ -13,6 +13,7 @@ mod id;
 mod life;
 mod number;
 mod properties;
+mod say;
 mod settings;
 mod stream;
 mod told;

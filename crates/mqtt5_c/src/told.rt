@@ -25,6 +25,8 @@ macro_rules! tell_found {
     }};
 }
 
+pub(crate) use tell_found;
+
 fn tell_number(events: &VecDeque<Event>, property: u32, number: &mut u32) -> u32
     ensures { Tells (number_of events.now.items property) number.old result number.new }
 {

@@ -4,3 +4,4 @@ pub mod Taken
 pub mod Requested
 pub mod Written
 pub mod TakingUp
+pub mod Said

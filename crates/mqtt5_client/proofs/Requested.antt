@@ -137,7 +137,7 @@ declined_still e codec request at s t (inr h) = subst (λ (a : Answer). Still re
 -- ---- what a request leaves
 
 -- where the output ended
-cut : (o mid bytes : List ℕ) (n : ℕ) → mid ≡ o ++ bytes → n ≡ length o → take n mid ≡ o
+pub cut : (o mid bytes : List ℕ) (n : ℕ) → mid ≡ o ++ bytes → n ≡ length o → take n mid ≡ o
 cut o mid bytes n put is = ap (λ (k : ℕ). take k mid) is ∙ ap (take (length o)) put ∙ take-append_seam o bytes
 
 -- a refusal of the session, or of memory

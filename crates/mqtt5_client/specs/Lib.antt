@@ -6,3 +6,4 @@ pub mod Asked
 pub mod Handed
 pub mod TakingUp
 pub mod Resending
+pub mod Said

@@ -8,8 +8,9 @@ ghost use Rattle.mqtt5_codec.specs.Codecs.{no_limits};
 ghost use Rattle.mqtt5_inflight.specs.Errors.{state_error};
 ghost use Rattle.mqtt5_inflight.specs.declared.error.StateError.{StateError as Fault};
 ghost use Rattle.mqtt5_inflight.specs.declared.error.StateError.TheVariants as faults;
-ghost use Rattle.mqtt5_session.specs.Session.{fresh};
-ghost use Rattle.mqtt5_session.specs.Requests.{next_id};
+ghost use Rattle.mqtt5_codec.specs.declared.packet.Packet.TheVariants as packets;
+ghost use Rattle.mqtt5_session.specs.Session.{fresh, Sends};
+ghost use Rattle.mqtt5_session.specs.Requests.{next_id, out_disconnect, out_auth};
 ghost use Rattle.mqtt5_drive.specs.declared.run.Input.TheVariants as inputs;
 ghost use Rattle.mqtt5_drive.specs.declared.run.Step.{Step};
 ghost use Rattle.mqtt5_drive.specs.Run.{piece};
@@ -19,12 +20,14 @@ ghost use Rattle.mqtt5_client.specs.Asked.{bytes_asked, NotAsked};
 ghost use Rattle.mqtt5_drive.specs.Limit.{codec_after};
 ghost use Rattle.mqtt5_client.specs.Connecting.{connect_packet, opened, IsRefused};
 ghost use Rattle.mqtt5_client.specs.Again.{SendsAgain, Refuses};
+ghost use Rattle.mqtt5_client.specs.Said.{on_said, IsSaid, IsUnsaid, NotSaid};
 
 use crate::again::{append, frames, given_back};
 use crate::asking::{next_id, send_request};
 use crate::connecting::{connect_frame, incoming_limit};
 use bytes::BytesMut;
-use mqtt5_codec::Codec;
+use mqtt5_codec::{Codec, Packet};
+use mqtt5_control::{Auth, Disconnect};
 use mqtt5_drive::{empty_needs_more, take_input, take_limit, take_piece};
 use mqtt5_options::MqttOptions;
 use mqtt5_session::{Event, MqttState, Request, StateError};
@@ -213,6 +216,85 @@ impl Client {
         }
     }
 
+    /// Ends the connection for a reason, at a moment: the Disconnect, with its properties, goes to the end of the output,
+    /// and nothing may follow it until `connect` (MQTT 5.0 section 3.14). S1 of a reason that only a broker gives; S7
+    /// where it can't be written, and S9 where it is over the broker's limit; S12; S13 once a Disconnect was asked for.
+    /// After an Err the client is unchanged. A session expiry interval other than 0 is a fault where the Connect said
+    /// none, or 0 (section 3.14.2.2.2): that is left to the caller.
+    pub fn disconnect(&mut self, disconnect: Disconnect, at: u64) -> Result<(), StateError>
+        ensures ok { OnOk result
+            (IsSaid self.old (packets.Disconnect disconnect)
+            (out_disconnect self.old.state disconnect at) self.new) }
+        ensures over { OnOk result (self.new.disconnected ≡ true) }
+        ensures err { IfErr result (λ e. NotSaid e self.old (packets.Disconnect disconnect)
+            (out_disconnect self.old.state disconnect at)) }
+        ensures unsaid { OnErr result (IsUnsaid self.old self.new) }
+        ensures kept { (self.new.input.items ≡ self.old.input.items)
+            × (self.new.codec ≡ self.old.codec) }
+        ensures ready { IsReady self.old → IsReady self.new }
+    {
+        match self.say(as_disconnect(disconnect), at) {
+            Ok(()) => {
+                self.disconnected = true;
+                Ok(())
+            }
+            Err(refused) => Err(refused),
+        }
+    }
+
+    /// Sends an Auth at a moment, after one of the broker's came, also before the ConnAck, or to begin anew (MQTT 5.0
+    /// sections 3.15 and 4.12): it goes to the end of the output. S1 of the code Success, which only a broker gives,
+    /// and of an Auth without a method; else as `disconnect`. The method is that of the Connect (section 4.12), which is
+    /// left to the caller. After an Err the client is unchanged.
+    pub fn authenticate(&mut self, auth: Auth, at: u64) -> Result<(), StateError>
+        ensures ok { OnOk result
+            (IsSaid self.old (packets.Auth auth) (out_auth self.old.state auth at) self.new) }
+        ensures over { self.new.disconnected ≡ self.old.disconnected }
+        ensures err { IfErr result (λ e.
+            NotSaid e self.old (packets.Auth auth) (out_auth self.old.state auth at)) }
+        ensures unsaid { OnErr result (IsUnsaid self.old self.new) }
+        ensures kept { (self.new.input.items ≡ self.old.input.items)
+            × (self.new.codec ≡ self.old.codec) }
+        ensures ready { IsReady self.old → IsReady self.new }
+    {
+        self.say(as_auth(auth), at)
+    }
+
+    /// Says a Disconnect or an Auth.
+    fn say(&mut self, packet: Packet, at: u64) -> Result<(), StateError>
+        ensures ok { OnOk result
+            (IsSaid self.old packet (on_said self.old.state packet at) self.new) }
+        ensures over { self.new.disconnected ≡ self.old.disconnected }
+        ensures err { IfErr result (λ e.
+            NotSaid e self.old packet (on_said self.old.state packet at)) }
+        ensures unsaid { OnErr result (IsUnsaid self.old self.new) }
+        ensures kept { (self.new.input.items ≡ self.old.input.items)
+            × (self.new.codec ≡ self.old.codec) }
+    {
+        if self.disconnected {
+            drop(packet);
+            return Err(StateError::Disconnected);
+        }
+        let length = self.output.len();
+        match self.codec.write(&packet, &mut self.output) {
+            Ok(()) => {}
+            Err(refused) => {
+                drop(packet);
+                return Err(StateError::from(refused));
+            }
+        }
+        match answer_said(&mut self.state, packet, at) {
+            Ok(sent) => {
+                drop(sent);
+                Ok(())
+            }
+            Err(refused) => {
+                self.output.truncate(length);
+                Err(refused)
+            }
+        }
+    }
+
     /// The packet identifier that the next publish of QoS 1 or 2, Subscribe or Unsubscribe gets. Takes no memory.
     pub fn next_id(&self) -> u16
         ensures { result ≡ next_id self.now.state.core }
@@ -348,6 +430,32 @@ fn is_disconnect(request: &Request) -> bool
     ensures { result ≡ disconnects (inputs.Request request.now) }
 {
     matches!(request, Request::Disconnect)
+}
+
+fn as_disconnect(disconnect: Disconnect) -> Packet
+    ensures { result ≡ packets.Disconnect disconnect }
+{
+    Packet::Disconnect(disconnect)
+}
+
+fn as_auth(auth: Auth) -> Packet
+    ensures { result ≡ packets.Auth auth }
+{
+    Packet::Auth(auth)
+}
+
+/// What the session makes of a Disconnect or an Auth.
+fn answer_said(state: &mut MqttState, packet: Packet, at: u64) -> Result<Option<Packet>, StateError>
+    ensures { Sends result state.old state.new (on_said state.old packet at) }
+{
+    match packet {
+        Packet::Disconnect(disconnect) => state.handle_outgoing_disconnect(disconnect, at),
+        Packet::Auth(auth) => state.handle_outgoing_auth(auth, at),
+        other => {
+            drop(other);
+            Err(StateError::InvalidState)
+        }
+    }
 }
 
 /// A new session with an old one's limit on ids.

@@ -12,7 +12,10 @@ pub use client::{Client, one_run};
 pub use mqtt5_base::{Error, QoS, Sequence, Text};
 pub use mqtt5_codec::{Codec, Packet};
 pub use mqtt5_connect::{LastWill, Login};
-pub use mqtt5_control::{ConnAck, ConnectReturnCode};
+pub use mqtt5_control::{
+    Auth, AuthProperties, AuthReasonCode, ConnAck, ConnectReturnCode, Disconnect,
+    DisconnectProperties, DisconnectReasonCode,
+};
 pub use mqtt5_options::MqttOptions;
 pub use mqtt5_publish::{PubAck, PubRec, Publish};
 pub use mqtt5_session::{Event, Incoming, MqttState, Outgoing, Request, StateError};

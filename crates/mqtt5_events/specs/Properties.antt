@@ -1,5 +1,5 @@
--- The properties of a packet that came, and of a Publish that is asked for (MQTT 5.0 section 2.2.2.2),
--- each under its identifier.
+-- The properties of a packet that came, and of a Publish that is asked for (MQTT 5.0 section
+-- 2.2.2.2), each under its identifier.
 use Rattle.std.specs.Prelude.{ℕ, List, [], ◌∷◌, Option, Some, None, option_map}
 use Rattle.std.specs.Option.{option_flatten}
 use Rattle.mqtt5_base.specs.Texts.{Utf8}

@@ -60,6 +60,7 @@ pub enum Outgoing {
     PubComp(u16),
     PingReq,
     Disconnect,
+    Auth,
     /// A publish that waits until its id is free.
     AwaitAck(u16),
 }

@@ -1,6 +1,6 @@
 //! Sets of packet identifiers: those of publishes of QoS 2 that came and aren't released.
 
-ghost use Rattle.std.specs.Prelude.{◌≡◌, OnOk, OnErr};
+ghost use Rattle.std.specs.Prelude.{◌≡◌, IfOk, OnOk, OnErr};
 ghost use Rattle.std.specs.FinSet as set;
 
 use std::alloc::{AllocError, Global};
@@ -42,6 +42,13 @@ impl Ids {
         self.ids.contains(&id)
     }
 
+    /// The ids, rising. Err where memory is refused.
+    pub fn list(&self, alloc: Global) -> Result<Vec<u16>, AllocError>
+        ensures { IfOk result (λ ids. set.from_list ids.items ≡ self.now) }
+    {
+        keys_of(alloc, &self.ids)
+    }
+
     /// Adds an id. Only an id that wasn't among them takes memory; where it is refused, they are unchanged.
     pub fn insert(&mut self, id: u16) -> Result<(), AllocError>
         ensures ok { OnOk result (self.new ≡ set.insert self.old id) }
@@ -75,4 +82,15 @@ impl Clone for Ids {
             ids: self.ids.clone()?,
         })
     }
+}
+
+/// The keys, rising. Err where memory is refused.
+fn keys_of(alloc: Global, ids: &BTreeSet<u16>) -> Result<Vec<u16>, AllocError>
+    ensures { IfOk result (λ keys. keys.items ≡ ids.now.keys) }
+{
+    let mut keys = Vec::with_capacity(alloc, ids.len())?;
+    for id in ids {
+        keys.push(*id)?;
+    }
+    Ok(keys)
 }

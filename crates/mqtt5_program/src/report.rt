@@ -79,6 +79,7 @@ fn sent(outgoing: &Outgoing) -> (&'static str, Option<u16>) {
         Outgoing::PubComp(id) => ("PubComp", Some(id)),
         Outgoing::PingReq => ("PingReq", None),
         Outgoing::Disconnect => ("Disconnect", None),
+        Outgoing::Auth => ("Auth", None),
         Outgoing::AwaitAck(id) => ("AwaitAck", Some(id)),
     }
 }

@@ -141,11 +141,7 @@ const SCRIPTS: &[(&str, &str, u8)] = &[
         "out -\ngot Disconnect\ninflight 0\nfault S10\n",
         1,
     ),
-    (
-        "in 0 f0021800\n",
-        "out -\ngot Auth\ninflight 0\nfault S4\n",
-        1,
-    ),
+    ("in 0 f0021800\n", "out -\ngot Auth\ninflight 0\n", 0),
     (
         "in 0 100e00044d5154540502003c00000163\n",
         "out -\ngot Connect\ninflight 0\nfault S4\n",

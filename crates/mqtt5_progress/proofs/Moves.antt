@@ -149,6 +149,7 @@ heard_moves s (packets.ConnAck a) = connack_moves s _ a.code a.properties
 heard_moves s (packets.PingResp p) = Still _ _ refl refl (λ w. w)
 heard_moves s (packets.SubAck p) = Still _ _ refl refl (λ w. w)
 heard_moves s (packets.UnsubAck p) = Still _ _ refl refl (λ w. w)
+heard_moves s (packets.Auth p) = Still _ _ refl refl (λ w. w)
 heard_moves s (packets.Disconnect p) = refused s _ _
 heard_moves s other = refused s _ _
 

@@ -1,6 +1,6 @@
 //! How a talk ended: what is told of it, and the exit status.
 
-ghost use Rattle.std.specs.Prelude.{◌≡◌, ◌<◌, ◌⊎◌};
+ghost use Rattle.std.specs.Prelude.{◌≡◌, ◌≢◌, ◌<◌, ◌⊎◌};
 
 use mqtt5_client::StateError;
 use mqtt5_control::{ConnectReturnCode, DisconnectReasonCode};
@@ -17,7 +17,9 @@ const OVER: u8 = 27;
 
 /// The exit status of a fault: 3 of a connection that is lost, 27 where the time is over, else 1.
 pub fn status_of(trouble: &TalkError) -> u8
-    ensures { (result < 4) ⊎ (result ≡ 27) }
+    ensures status { (result < 4) ⊎ (result ≡ 27) }
+    // 0 is of a talk that goes well, and 2 of words that are refused.
+    ensures fault { (0 < result) × (result ≢ 2) }
 {
     if is_over(trouble) {
         OVER
@@ -44,7 +46,8 @@ fn is_lost(trouble: &TalkError) -> bool {
         TalkError::Failed(PipeError::Session(StateError::AwaitPingResp)) => true,
         TalkError::Refused(code, _) => matches!(
             code,
-            ConnectReturnCode::ServerUnavailable
+            ConnectReturnCode::UnspecifiedError
+                | ConnectReturnCode::ServerUnavailable
                 | ConnectReturnCode::ServerBusy
                 | ConnectReturnCode::ConnectionRateExceeded
         ),

@@ -1,6 +1,7 @@
 //! Screens before a screen: one that leaves some messages out, and one that counts.
 
 ghost use Rattle.std.specs.Prelude.{◌≡◌, ◌⊎◌, false};
+ghost use Rattle.mqtt5_pubsub.specs.Screens.{Counts};
 
 use mqtt5_base::matches;
 use mqtt5_publish::Publish;
@@ -48,13 +49,12 @@ pub struct Counting<S> {
 }
 
 impl<S: Screen> Screen for Counting<S> {
-    ghost shows = { λ old p is_shown new. S.shows old.screen p is_shown new.screen };
+    ghost shows = { λ old p is_shown new. S.shows old.screen p is_shown new.screen
+        × Counts is_shown old.shown new.shown };
 
     fn show(&mut self, publish: &Publish) -> Result<bool, TalkError> {
         let is_shown = self.screen.show(publish)?;
-        if is_shown {
-            self.shown = self.shown.saturating_add(1);
-        }
+        self.shown = self.shown.saturating_add(is_shown as u64);
         Ok(is_shown)
     }
 }

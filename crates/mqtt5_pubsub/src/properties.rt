@@ -1,8 +1,8 @@
 //! Properties that the words ask for, by the names and in the form of mosquitto's `-D`: a command, a property, and its value,
 //! of a user property its name and its value.
 
-ghost use Rattle.std.specs.Prelude.{◌≡◌, Option, IfOk, option_map};
-ghost use Rattle.mqtt5_publish.specs.declared.publish.Publish.{Publish as Message};
+ghost use Rattle.std.specs.Prelude.{◌≡◌, IfOk};
+ghost use Rattle.mqtt5_pubsub.specs.Sources.{GivesWith};
 
 use clap::ArgMatches;
 use mqtt5_base::{Error, Property, PropertySet, Sequence};
@@ -300,7 +300,8 @@ pub struct WithProperties<'p, S> {
 }
 
 impl<S: Source> Source for WithProperties<'_, S> {
-    ghost gives = { λ old message new. (plain : Option Message) × S.gives old.source plain new.source × (message ≡ option_map {T = Message} (λ (m : Message). record m { properties = old.properties.now }) plain) };
+    ghost gives = { λ old message new. (new.properties ≡ old.properties)
+        × GivesWith S.gives old.properties.now old.source message new.source };
 
     fn is_late(&self) -> bool {
         self.source.is_late()

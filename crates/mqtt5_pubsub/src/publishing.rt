@@ -1,6 +1,6 @@
 //! A client that publishes: what it does with the words after `pub`, its input and its output.
 
-ghost use Rattle.std.specs.Prelude.{◌≡◌, ◌<◌, ◌⊎◌, OnOk};
+ghost use Rattle.std.specs.Prelude.{◌≡◌, ◌<◌, ◌⊎◌, OnOk, IfErr};
 ghost use Rattle.mqtt5_client.specs.Client.{IsReady};
 
 use crate::ending::{status_of, tell_end};
@@ -82,12 +82,8 @@ fn run_matches<F: Files + AllocGlobal, R: Read, W: Write, E: Write>(
         qos: quality_of(matches, "qos"),
         retain: matches.get_flag("retain"),
     };
-    if refuses_texts(matches, log)
-        || refuses_topic(heading.topic, log)
-        || refuses_time(matches, log)
-        || refuses_properties(rt.alloc(), matches, &commands_of(matches), log)
-    {
-        return 2;
+    if let Err(status) = check_words(rt.alloc(), matches, heading.topic, log) {
+        return status;
     }
     let task = Task {
         alloc: rt.alloc(),
@@ -109,6 +105,25 @@ fn run_matches<F: Files + AllocGlobal, R: Read, W: Write, E: Write>(
             tell_end(&stop, status, log)
         }
     }
+}
+
+/// The status 2 of words that are refused, of which the log tells.
+fn check_words<E: Write>(
+    alloc: Global,
+    matches: &ArgMatches<'_>,
+    topic: &str,
+    log: &mut E,
+) -> Result<(), u8>
+    ensures { IfErr result (λ status. status ≡ 2) }
+{
+    if refuses_texts(matches, log)
+        || refuses_topic(topic, log)
+        || refuses_time(matches, log)
+        || refuses_properties(alloc, matches, &commands_of(matches), log)
+    {
+        return Err(2);
+    }
+    Ok(())
 }
 
 /// The packets whose properties the words may say.

@@ -1,6 +1,6 @@
 //! A client that subscribes: what it does with the words after `sub`, its input and its output.
 
-ghost use Rattle.std.specs.Prelude.{◌≡◌, ◌<◌, ◌⊎◌, OnOk};
+ghost use Rattle.std.specs.Prelude.{◌≡◌, ◌<◌, ◌⊎◌, OnOk, IfErr};
 ghost use Rattle.mqtt5_client.specs.Client.{IsReady};
 
 use crate::ending::{is_over, status_of, tell_end};
@@ -69,13 +69,8 @@ fn run_matches<F: Files + AllocGlobal + Clock, R: Read, W: Write, E: Write>(
 ) -> u8
     ensures { (result < 4) ⊎ (result ≡ 27) }
 {
-    if refuses_texts(matches, log)
-        || refuses_filters(matches, log)
-        || refuses_format(matches, log)
-        || refuses_time(matches, log)
-        || refuses_properties(rt.alloc(), matches, &commands_of(matches), log)
-    {
-        return 2;
+    if let Err(status) = check_words(rt.alloc(), matches, log) {
+        return status;
     }
     let mut shown = 0;
     let ended = match matches.get_str("output") {
@@ -87,6 +82,21 @@ fn run_matches<F: Files + AllocGlobal + Clock, R: Read, W: Write, E: Write>(
         Ok(()) => 0,
         Err(trouble) => tell_end(&trouble, status_of(&trouble), log),
     }
+}
+
+/// The status 2 of words that are refused, of which the log tells.
+fn check_words<E: Write>(alloc: Global, matches: &ArgMatches<'_>, log: &mut E) -> Result<(), u8>
+    ensures { IfErr result (λ status. status ≡ 2) }
+{
+    if refuses_texts(matches, log)
+        || refuses_filters(matches, log)
+        || refuses_format(matches, log)
+        || refuses_time(matches, log)
+        || refuses_properties(alloc, matches, &commands_of(matches), log)
+    {
+        return Err(2);
+    }
+    Ok(())
 }
 
 /// The packets whose properties the words may say.

@@ -32,9 +32,9 @@ use Rattle.mqtt5_session.specs.Requests.{on_request, next_id, unless, over_maxim
 use Rattle.mqtt5_session.specs.Packets.{on_packet, answer_to, with_incoming, with_notice, event_of, freed_for, on_puback, on_received, on_pubrec, on_pubcomp, on_pubrel, on_publish, on_qos, answers, on_connack, is_taken, topic_of}
 use Rattle.mqtt5_session.specs.Resuming.{on_clean, with_dup, resume_of}
 use Rattle.mqtt5_session.specs.Again.{sent_unless}
-use Rattle.mqtt5_session.specs.Ledger.{number_owed, one_of, Call, Ask, Hear, Error, Clean, Resume, Pop, SetAcks, kept_by, after, added_in, taken_in, after_all, added_by, taken_by, IsLedger}
+use Rattle.mqtt5_session.specs.Ledger.{number_owed, one_of, Call, Ask, Hear, Error, Leave, Authenticate, Clean, Resume, Pop, SetAcks, kept_by, after, added_in, taken_in, after_all, added_by, taken_by, IsLedger}
 use Rattle.mqtt5_session.proofs.Resume.{resumes}
-use Rattle.mqtt5_session.proofs.Owed.{choose, Judges, judges, out_adds, inc_takes}
+use Rattle.mqtt5_session.proofs.Owed.{choose, leave_core, auth_core, Judges, judges, out_adds, inc_takes}
 
 -- ids in use lie in 1..=limit, publishes stand under their own, and what waits isn't of QoS 0
 abbrev pub Sound : Core → Type 0
@@ -185,6 +185,8 @@ pub after_sound : (s : Session) (call : Call) → Sound s.core → Sound (after 
 after_sound s (Ask request at) i = out_sound s request at i
 after_sound s (Hear packet at) i = inc_sound s packet at i
 after_sound s Error i = i
+after_sound s (Leave p at) i = subst Sound (sym (leave_core s p at)) i
+after_sound s (Authenticate p at) i = subst Sound (sym (auth_core s p at)) i
 after_sound s Clean i = (none_used s.core.limit, i.1)
 after_sound s (Resume at) i = resume_either Sound s at i (marked_sound s.core i) i
 after_sound s Pop i = i
@@ -194,6 +196,8 @@ one_call : (s : Session) (call : Call) → Sound s.core → number_owed (after s
 one_call s (Ask request at) i = let e = out_adds s request at in omega arith
 one_call s (Hear packet at) i = let e = inc_takes s packet at in omega arith
 one_call s Error i = omega arith
+one_call s (Leave p at) i = let e = ap number_owed (leave_core s p at) in omega arith
+one_call s (Authenticate p at) i = let e = ap number_owed (auth_core s p at) in omega arith
 one_call s Clean i = let e = requests_len s.core.limit s.core.in_use i.0 in let none : len no_ids ≡ 0 = len-empty nat_cmp _ in omega arith
 one_call s (Resume at) i = let e = resume_either (λ c. number_owed c ≡ number_owed s.core) s at i (owed_marked s.core) refl in omega arith
 one_call s Pop i = omega arith

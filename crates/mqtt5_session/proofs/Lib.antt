@@ -4,4 +4,6 @@ pub mod Owed
 pub mod Once
 pub mod Keeps
 pub mod Short
+pub mod FromParts
+pub mod Norms
 pub mod Exports

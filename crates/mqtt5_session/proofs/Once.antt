@@ -36,9 +36,9 @@ use Rattle.mqtt5_session.specs.Session.{Session, Answer, Receives, Sends, with_e
 use Rattle.mqtt5_session.specs.Requests.{on_request, unless, over_maximum, Verdict, Refuse, Wait, Store, out_acked, out_publish, out_known, id_for, last_after, counts_ping, ping_fault, disconnect_of}
 use Rattle.mqtt5_session.specs.Packets.{on_packet, answer_to, with_incoming, with_notice, event_of, is_exactly_once, pubrec_of, pubcomp_of, topics_with, freed_for, on_puback, on_received, on_pubrec, on_pubcomp, on_pubrel, on_released, on_publish, on_qos, answers, on_connack, is_taken, topic_of, ids_with}
 use Rattle.mqtt5_session.specs.Resuming.{on_clean, Sendings, with_reply, send_all, resume_of}
-use Rattle.mqtt5_session.specs.Ledger.{Call, Ask, Hear, Error, Clean, Resume, Pop, SetAcks, kept_by, unless_refused, after, after_all}
+use Rattle.mqtt5_session.specs.Ledger.{Call, Ask, Hear, Error, Leave, Authenticate, Clean, Resume, Pop, SetAcks, kept_by, unless_refused, after, after_all}
 use Rattle.mqtt5_session.specs.Once.{one_if, kept_id, is_notice, notices, new_notices, releases, notified_in, released_in, notified_by, released_by}
-use Rattle.mqtt5_session.proofs.Owed.{choose}
+use Rattle.mqtt5_session.proofs.Owed.{choose, leave_core, auth_core}
 use Rattle.mqtt5_session.proofs.Sets.{insert-again}
 
 -- ---- requests
@@ -349,6 +349,8 @@ module _ (id : ℕ) where
   one_call s (Ask request at) = let e = ap (λ ids. one_if (set.contains ids id)) (out_keeps s request at) in omega (arith, e)
   one_call s (Hear packet at) = inc_counts s packet at
   one_call s Error = omega arith
+  one_call s (Leave p at) = let e = ap (kept_id id) (leave_core s p at) in omega (arith, e)
+  one_call s (Authenticate p at) = let e = ap (kept_id id) (auth_core s p at) in omega (arith, e)
   one_call s Clean = omega arith
   one_call s (Resume at) = let e = ap (λ ids. one_if (set.contains ids id)) (resume_keeps s at) in omega (arith, e)
   one_call s Pop = omega arith

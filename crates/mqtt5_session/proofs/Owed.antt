@@ -1,7 +1,7 @@
 -- What each call does to what is owed.
 use Rattle.std.proofs.Common.{◌≡◌, ℕ, ◌+◌, ◌≤◌, Bool, true, false, cond, ◌==◌, length, Option, Some, None, Result, Err, refl, sym, ap, ◌∙◌, arith, nat_lt}
 use Rattle.std.proofs.lemmas.Bool.{ltb-false}
-use Rattle.std.specs.Prelude.{is_some}
+use Rattle.std.specs.Prelude.{is_some, ◌&&◌}
 use Rattle.std.specs.FinMap.{get, len, insert, remove, contains_key}
 use Rattle.std.specs.FinSet as set
 use Rattle.mqtt5_base.specs.declared.quality.QoS.{QoS}
@@ -13,6 +13,8 @@ use Rattle.mqtt5_publish.specs.declared.pubrel.PubRelReason.TheVariants as pubre
 use Rattle.mqtt5_control.specs.declared.connack.ConnectReturnCode.{ConnectReturnCode}
 use Rattle.mqtt5_control.specs.declared.connack.ConnectReturnCode.TheVariants as return_codes
 use Rattle.mqtt5_control.specs.declared.connack.ConnAckProperties.{ConnAckProperties}
+use Rattle.mqtt5_control.specs.declared.disconnect.Disconnect.{Disconnect}
+use Rattle.mqtt5_control.specs.declared.auth.Auth.{Auth}
 use Rattle.mqtt5_codec.specs.declared.packet.Packet.{Packet}
 use Rattle.mqtt5_codec.specs.declared.packet.Packet.TheVariants as packets
 use Rattle.mqtt5_inflight.specs.declared.slot.Slot.{Slot}
@@ -24,7 +26,7 @@ use Rattle.mqtt5_inflight.specs.declared.error.StateError.{StateError}
 use Rattle.mqtt5_inflight.specs.declared.error.StateError.TheVariants as errors
 use Rattle.mqtt5_inflight.proofs.Exports.{len_used, len_free, len_removed}
 use Rattle.mqtt5_session.specs.Session.{Core, Session, Answer, Sends, Receives}
-use Rattle.mqtt5_session.specs.Requests.{on_request, unless, over_maximum, verdict_of, by_alias, by_use, Verdict, Refuse, Wait, Store, out_acked, out_publish, out_release, out_known, id_for, last_after, counts_ping, ping_fault}
+use Rattle.mqtt5_session.specs.Requests.{on_request, unless, over_maximum, verdict_of, by_alias, by_use, Verdict, Refuse, Wait, Store, out_acked, out_publish, out_release, out_known, id_for, last_after, counts_ping, ping_fault, may_leave_for, out_disconnect, may_answer_with, names_method, out_auth}
 use Rattle.mqtt5_session.specs.Packets.{on_packet, answer_to, with_incoming, with_notice, event_of, freed_for, on_puback, on_received, on_pubrec, on_pubcomp, on_pubrel, on_publish, on_qos, answers, on_connack, is_taken, topic_of}
 use Rattle.mqtt5_session.specs.Ledger.{one_of, number_owed, owed_at, adds, ends, unless_refused}
 
@@ -39,6 +41,18 @@ Takes s n a = number_owed a.1.core + unless_refused a.0 n ≡ number_owed s.core
 pub choose : (P : Answer → Type 0) (b : Bool) (x y : Answer) → (b ≡ true → P x) → (b ≡ false → P y) → P (cond b x y)
 choose P true x y f g = f refl
 choose P false x y f g = g refl
+
+-- a Disconnect with its reason changes no core, and no Auth does
+pub leave_core : (s : Session) (p : Disconnect) (at : ℕ) → (out_disconnect s p at).1.core ≡ s.core
+leave_core s p at = choose (λ a. a.1.core ≡ s.core) (may_leave_for p.reason_code) _ _ (λ _. refl) (λ _. refl)
+
+pub auth_core : (s : Session) (p : Auth) (at : ℕ) → (out_auth s p at).1.core ≡ s.core
+auth_core s p at = choose (λ a. a.1.core ≡ s.core) (may_answer_with p.code && names_method p.properties) _ _ (λ _. refl) (λ _. refl)
+
+-- so the session has the core that it had, also where memory was refused
+pub sends_core : (result : Result (Option Packet) StateError) (old new : Session) (a : Answer) → a.1.core ≡ old.core → Sends result old new a → new.core ≡ old.core
+sends_core (Err errors.OutOfMemory) old new a same h = ap (λ s. s.core) h.0
+sends_core result old new a same h = ap (λ s. s.core) h.1 ∙ same
 
 unless_adds : (s : Session) (n : ℕ) (e : Option StateError) (a : Answer) → Adds s n a → Adds s n (unless e s a)
 unless_adds s n None a h = h

@@ -102,6 +102,7 @@ heard_said s (packets.ConnAck p) at = connack_said p.code p.properties s at
 heard_said s (packets.PingResp p) at = refl
 heard_said s (packets.SubAck p) at = refl
 heard_said s (packets.UnsubAck p) at = refl
+heard_said s (packets.Auth p) at = refl
 heard_said s packet at = tt {0}
 
 pub inc_said : (s : Session) (packet : Packet) (at : ℕ) → IsSaid (on_packet s packet at).0 (on_packet s packet at).1

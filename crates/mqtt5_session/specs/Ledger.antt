@@ -5,6 +5,8 @@ use Rattle.std.specs.FinMap as map
 use Rattle.mqtt5_base.specs.declared.quality.QoS.{QoS}
 use Rattle.mqtt5_base.specs.declared.quality.QoS.TheVariants.{AtMostOnce}
 use Rattle.mqtt5_publish.specs.declared.publish.Publish.{Publish}
+use Rattle.mqtt5_control.specs.declared.disconnect.Disconnect.{Disconnect}
+use Rattle.mqtt5_control.specs.declared.auth.Auth.{Auth}
 use Rattle.mqtt5_codec.specs.declared.packet.Packet.{Packet}
 use Rattle.mqtt5_codec.specs.declared.packet.Packet.TheVariants as packets
 use Rattle.mqtt5_inflight.specs.declared.event.Request.{Request}
@@ -12,7 +14,7 @@ use Rattle.mqtt5_inflight.specs.declared.event.Request.TheVariants as requests
 use Rattle.mqtt5_inflight.specs.declared.error.StateError.{StateError}
 use Rattle.mqtt5_inflight.specs.Unacked.{requests_of}
 use Rattle.mqtt5_session.specs.Session.{Core, Session, fresh}
-use Rattle.mqtt5_session.specs.Requests.{id_for, on_request, protocol_error}
+use Rattle.mqtt5_session.specs.Requests.{id_for, on_request, protocol_error, out_disconnect, out_auth}
 use Rattle.mqtt5_session.specs.Packets.{is_taken, on_packet}
 use Rattle.mqtt5_session.specs.Resuming.{on_clean, Sendings, resume_of}
 
@@ -51,12 +53,15 @@ unless_refused (Err e) n = 0
 
 -- ---- any list of calls
 
--- A call of the session: a request, a packet from the broker, a protocol error, a clean, a resume;
--- the oldest event is taken out; and the user sends the acks from now on, or doesn't.
+-- A call of the session: a request, a packet from the broker, a protocol error, a Disconnect with
+-- its reason, an Auth, a clean, a resume; the oldest event is taken out; and the user sends the
+-- acks from now on, or doesn't.
 pub data Call : Type 0 where
   Ask : Request → ℕ → Call
   Hear : Packet → ℕ → Call
   Error : Call
+  Leave : Disconnect → ℕ → Call
+  Authenticate : Auth → ℕ → Call
   Clean : Call
   Resume : ℕ → Call
   Pop : Call
@@ -72,6 +77,8 @@ abbrev pub after : Session → Call → Session
 after s (Ask request at) = (on_request s request at).1
 after s (Hear packet at) = (on_packet s packet at).1
 after s Error = (protocol_error s).1
+after s (Leave p at) = (out_disconnect s p at).1
+after s (Authenticate p at) = (out_auth s p at).1
 after s Clean = on_clean s
 after s (Resume at) = kept_by s (resume_of s at)
 after s Pop = record s { events = drop 1 s.events }

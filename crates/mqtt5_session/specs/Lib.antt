@@ -10,3 +10,4 @@ pub mod Again
 pub mod Ledger
 pub mod Once
 pub mod Freeing
+pub mod Parts

@@ -224,6 +224,7 @@ answer_to s (packets.ConnAck p) at = on_connack p.code p.properties s at
 answer_to s (packets.PingResp p) at = takes (record s { awaits_ping = false }) at
 answer_to s (packets.SubAck p) at = takes s at
 answer_to s (packets.UnsubAck p) at = takes s at
+answer_to s (packets.Auth p) at = takes s at
 answer_to s (packets.Disconnect p) at =
     (Err (errors.ServerDisconnect p.reason_code (reason_in p.properties)), s)
 answer_to s other at = (Err errors.WrongPacket, s)

@@ -1,7 +1,7 @@
 -- What each request makes of the session: a reply or a refusal, and the session after it (MQTT 5.0
 -- sections 2.2.1, 3 and 4.3).
-use Rattle.std.specs.Prelude.{ℕ, ◌+◌, ◌-◌, ◌^◌, Bool, true, false, length, Option, Some, None, Ok}
-use Rattle.std.specs.Prelude.{Err, ◌==◌, nat_lt, nat_le, min, if◌then◌else◌}
+use Rattle.std.specs.Prelude.{ℕ, ◌+◌, ◌-◌, ◌^◌, Bool, true, false, ◌&&◌, length, Option, Some}
+use Rattle.std.specs.Prelude.{None, Ok, Err, ◌==◌, is_some, nat_lt, nat_le, min, if◌then◌else◌}
 use Rattle.std.specs.FinMap as map
 use Rattle.mqtt5_base.specs.declared.quality.QoS.{QoS}
 use Rattle.mqtt5_base.specs.declared.quality.QoS.TheVariants.{AtMostOnce, AtLeastOnce, ExactlyOnce}
@@ -10,8 +10,12 @@ use Rattle.mqtt5_publish.specs.declared.pubrel.PubRelReason.TheVariants as pubre
 use Rattle.mqtt5_subscribe.specs.declared.subscribe.Subscribe.{Subscribe}
 use Rattle.mqtt5_subscribe.specs.declared.unsubscribe.Unsubscribe.{Unsubscribe}
 use Rattle.mqtt5_control.specs.declared.disconnect.DisconnectReasonCode.{DisconnectReasonCode}
-use Rattle.mqtt5_control.specs.declared.disconnect.DisconnectReasonCode.TheVariants.{NormalDisconnection}
-use Rattle.mqtt5_control.specs.declared.disconnect.DisconnectReasonCode.TheVariants.{ProtocolError}
+use Rattle.mqtt5_control.specs.declared.disconnect.DisconnectReasonCode.TheVariants as reasons
+use Rattle.mqtt5_control.specs.declared.disconnect.Disconnect.{Disconnect}
+use Rattle.mqtt5_control.specs.declared.auth.AuthReasonCode.{AuthReasonCode}
+use Rattle.mqtt5_control.specs.declared.auth.AuthReasonCode.TheVariants as auth_reasons
+use Rattle.mqtt5_control.specs.declared.auth.AuthProperties.{AuthProperties}
+use Rattle.mqtt5_control.specs.declared.auth.Auth.{Auth}
 use Rattle.mqtt5_codec.specs.declared.packet.Packet.{Packet}
 use Rattle.mqtt5_codec.specs.declared.packet.Packet.TheVariants as packets
 use Rattle.mqtt5_inflight.specs.declared.slot.Slot.{Slot}
@@ -209,14 +213,61 @@ on_request s (requests.Subscribe p) at = out_subscribe s p at
 on_request s (requests.Unsubscribe p) at = out_unsubscribe s p at
 on_request s requests.PingReq at = out_ping (counts_ping s) at
 on_request s requests.Disconnect at =
-    (Ok (Some (disconnect_of NormalDisconnection)), with_event_at s outgoing.Disconnect at)
+    (Ok (Some (disconnect_of reasons.NormalDisconnection)), with_event_at s outgoing.Disconnect at)
 on_request s (requests.PubAck p) at =
     (Ok (Some (packets.PubAck p)), with_event_at s (outgoing.PubAck p.pkid) at)
 on_request s (requests.PubRec p) at =
     (Ok (Some (packets.PubRec p)), with_event_at s (outgoing.PubRec p.pkid) at)
 on_request s other at = (Err errors.InvalidState, s)
 
+-- ---- what is sent by calls of its own
+
 -- a Disconnect with ProtocolError is sent, where the client finds such an error of the broker
 -- (4.13)
 abbrev pub protocol_error : Session → Answer
-protocol_error s = (Ok (Some (disconnect_of ProtocolError)), with_event s outgoing.Disconnect)
+protocol_error s =
+    (Ok (Some (disconnect_of reasons.ProtocolError)), with_event s outgoing.Disconnect)
+
+-- whether a client may end the connection for this reason; the others are the broker's (3.14.2.1)
+abbrev pub may_leave_for : DisconnectReasonCode → Bool
+may_leave_for reasons.NormalDisconnection = true
+may_leave_for reasons.DisconnectWithWillMessage = true
+may_leave_for reasons.UnspecifiedError = true
+may_leave_for reasons.MalformedPacket = true
+may_leave_for reasons.ProtocolError = true
+may_leave_for reasons.ImplementationSpecificError = true
+may_leave_for reasons.TopicNameInvalid = true
+may_leave_for reasons.ReceiveMaximumExceeded = true
+may_leave_for reasons.TopicAliasInvalid = true
+may_leave_for reasons.PacketTooLarge = true
+may_leave_for reasons.MessageRateTooHigh = true
+may_leave_for reasons.QuotaExceeded = true
+may_leave_for reasons.AdministrativeAction = true
+may_leave_for reasons.PayloadFormatInvalid = true
+may_leave_for reasons.ConnectionRateExceeded = true
+may_leave_for other = false
+
+-- a Disconnect with a reason and properties is sent (3.14)
+abbrev pub out_disconnect : Session → Disconnect → ℕ → Answer
+out_disconnect s p at =
+    if may_leave_for p.reason_code
+    then (Ok (Some (packets.Disconnect p)), with_event_at s outgoing.Disconnect at)
+    else (Err errors.InvalidState, s)
+
+-- whether a client may say this of the exchange of authentication data; Success is the broker's
+-- (3.15.2.1)
+abbrev pub may_answer_with : AuthReasonCode → Bool
+may_answer_with auth_reasons.Success = false
+may_answer_with code = true
+
+-- whether the method of authentication is named, as in each Auth (3.15.2.2.2)
+abbrev pub names_method : Option AuthProperties → Bool
+names_method None = false
+names_method (Some set) = is_some set.method
+
+-- an Auth is sent: more data, or a wish to begin anew (3.15, 4.12)
+abbrev pub out_auth : Session → Auth → ℕ → Answer
+out_auth s p at =
+    if may_answer_with p.code && names_method p.properties
+    then (Ok (Some (packets.Auth p)), with_event_at s outgoing.Auth at)
+    else (Err errors.InvalidState, s)

@@ -4,7 +4,7 @@ ghost use Rattle.std.specs.Prelude.{◌≡◌, None, option_map};
 ghost use Rattle.mqtt5_session.specs.Requests.{release_of, disconnect_of};
 
 use mqtt5_codec::Packet;
-use mqtt5_control::{ConnAck, Disconnect, DisconnectReasonCode};
+use mqtt5_control::{Auth, ConnAck, Disconnect, DisconnectReasonCode};
 use mqtt5_publish::{PingReq, PubAck, PubComp, PubRec, PubRel, Publish};
 use mqtt5_subscribe::{Subscribe, Unsubscribe};
 
@@ -93,4 +93,10 @@ pub fn as_disconnect(code: DisconnectReasonCode) -> Packet
         reason_code: code,
         properties: None,
     })
+}
+
+pub fn as_auth(auth: Auth) -> Packet
+    ensures { result ≡ Packet.Auth auth }
+{
+    Packet::Auth(auth)
 }

@@ -7,7 +7,7 @@ ghost use Rattle.std.specs.Option.{option_copied};
 ghost use Rattle.mqtt5_inflight.specs.InUse.{IsWithin, awaiting_ack, is_released};
 ghost use Rattle.mqtt5_inflight.specs.Unacked.{requests_of};
 ghost use Rattle.mqtt5_session.specs.Session.{Sends, Receives, fresh, with_event};
-ghost use Rattle.mqtt5_session.specs.Requests.{on_request, protocol_error};
+ghost use Rattle.mqtt5_session.specs.Requests.{on_request, protocol_error, out_disconnect, out_auth};
 ghost use Rattle.mqtt5_base.specs.declared.quality.QoS.TheVariants.{AtMostOnce};
 ghost use Rattle.mqtt5_session.specs.Packets.{on_packet};
 ghost use Rattle.mqtt5_session.specs.Replies.{in_full};
@@ -21,6 +21,8 @@ ghost use Rattle.mqtt5_session.specs.Once.{kept_id, new_notices, releases};
 mod frequent;
 /// What each packet from the broker makes of the session.
 mod packets;
+/// A session made of its parts.
+mod parts;
 /// What each request makes of it.
 mod requests;
 /// What is sent again on a new connection.
@@ -32,7 +34,7 @@ use bytes::Bytes;
 use frequent::Effect;
 use mqtt5_base::{Exact, QoS, copied};
 use mqtt5_codec::Packet;
-use mqtt5_control::DisconnectReasonCode;
+use mqtt5_control::{Auth, Disconnect, DisconnectReasonCode};
 use mqtt5_inflight::{Aliases, Event, Ids, Incoming, Outgoing, Request, Slots, StateError};
 use mqtt5_publish::Publish;
 use std::alloc::{AllocError, Global};
@@ -310,8 +312,8 @@ impl MqttState {
     /// Takes a packet from the broker at a moment, tells of it, and answers what to send. A publish of QoS 2
     /// under an id of one that the broker hasn't released is a duplicate: it isn't told of again, and is answered,
     /// unless the acks are the user's; then there is neither event nor answer, and `incoming_pub` has the id. A PubRel
-    /// of an id that isn't there is answered so. S2: an ack of an id that awaits none. S4: an Auth, or a packet that a
-    /// broker never sends. S10: a Disconnect. S11: a ConnAck that refuses the connection. S12, which leaves the session
+    /// of an id that isn't there is answered so. An Auth is told of, and `handle_outgoing_auth` answers it. S2: an ack of
+    /// an id that awaits none. S4: a packet that a broker never sends. S10: a Disconnect. S11: a ConnAck that refuses the connection. S12, which leaves the session
     /// unchanged; after another refusal the packet's event stands, and nothing else is changed.
     #[inline(always)]
     pub fn handle_incoming_packet(
@@ -370,6 +372,7 @@ impl MqttState {
             Packet::PingResp(answer) => self.hear_pingresp(Packet::PingResp(answer), at),
             Packet::SubAck(ack) => self.accept_silently(Packet::SubAck(ack), at),
             Packet::UnsubAck(ack) => self.accept_silently(Packet::UnsubAck(ack), at),
+            Packet::Auth(auth) => self.accept_silently(Packet::Auth(auth), at),
             Packet::Disconnect(disconnect) => self.hear_disconnect(disconnect),
             other => self.refuse(other),
         }
@@ -480,6 +483,35 @@ impl MqttState {
     {
         self.tell(Outgoing::Disconnect)?;
         Ok(Some(as_disconnect(DisconnectReasonCode::ProtocolError)))
+    }
+
+    /// Takes a Disconnect with its reason and its properties at a moment, tells of it, and answers it to send. S1: a
+    /// reason that only a broker gives (MQTT 5.0 section 3.14.2.1). S12. After a refusal the session is unchanged.
+    pub fn handle_outgoing_disconnect(
+        &mut self,
+        disconnect: Disconnect,
+        at: u64,
+    ) -> Result<Option<Packet>, StateError>
+        ensures step { Sends result self.old self.new (out_disconnect self.old disconnect at) }
+        ensures ledger { number_owed self.new.core ≡ number_owed self.old.core }
+        ensures once { (id : ℕ) → kept_id id self.new.core ≡ kept_id id self.old.core }
+    {
+        self.send_reason(disconnect, at)
+    }
+
+    /// Takes an Auth at a moment, tells of it, and answers it to send: data that the broker asked for, or a wish to
+    /// begin anew (MQTT 5.0 sections 3.15 and 4.12). S1: the code Success, which only a broker gives, or no method. S12.
+    /// After a refusal the session is unchanged.
+    pub fn handle_outgoing_auth(
+        &mut self,
+        auth: Auth,
+        at: u64,
+    ) -> Result<Option<Packet>, StateError>
+        ensures step { Sends result self.old self.new (out_auth self.old auth at) }
+        ensures ledger { number_owed self.new.core ≡ number_owed self.old.core }
+        ensures once { (id : ℕ) → kept_id id self.new.core ≡ kept_id id self.old.core }
+    {
+        self.send_auth(auth, at)
     }
 
     /// Answers what is to be sent again, the publishes that await an ack and then the releases, each by

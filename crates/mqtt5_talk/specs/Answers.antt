@@ -22,6 +22,7 @@ use Rattle.mqtt5_client.specs.declared.client.Client.{Client}
 use Rattle.mqtt5_talk.specs.declared.error.TalkError.{TalkError}
 use Rattle.mqtt5_talk.specs.declared.error.TalkError.TheVariants.{NotPublished}
 use Rattle.mqtt5_talk.specs.declared.reason.ReasonText.{ReasonText}
+use Rattle.mqtt5_talk.specs.TalkErrors.{unasked}
 use Rattle.mqtt5_talk.specs.Conversation.{Saying, Asks, SendsOnly}
 
 -- the first event is a ConnAck (MQTT 5.0 section 3.2)
@@ -76,10 +77,11 @@ refusal_by id reasons.Success properties = None
 refusal_by id reasons.NoMatchingSubscribers properties = None
 refusal_by id reason properties = Some (NotPublished id reason (ack_text properties))
 
--- the same of what happened
+-- the same of what happened, and that an Auth isn't awaited (4.12)
 abbrev pub refusal_in : Event → Option TalkError
 refusal_in (events.Incoming (packets.PubAck ack)) = refusal_by ack.pkid ack.reason ack.properties
 refusal_in (events.Incoming (packets.PubRec ack)) = refusal_by ack.pkid ack.reason ack.properties
+refusal_in (events.Incoming (packets.Auth auth)) = Some unasked
 refusal_in event = None
 
 -- a filter has its subscription (3.9.3)

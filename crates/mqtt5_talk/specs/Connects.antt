@@ -40,7 +40,8 @@ IsExpiry (Some word) goes_on seconds =
     → digits_value 10 (without_leading_plus word) < 4_294_967_296
     → seconds ≡ Some (digits_value 10 (without_leading_plus word))
 
--- The keep alive in seconds: as an option says, and without one 0, so that no ping is due (3.1.2.10).
+-- The keep alive in seconds: as an option says, and without one 0, so that no ping is due
+-- (3.1.2.10).
 abbrev pub IsKeepAlive : Option (List ℕ) → ℕ → Type 0
 IsKeepAlive None seconds = seconds ≡ 0
 IsKeepAlive (Some word) seconds =

@@ -14,6 +14,10 @@ broker_said (errors.ConnFail reason) = Some (Refused reason (record { text = Non
 broker_said (errors.ServerDisconnect reason text) = Some (Ended reason (record { text = text }))
 broker_said e = None
 
+-- an Auth came, which a broker may send only where the Connect names a method (4.12)
+abbrev pub unasked : TalkError
+unasked = Failed (faults.Session errors.WrongPacket)
+
 -- the same of a pipe's fault
 abbrev pub pipe_said : PipeError → Option TalkError
 pipe_said (faults.Session e) = broker_said e

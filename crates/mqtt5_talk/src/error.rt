@@ -2,7 +2,7 @@
 
 ghost use Rattle.std.specs.Prelude.{◌≡◌, None, Some, IfOk, IfErr};
 ghost use Rattle.mqtt5_talk.specs.declared.error.TalkError.TheVariants.{Failed, Forbidden as OfForbidden};
-ghost use Rattle.mqtt5_talk.specs.TalkErrors.{error_of, broker_said};
+ghost use Rattle.mqtt5_talk.specs.TalkErrors.{error_of, broker_said, unasked};
 ghost use Rattle.mqtt5_pipe.specs.declared.error.PipeError.TheVariants as faults;
 ghost use Rattle.mqtt5_inflight.specs.declared.error.StateError.TheVariants.{OutOfMemory};
 ghost use Rattle.mqtt5_inflight.specs.Errors.{state_error};
@@ -10,7 +10,7 @@ ghost use Rattle.mqtt5_inflight.specs.Errors.{state_error};
 use crate::capabilities::Forbidden;
 use crate::reason::ReasonText;
 use mqtt5_base::Error;
-use mqtt5_control::{ConnectReturnCode, DisconnectReasonCode};
+use mqtt5_control::{Auth, ConnectReturnCode, DisconnectReasonCode};
 use mqtt5_pipe::PipeError;
 use mqtt5_publish::PubAckReason;
 use mqtt5_session::StateError;
@@ -58,6 +58,14 @@ pub enum TalkError {
     /// Every other fault.
     #[error("{0}")]
     Failed(PipeError),
+}
+
+/// Why a talk stops where an Auth comes, for which it never asks.
+pub(crate) fn unasked(auth: Auth) -> TalkError
+    ensures { result ≡ unasked }
+{
+    drop(auth);
+    TalkError::Failed(PipeError::Session(StateError::WrongPacket))
 }
 
 /// What the broker said, where that is why a session stopped; else that fault.

@@ -222,6 +222,7 @@ pub(crate) fn send<W: Write>(client: &mut Client, writer: &mut W) -> Result<(), 
     ensures told { SendsOnly (W.contents writer.old) (W.contents writer.new) client.old []
         client.new }
     ensures kept { client.new ≡ record client.old { output = client.new.output } }
+    ensures whole { OnOk result (client.new.output.items ≡ []) }
     ensures ready { IsReady client.old → IsReady client.new }
 {
     match write_output(client, writer) {
@@ -251,6 +252,7 @@ pub(crate) fn ask<W: Write>(
     requires ready { IsReady client.old }
     ensures told { SendsOnly (W.contents writer.old) (W.contents writer.new) client.old
         (Asks wanted ∷ []) client.new }
+    ensures whole { OnOk result (client.new.output.items ≡ []) }
     ensures ready { OnOk result (IsReady client.new) }
 {
     hand_in(client, wanted)?;
@@ -263,6 +265,8 @@ pub fn close<W: Write>(client: &mut Client, writer: &mut W) -> Result<(), TalkEr
     // Nothing is said but the Disconnect.
     ensures told { SendsOnly (W.contents writer.old) (W.contents writer.new) client.old
         (Asks Disconnect ∷ []) client.new }
+    // All is written.
+    ensures written { OnOk result (client.new.output.items ≡ []) }
     // So another call may follow.
     ensures ready { OnOk result (IsReady client.new) }
 {

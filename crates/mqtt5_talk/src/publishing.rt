@@ -10,7 +10,7 @@ ghost use Rattle.mqtt5_talk.specs.Answers.{refusal_in, refusal_by};
 ghost use Rattle.mqtt5_talk.specs.Published.{asks_of, asks_of_all, Gave, GivesOut};
 
 use crate::capabilities::Capabilities;
-use crate::error::TalkError;
+use crate::error::{TalkError, unasked};
 use crate::opening::{endless, hand_in, hear_or_ping, send};
 use crate::reason::{ReasonText, reason_in};
 use crate::source::Source;
@@ -43,7 +43,8 @@ pub fn publish<R: Read, W: Write>(
         (W.contents writer.old) (W.contents writer.new) client.old (asks_of capabilities message)
         client.new }
     ensures allowed { OnOk result (forbidden_message capabilities message ≡ None) }
-    // Nothing awaits an ack.
+    // All is written, and nothing awaits an ack.
+    ensures written { OnOk result (client.new.output.items ≡ []) }
     ensures delivered { OnOk result (map.len client.new.state.core.in_use ≡ 0) }
     // So another call may follow.
     ensures ready { OnOk result (IsReady client.new) }
@@ -54,8 +55,8 @@ pub fn publish<R: Read, W: Write>(
 
 /// Sends the messages of a source in order, as many ahead of their acks as the session has identifiers and the broker
 /// takes, and takes turns until all are delivered, as `publish` does. Messages that the source has at hand are written
-/// together. Where the source is late, what was sent is delivered
-/// before it is asked for more. Faults as of `publish`, of the first message that has one, and those of the source.
+/// together. Where the source is late, what was sent is delivered before it is asked for more. Faults as of `publish`, of
+/// the first message that has one, and those of the source.
 pub fn publish_all<R: Read, W: Write, S: Source>(
     client: &mut Client,
     capabilities: Capabilities,
@@ -73,7 +74,8 @@ pub fn publish_all<R: Read, W: Write, S: Source>(
         × Gave S.gives source.old ms
         × OnOk result (GivesOut S.gives source.old ms source.new
         × All (λ m. forbidden_message capabilities m ≡ None) ms) }
-    // Nothing awaits an ack.
+    // All is written, and nothing awaits an ack.
+    ensures written { OnOk result (client.new.output.items ≡ []) }
     ensures delivered { OnOk result (map.len client.new.state.core.in_use ≡ 0) }
     // So another call may follow.
     ensures ready { OnOk result (IsReady client.new) }
@@ -103,6 +105,7 @@ fn publish_each<R: Read, W: Write, S: Source>(
         × Gave S.gives source.old ms
         × OnOk result (GivesOut S.gives source.old ms source.new
         × All (λ m. forbidden_message capabilities m ≡ None) ms) }
+    ensures written { OnOk result (client.new.output.items ≡ []) }
     ensures delivered { OnOk result (map.len client.new.state.core.in_use ≡ 0) }
     ensures ready { OnOk result (IsReady client.new) }
 {
@@ -198,6 +201,7 @@ fn await_acks<R: Read, W: Write>(
     requires ready { IsReady client.old }
     ensures talked { Talked pings (R.remaining reader.old) (R.remaining reader.new)
         (W.contents writer.old) (W.contents writer.new) client.old [] client.new }
+    ensures written { OnOk result (client.new.output.items ≡ []) }
     ensures delivered { OnOk result (map.len client.new.state.core.in_use ≡ 0) }
     ensures ready { OnOk result (IsReady client.new) }
 {
@@ -256,13 +260,14 @@ fn next_refusal(client: &mut Client) -> Option<TalkError>
     }
 }
 
-/// Why a message is refused, where the event says so.
+/// Why a message is refused, where the event says so; or that an Auth came, for which no talk asks.
 fn refusal_in(event: Event) -> Option<TalkError>
     ensures { result ≡ refusal_in event }
 {
     match event {
         Event::Incoming(Packet::PubAck(ack)) => refusal_by(ack.pkid, ack.reason, ack.properties),
         Event::Incoming(Packet::PubRec(ack)) => refusal_by(ack.pkid, ack.reason, ack.properties),
+        Event::Incoming(Packet::Auth(auth)) => Some(unasked(auth)),
         other => {
             drop(other);
             None

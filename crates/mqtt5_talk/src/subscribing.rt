@@ -10,13 +10,14 @@ ghost use Rattle.mqtt5_talk.specs.Conversation.{Saying, Asks, Conversation, Talk
 ghost use Rattle.mqtt5_talk.specs.Answers.{ack_of, acks_of, asked_by, ShowsAll, Showed, Acknowledges, IsSuccess, IsEnded};
 
 use crate::capabilities::Capabilities;
-use crate::error::TalkError;
+use crate::error::{TalkError, unasked};
 use crate::opening::{ask, endless, hear_or_ping};
 use crate::reason::{ReasonText, reason_in};
 use crate::show::Screen;
 use mqtt5_base::QoS;
 use mqtt5_client::{Client, Event, Request};
 use mqtt5_codec::Packet;
+use mqtt5_control::Auth;
 use mqtt5_publish::{PubAck, PubRec, Publish};
 use mqtt5_subscribe::{
     SubAck, Subscribe, SubscribeReasonCode, UnsubAck, UnsubAckReason, Unsubscribe,
@@ -38,6 +39,8 @@ pub fn subscribe<W: Write>(
         × ((said ≡ []) ⊎ ((said ≡ Asks (requests.Subscribe subscribe) ∷ [])
         × IsPermitted capabilities subscribe))
         × OnOk result (said ≡ Asks (requests.Subscribe subscribe) ∷ []) }
+    // All is written.
+    ensures written { OnOk result (client.new.output.items ≡ []) }
     // So another call may follow.
     ensures ready { OnOk result (IsReady client.new) }
 {
@@ -60,6 +63,8 @@ pub fn unsubscribe<W: Write>(
     // Nothing is said but the Unsubscribe.
     ensures told { SendsOnly (W.contents writer.old) (W.contents writer.new) client.old
         (Asks (requests.Unsubscribe unsubscribe) ∷ []) client.new }
+    // All is written.
+    ensures written { OnOk result (client.new.output.items ≡ []) }
     // So another call may follow.
     ensures ready { OnOk result (IsReady client.new) }
 {
@@ -68,7 +73,8 @@ pub fn unsubscribe<W: Write>(
 
 /// Takes turns until so many SubAcks and UnsubAcks came. What else comes is let go: a message is neither shown nor
 /// acknowledged, so in a session that is kept one of QoS 1 or 2 comes again. The client's session must leave the acks to
-/// the user. `pings` is as of `publish`. `NotSubscribed` and `NotUnsubscribed` where one refuses a filter, `Ended`, `Closed`; `Failed`, as of a turn.
+/// the user. `pings` is as of `publish`. `NotSubscribed` and `NotUnsubscribed` where one refuses a filter, `Ended`,
+/// `Closed`; `Failed`, as of a turn, and where an Auth comes, for which no talk asks.
 pub fn await_subscribed<R: Read, W: Write>(
     client: &mut Client,
     count: u64,
@@ -125,7 +131,7 @@ fn is_subscribed(client: &mut Client) -> Result<bool, TalkError>
     }
 }
 
-/// Whether an event is a SubAck or an UnsubAck, in which each filter has what was asked for it.
+/// Whether an event is a SubAck or an UnsubAck, in which each filter has what was asked for it. Err of an Auth.
 fn is_granted(event: Event) -> Result<bool, TalkError> {
     match event {
         Event::Incoming(Packet::SubAck(ack)) => {
@@ -136,6 +142,7 @@ fn is_granted(event: Event) -> Result<bool, TalkError> {
             judge_end(ack)?;
             Ok(true)
         }
+        Event::Incoming(Packet::Auth(auth)) => Err(unasked(auth)),
         other => {
             drop(other);
             Ok(false)
@@ -145,9 +152,9 @@ fn is_granted(event: Event) -> Result<bool, TalkError> {
 
 /// Shows each message that came and comes, and then acknowledges it, until so many were shown. One that the screen doesn't
 /// show is acknowledged too, and not counted. The client's session must leave the acks to the user. `pings` is as of
-/// `publish`. `NotSubscribed` and
-/// `NotUnsubscribed` where a SubAck or an UnsubAck refuses a filter, `Unshown`, `Ended`, `Closed`; `Failed`, as of a turn.
-/// What came with a fault is shown and not acknowledged.
+/// `publish`. `NotSubscribed` and `NotUnsubscribed` where a SubAck or an UnsubAck refuses a filter, `Unshown`, `Ended`,
+/// `Closed`; `Failed`, as of a turn, and where an Auth comes, for which no talk asks. What came with a fault is shown and
+/// not acknowledged.
 pub fn receive<R: Read, W: Write, S: Screen>(
     client: &mut Client,
     screen: &mut S,
@@ -157,8 +164,8 @@ pub fn receive<R: Read, W: Write, S: Screen>(
     writer: &mut W,
 ) -> Result<(), TalkError>
     requires ready { IsReady client.old }
-    // Nothing is said but the acks of messages that the screen was given, and pings; in the end those
-    // are all that it was, of which it showed so many.
+    // Nothing is said but the acks of messages that the screen was given, and pings; in the end
+    // those are all that it was given, of which it showed so many.
     ensures talked { (ps : List Message) × Talked pings (R.remaining reader.old)
         (R.remaining reader.new) (W.contents writer.old) (W.contents writer.new) client.old
         (acks_of ps) client.new
@@ -281,11 +288,19 @@ fn take_event<W: Write, S: Screen>(
         }
         Event::Incoming(Packet::SubAck(ack)) => judge(ack),
         Event::Incoming(Packet::UnsubAck(ack)) => judge_end(ack),
+        Event::Incoming(Packet::Auth(auth)) => refuse_auth(auth),
         other => {
             drop(other);
             Ok(0)
         }
     }
+}
+
+/// An Auth is never awaited.
+fn refuse_auth(auth: Auth) -> Result<u64, TalkError>
+    ensures none { IfOk result (λ shown. shown ≡ 0) }
+{
+    Err(unasked(auth))
 }
 
 /// 0 where each filter has its subscription.

@@ -156,6 +156,8 @@ impl Peer {
             Ok(Event::Incoming(Packet::ConnAck { session_present, properties, code: 0 })) => {
                 Some((*session_present, properties.clone()))
             }
+            // (an exchange of authentication data comes before it)
+            Ok(Event::Incoming(Packet::Auth { .. }) | Event::Outgoing(Outgoing::Auth)) => None,
             Err(ConnectionError::Io(_)) => None,
             other => panic!("no ConnAck: {other:?}"),
         })
@@ -284,6 +286,47 @@ fn will() {
     heir.publish("a/rust/will", QoS::AtLeastOnce, "nothing else");
     assert_eq!(text_of(&heir.next()), "nothing else");
     heir.leave();
+}
+
+fn goodbye() {
+    let (mut stays, _) = Peer::connected(usual("stays"));
+    stays.takes("a/rust/goodbye", QoS::AtLeastOnce);
+    let mut options = usual("goes");
+    options.set_last_will(LastWill::new("a/rust/goodbye", "left", QoS::AtLeastOnce, false, None));
+    let (goes, _) = Peer::connected(options);
+    let reason_string = Some("gone".to_owned());
+    goes.client.disconnect_with(4, Properties { reason_string, ..Properties::default() }).expect("a request is taken");
+    assert_eq!(text_of(&stays.next()), "left");
+    stays.leave();
+}
+
+/// Extended authentication by letters: each is answered by the next one.
+fn proving(id: &str, first: u8) -> MqttOptions {
+    let mut options = usual(id);
+    options.set_authentication("letters", Some(vec![first]), |came| {
+        vec![came.authentication_data.as_ref().expect("a letter")[0] + 1]
+    });
+    options
+}
+
+fn proof() {
+    let (mut proves, _) = Peer::connected(proving("proves", b'a'));
+    proves.takes("a/rust/proof", QoS::AtLeastOnce);
+    proves.client.reauthenticate(Some(vec![b'd'])).expect("a request is taken");
+    proves.awaits("an Auth of success", PATIENCE, |happening| match happening {
+        Ok(Event::Incoming(Packet::Auth { reason_code: 0, .. })) => Some(()),
+        _ => None,
+    });
+    proves.publish("a/rust/proof", QoS::AtLeastOnce, "proven");
+    assert_eq!(text_of(&proves.next()), "proven");
+    proves.leave();
+    let mut fails = Peer::over_tcp(proving("fails", b'x'), false);
+    let code = fails.awaits("a refusal", PATIENCE, |happening| match happening {
+        Err(ConnectionError::ConnectionRefused(code)) => Some(*code),
+        Err(other) => panic!("{other}"),
+        Ok(_) => None,
+    });
+    println!("refused: {code}");
 }
 
 fn response() {
@@ -506,9 +549,11 @@ fn tls() {
 }
 
 fn main() {
-    let rows: [(&str, fn()); 9] = [
+    let rows: [(&str, fn()); 11] = [
         ("login", login),
         ("will", will),
+        ("goodbye", goodbye),
+        ("proof", proof),
         ("response", response),
         ("expiry", expiry),
         ("filters", filters),

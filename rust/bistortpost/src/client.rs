@@ -20,6 +20,13 @@ const PIECE: usize = 65536;
 const PATIENCE: Duration = Duration::from_secs(20);
 /// The most bytes of a text (MQTT 5.0 section 1.5.4).
 const LONGEST: usize = 65535;
+/// Reason codes (MQTT 5.0 section 2.4).
+const NORMAL: u8 = 0;
+const CONTINUE: u8 = 24;
+const REAUTHENTICATE: u8 = 25;
+const PROTOCOL_ERROR: u8 = 130;
+/// S4: a packet that a client doesn't take.
+const WRONG_PACKET: Fault = Fault(4);
 
 /// Why a connection stops. The next `recv` opens it again.
 #[derive(Debug)]
@@ -94,7 +101,8 @@ enum Request {
     Subscribe(Vec<Filter>, Option<Properties>),
     Unsubscribe(String, Option<Properties>),
     Ack(u16, QoS),
-    Disconnect,
+    Disconnect(u8, Option<Properties>),
+    Reauthenticate(Option<Vec<u8>>),
 }
 
 impl Request {
@@ -104,7 +112,7 @@ impl Request {
             Request::Publish(publish) => publish.topic.len(),
             Request::Subscribe(filters, _) => filters.iter().map(|filter| filter.path.len()).max().unwrap_or(0),
             Request::Unsubscribe(filter, _) => filter.len(),
-            Request::Ack(..) | Request::Disconnect => 0,
+            Request::Ack(..) | Request::Disconnect(..) | Request::Reauthenticate(_) => 0,
         }
     }
 }
@@ -223,7 +231,19 @@ impl Client {
     }
 
     pub fn disconnect(&self) -> Result<(), ClientError> {
-        self.ask(Request::Disconnect, true)
+        self.ask(Request::Disconnect(NORMAL, None), true)
+    }
+
+    /// Ends the connection for a reason (MQTT 5.0 section 3.14.2.1), as 4, after which the broker publishes the will. A
+    /// reason that only a broker gives is refused, and the connection goes on.
+    pub fn disconnect_with(&self, reason: u8, properties: Properties) -> Result<(), ClientError> {
+        self.ask(Request::Disconnect(reason, Some(properties)), true)
+    }
+
+    /// Authenticates anew, with this data first (MQTT 5.0 section 4.12.1). The broker's yes comes as an Auth with reason 0; by
+    /// a no it ends the connection.
+    pub fn reauthenticate(&self, data: Option<Vec<u8>>) -> Result<(), ClientError> {
+        self.ask(Request::Reauthenticate(data), true)
     }
 }
 
@@ -386,8 +406,11 @@ impl Connection {
     /// Takes the events out, and the session up where one is a ConnAck.
     fn tell(&mut self) -> Result<(), ConnectionError> {
         let session = self.session.as_mut().expect("a connection has a session");
-        let mut present = None;
+        let (mut present, mut answered) = (None, Ok(()));
         while let Some(event) = session.next_event()? {
+            if let Event::Incoming(Packet::Auth { reason_code: CONTINUE, properties }) = &event {
+                answered = answer_auth(session, &self.options, properties);
+            }
             if let Event::Incoming(Packet::ConnAck { session_present, properties, .. }) = &event {
                 present = Some(*session_present);
                 self.keep_alive = properties
@@ -402,7 +425,12 @@ impl Connection {
             }
             self.came.push_back(Ok(event));
         }
+        if answered.is_err() {
+            self.flush()?;
+            return answered;
+        }
         let Some(present) = present else { return Ok(()) };
+        let session = self.session.as_mut().expect("a connection has a session");
         let dropped = session.take_up(present, 0)?;
         self.is_acked = true;
         self.was_acked = true;
@@ -428,7 +456,8 @@ impl Connection {
             Request::Ack(pkid, QoS::AtLeastOnce) => session.puback(*pkid, 0),
             Request::Ack(pkid, QoS::ExactlyOnce) => session.pubrec(*pkid, 0),
             Request::Ack(_, QoS::AtMostOnce) => Ok(()),
-            Request::Disconnect => session.disconnect(0),
+            Request::Disconnect(reason, properties) => session.disconnect_with(*reason, properties.as_ref(), 0),
+            Request::Reauthenticate(data) => session.auth(REAUTHENTICATE, &proof(&self.options, data.clone()), 0),
         };
         // A request that is refused changes nothing, and the connection goes on.
         if let Err(fault) = asked {
@@ -436,6 +465,25 @@ impl Connection {
         }
         self.tell()
     }
+}
+
+/// The properties of an Auth with this data, of the method that the options name.
+fn proof(options: &MqttOptions, data: Option<Vec<u8>>) -> Properties {
+    Properties {
+        authentication_method: options.properties.authentication_method.clone(),
+        authentication_data: data,
+        ..Properties::default()
+    }
+}
+
+/// Answers the broker's Auth; one that nobody asked for by a Disconnect.
+fn answer_auth(session: &mut Session, options: &MqttOptions, properties: &Properties) -> Result<(), ConnectionError> {
+    let Some(authenticator) = &options.authenticator else {
+        session.disconnect_with(PROTOCOL_ERROR, None, 0)?;
+        return Err(WRONG_PACKET.into());
+    };
+    session.auth(CONTINUE, &proof(options, Some(authenticator.answer(properties))), 0)?;
+    Ok(())
 }
 
 impl Drop for Connection {

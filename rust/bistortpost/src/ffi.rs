@@ -91,6 +91,8 @@ extern "C" {
     pub(crate) fn mqtt5_client_pubrec(h: *mut Handle, pkid: u16, at: u64) -> u32;
     pub(crate) fn mqtt5_client_ping(h: *mut Handle, at: u64) -> u32;
     pub(crate) fn mqtt5_client_disconnect(h: *mut Handle, at: u64) -> u32;
+    pub(crate) fn mqtt5_client_disconnect_with(h: *mut Handle, reason: u8, at: u64) -> u32;
+    pub(crate) fn mqtt5_client_auth(h: *mut Handle, reason: u8, at: u64) -> u32;
     pub(crate) fn mqtt5_client_next_event(
         h: *mut Handle,
         event: *mut EventInfo,

@@ -2,7 +2,29 @@
 
 use crate::mqttbytes::QoS;
 use crate::Properties;
+use std::fmt;
+use std::sync::{Arc, Mutex};
 use std::time::Duration;
+
+type Answer = dyn FnMut(&Properties) -> Vec<u8> + Send;
+
+/// What answers the broker's Auths.
+#[derive(Clone)]
+pub(crate) struct Authenticator(Arc<Mutex<Answer>>);
+
+impl Authenticator {
+    /// The data that answers an Auth with these properties.
+    pub(crate) fn answer(&self, properties: &Properties) -> Vec<u8> {
+        let mut answer = self.0.lock().expect("no answer panics");
+        answer(properties)
+    }
+}
+
+impl fmt::Debug for Authenticator {
+    fn fmt(&self, f: &mut fmt::Formatter<'_>) -> fmt::Result {
+        write!(f, "Authenticator")
+    }
+}
 
 /// What the broker publishes once the connection is lost (MQTT 5.0 section 3.1.2.5).
 #[derive(Clone, Debug, PartialEq, Eq)]
@@ -39,6 +61,7 @@ pub struct MqttOptions {
     pub(crate) properties: Properties,
     pub(crate) manual_acks: bool,
     pub(crate) limit: u16,
+    pub(crate) authenticator: Option<Authenticator>,
 }
 
 impl MqttOptions {
@@ -55,6 +78,7 @@ impl MqttOptions {
             properties: Properties::default(),
             manual_acks: false,
             limit: 100,
+            authenticator: None,
         }
     }
 
@@ -105,6 +129,20 @@ impl MqttOptions {
 
     pub fn set_user_properties(&mut self, pairs: Vec<(String, String)>) -> &mut Self {
         self.properties.user_properties = pairs;
+        self
+    }
+
+    /// Extended authentication (4.12): its method, its first data, and what answers each Auth that the broker sends to go
+    /// on, given its properties, by the data of the next one.
+    pub fn set_authentication(
+        &mut self,
+        method: impl Into<String>,
+        data: Option<Vec<u8>>,
+        answer: impl FnMut(&Properties) -> Vec<u8> + Send + 'static,
+    ) -> &mut Self {
+        self.properties.authentication_method = Some(method.into());
+        self.properties.authentication_data = data;
+        self.authenticator = Some(Authenticator(Arc::new(Mutex::new(answer))));
         self
     }
 

@@ -102,7 +102,11 @@ pub enum Packet {
         reason_code: u8,
         properties: Properties,
     },
-    /// One that a broker doesn't send, or an Auth; its type.
+    Auth {
+        reason_code: u8,
+        properties: Properties,
+    },
+    /// One that a broker doesn't send; its type.
     Other(u32),
 }
 
@@ -118,6 +122,7 @@ pub enum Outgoing {
     Unsubscribe(u16),
     PingReq,
     Disconnect,
+    Auth,
     /// A publish waits until this packet identifier is free.
     AwaitAck(u16),
 }

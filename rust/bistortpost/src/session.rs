@@ -164,6 +164,21 @@ impl Session {
         done(unsafe { mqtt5_client_disconnect(&mut *self.handle, at) })
     }
 
+    /// Ends the connection for a reason, as 4, after which the broker publishes the will. A reason that only a broker gives
+    /// is refused, and the connection goes on.
+    pub fn disconnect_with(&mut self, reason: u8, properties: Option<&Properties>, at: u64) -> Result<(), Fault> {
+        self.begin()?;
+        self.add(properties)?;
+        done(unsafe { mqtt5_client_disconnect_with(&mut *self.handle, reason, at) })
+    }
+
+    /// Sends an Auth, of which the properties name the method: reason 24 goes on with the exchange, 25 begins anew.
+    pub fn auth(&mut self, reason: u8, properties: &Properties, at: u64) -> Result<(), Fault> {
+        self.begin()?;
+        self.add(Some(properties))?;
+        done(unsafe { mqtt5_client_auth(&mut *self.handle, reason, at) })
+    }
+
     /// Takes a piece of the bytes that came in, cut anywhere.
     pub fn receive(&mut self, bytes: &[u8], at: u64) -> Result<(), Fault> {
         done(unsafe { mqtt5_client_receive(&mut *self.handle, bytes.as_ptr(), bytes.len(), at) })
@@ -384,6 +399,7 @@ fn event_of(
             8 => Outgoing::Subscribe(pkid),
             10 => Outgoing::Unsubscribe(pkid),
             12 => Outgoing::PingReq,
+            15 => Outgoing::Auth,
             _ => Outgoing::Disconnect,
         })),
         _ => Some(Event::Outgoing(Outgoing::AwaitAck(pkid))),
@@ -422,6 +438,7 @@ fn packet_of(
         11 => Packet::UnsubAck { pkid, reasons, properties },
         13 => Packet::PingResp,
         14 => Packet::Disconnect { reason_code: reason, properties },
+        15 => Packet::Auth { reason_code: reason, properties },
         other => Packet::Other(other),
     }
 }

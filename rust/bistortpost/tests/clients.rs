@@ -443,3 +443,85 @@ fn a_broker_that_shuts_down() {
     while connection.recv().is_ok() {}
     following.join().unwrap();
 }
+
+#[test]
+fn goodbye_for_a_reason() {
+    let _limit = limit("goodbye_for_a_reason");
+    // Disconnect with Will Message, and a reason string (3.14.2); server busy is the broker's reason.
+    let (options, following) =
+        broker(vec![vec![Gets(CONNECT), Says(CONNACK), Gets("30 05 0001 61 00 78"), Gets("E0 06 04 04 1F 0001 72")]]);
+    let (client, mut connection) = Client::new(options, 10);
+    client.disconnect_with(137, Properties::default()).unwrap();
+    client.publish("a", QoS::AtMostOnce, false, "x").unwrap();
+    let reason_string = Some("r".to_owned());
+    client.disconnect_with(4, Properties { reason_string, ..Properties::default() }).unwrap();
+    let (mut refused, mut left) = (0, false);
+    for event in connection.iter() {
+        match event {
+            Err(ConnectionError::MqttState(fault)) => {
+                assert_eq!(fault.to_string(), "S1");
+                refused += 1;
+            }
+            Ok(Event::Outgoing(Outgoing::Disconnect)) => left = true,
+            Err(ConnectionError::Io(_)) => break,
+            Err(error) => panic!("{error}"),
+            Ok(_) => {}
+        }
+    }
+    following.join().unwrap();
+    assert_eq!((refused, left), (1, true));
+}
+
+#[test]
+fn authentication() {
+    let _limit = limit("authentication");
+    // Method "m": data 1, answered by 2, which is answered by 3 before the ConnAck; then anew with 6, answered by 7, and 8
+    // (4.12, 4.12.1).
+    let (mut options, following) = broker(vec![vec![
+        Gets("10 1B 0004 4D515454 05 02 003C 0D 11 00000000 15 0001 6D 16 0001 01 0001 63"),
+        Says("F0 0A 18 08 15 0001 6D 16 0001 02"),
+        Gets("F0 0A 18 08 15 0001 6D 16 0001 03"),
+        Says(CONNACK),
+        Gets("F0 0A 19 08 15 0001 6D 16 0001 06"),
+        Says("F0 0A 18 08 15 0001 6D 16 0001 07"),
+        Gets("F0 0A 18 08 15 0001 6D 16 0001 08"),
+        Says("F0 06 00 04 15 0001 6D"),
+        Gets(DISCONNECT),
+    ]]);
+    options
+        .set_authentication("m", Some(vec![1]), |came| vec![came.authentication_data.as_ref().expect("data")[0] + 1]);
+    let (client, mut connection) = Client::new(options, 10);
+    client.reauthenticate(Some(vec![6])).unwrap();
+    let mut reasons = Vec::new();
+    for event in connection.iter() {
+        match event.unwrap() {
+            Event::Incoming(Packet::Auth { reason_code, .. }) => {
+                reasons.push(reason_code);
+                if reason_code == 0 {
+                    client.disconnect().unwrap();
+                }
+            }
+            Event::Outgoing(Outgoing::Disconnect) => break,
+            _ => {}
+        }
+    }
+    connection.recv().unwrap_err();
+    following.join().unwrap();
+    assert_eq!(reasons, [24, 24, 0]);
+}
+
+#[test]
+fn an_auth_that_nobody_asked_for() {
+    let _limit = limit("an_auth_that_nobody_asked_for");
+    // No method was named, so it is a protocol error (4.12).
+    let (options, following) = broker(vec![vec![
+        Gets(CONNECT),
+        Says(CONNACK),
+        Says("F0 0A 18 08 15 0001 6D 16 0001 02"),
+        Gets("E0 02 82 00"),
+    ]]);
+    let (_client, mut connection) = Client::new(options, 10);
+    let fault = connection.iter().find_map(Result::err).expect("a fault");
+    assert_eq!(fault.to_string(), "S4");
+    following.join().unwrap();
+}

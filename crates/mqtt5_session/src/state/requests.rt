@@ -5,16 +5,17 @@ ghost use Rattle.mqtt5_base.specs.declared.quality.QoS.TheVariants.{AtMostOnce};
 ghost use Rattle.mqtt5_session.specs.Session.{Session, Sends};
 ghost use Rattle.mqtt5_session.specs.Replies.{in_full};
 ghost use Rattle.mqtt5_session.specs.Planned.{Stores, Plans, IsLeft};
-ghost use Rattle.mqtt5_session.specs.Requests.{id_for, last_after, with_event_at, verdict_of, Verdict, out_publish, with_stored, awaits, on_request, out_identified, out_release, out_subscribe, out_unsubscribe, pings_with, disconnect_of};
+ghost use Rattle.mqtt5_session.specs.Requests.{id_for, last_after, with_event_at, verdict_of, Verdict, out_publish, with_stored, awaits, on_request, out_identified, out_release, out_subscribe, out_unsubscribe, pings_with, disconnect_of, may_leave_for, out_disconnect, may_answer_with, names_method, out_auth};
 
 use super::MqttState;
 use crate::packed::{
-    as_disconnect, as_puback, as_pubrec, as_release, as_subscribe, as_unsubscribe,
+    as_auth, as_disconnect, as_puback, as_pubrec, as_release, as_subscribe, as_unsubscribe,
+    disconnect_packet,
 };
 use crate::reply::Reply;
 use mqtt5_base::{QoS, copied};
 use mqtt5_codec::Packet;
-use mqtt5_control::DisconnectReasonCode;
+use mqtt5_control::{Auth, AuthProperties, AuthReasonCode, Disconnect, DisconnectReasonCode};
 use mqtt5_inflight::{Event, Outgoing, Request, Slot, StateError, alias_over};
 use mqtt5_publish::{PubAck, PubRec, Publish};
 use mqtt5_subscribe::{Subscribe, Unsubscribe};
@@ -386,6 +387,30 @@ impl MqttState {
         Ok(Some(as_disconnect(DisconnectReasonCode::NormalDisconnection)))
     }
 
+    pub(super) fn send_reason(
+        &mut self,
+        disconnect: Disconnect,
+        at: u64,
+    ) -> Result<Option<Packet>, StateError>
+        ensures { Sends result self.old self.new (out_disconnect self.old disconnect at) }
+    {
+        if !may_leave_for(disconnect.reason_code) {
+            return Err(StateError::InvalidState);
+        }
+        self.tell_at(Outgoing::Disconnect, at)?;
+        Ok(Some(disconnect_packet(disconnect)))
+    }
+
+    pub(super) fn send_auth(&mut self, auth: Auth, at: u64) -> Result<Option<Packet>, StateError>
+        ensures { Sends result self.old self.new (out_auth self.old auth at) }
+    {
+        if !may_answer_with(&auth.code) || !names_method(&auth.properties) {
+            return Err(StateError::InvalidState);
+        }
+        self.tell_at(Outgoing::Auth, at)?;
+        Ok(Some(as_auth(auth)))
+    }
+
     pub(super) fn send_puback(&mut self, ack: PubAck, at: u64) -> Result<Option<Packet>, StateError>
         ensures { Sends result self.old self.new
             (Ok (Some (Packet.PubAck ack)), with_event_at self.old (Outgoing.PubAck ack.pkid) at) }
@@ -410,5 +435,46 @@ fn pings_with(waiting: &Option<Publish>, count: usize) -> usize
     match waiting {
         Some(_) => count.saturating_add(1),
         None => count,
+    }
+}
+
+/// Whether a client may end the connection for this reason.
+fn may_leave_for(reason: DisconnectReasonCode) -> bool
+    ensures { result ≡ may_leave_for reason }
+{
+    matches!(
+        reason,
+        DisconnectReasonCode::NormalDisconnection
+            | DisconnectReasonCode::DisconnectWithWillMessage
+            | DisconnectReasonCode::UnspecifiedError
+            | DisconnectReasonCode::MalformedPacket
+            | DisconnectReasonCode::ProtocolError
+            | DisconnectReasonCode::ImplementationSpecificError
+            | DisconnectReasonCode::TopicNameInvalid
+            | DisconnectReasonCode::ReceiveMaximumExceeded
+            | DisconnectReasonCode::TopicAliasInvalid
+            | DisconnectReasonCode::PacketTooLarge
+            | DisconnectReasonCode::MessageRateTooHigh
+            | DisconnectReasonCode::QuotaExceeded
+            | DisconnectReasonCode::AdministrativeAction
+            | DisconnectReasonCode::PayloadFormatInvalid
+            | DisconnectReasonCode::ConnectionRateExceeded
+    )
+}
+
+/// Whether a client may say this of the exchange of authentication data.
+fn may_answer_with(code: &AuthReasonCode) -> bool
+    ensures { result ≡ may_answer_with code.now }
+{
+    !matches!(code, AuthReasonCode::Success)
+}
+
+/// Whether the method of authentication is named.
+fn names_method(properties: &Option<AuthProperties>) -> bool
+    ensures { result ≡ names_method properties.now }
+{
+    match properties {
+        Some(set) => set.method.is_some(),
+        None => false,
     }
 }

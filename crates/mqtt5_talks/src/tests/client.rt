@@ -7,9 +7,12 @@ use super::drive::drives;
 use super::{add_bytes, bytes_of, cut, number_of, publish_hi, quality_of};
 use crate::first::{hear, publish_first};
 use bytes::Bytes;
-use mqtt5_base::{Error, QoS};
+use mqtt5_base::{Error, QoS, Text};
 use mqtt5_client::{Client, Event, Request, StateError, error_number, state_error_number};
 use mqtt5_connect::LastWill;
+use mqtt5_control::{
+    Auth, AuthProperties, AuthReasonCode, Disconnect, DisconnectProperties, DisconnectReasonCode,
+};
 use mqtt5_options::MqttOptions;
 use mqtt5_publish::Publish;
 use std::alloc::{AllocError, Global};
@@ -20,8 +23,9 @@ use std::time::Duration;
 /// "w", QoS 1, retain, and the login "u", "p"; `again` has no clean start, a keep alive of 70,000 seconds and a maximum
 /// packet size of 100 (3.1.2.11.4). `ask` is a publish of "hi" to "a/b" at a quality of service (3.3), `hear` a piece that
 /// comes in, `fill` one that is put at the end of the input, and `limit` takes the limit of the ConnAcks that were told;
-/// `clean` asks again for what is given back last, and `end` asks for a Disconnect (3.14.4). `limits` are those of what comes
-/// in and what is sent, `maxima` those of publishes in flight and of topic aliases.
+/// `clean` asks again for what is given back last, and `end` asks for a Disconnect (3.14.4). `leave` says one with this reason
+/// and the reason string "r" (3.14.2), `auth` an Auth of this code with the method "m" (3.15.2), and `bare` one without it.
+/// `limits` are those of what comes in and what is sent, `maxima` those of publishes in flight and of topic aliases.
 const CALLS: &str = "connect; output=100E00044D5154540502003C00000163; limits=None/None
 connect:parts; output=101B00044D51545405EE003C000001630000017700016D000175000170; limits=None/None
 connect:again; output=101300044D5154540500FFFF052700000064000163; limits=Some(100)/None
@@ -52,6 +56,10 @@ big:1; ask:1; sent:3000; connect:again; sent:21; hear:20080100052700; hear:0003E
 ask:1; ask:1; sent:100; connect:again; sent:21; hear:2009000006210002220003; take:0=S1; event=Publish(1); event=Publish(2); event=; take:0=2; ids=0; maxima=2/3; output=-; ask:1; event=Publish(1); output=320A0003612F620001006869
 hear:40020005=S2(5); held=-
 hear:C000=S4; held=-
+leave:4; event=Disconnect; event=; output=E00604041F000172; ask:0=S13; leave:0=S13; auth:24=S13; connect; output=100E00044D5154540502003C00000163
+leave:137=S1; event=; output=-; out:7; leave:4=S9(8,7); event=; output=-; ask:0=S9(10,7); out:8; leave:4; output=E00604041F000172
+hear:F0061804150001; hear:6D; event=; event=; output=-; auth:24; event=Auth; output=F00618041500016D; hear:2003000000; auth:25; output=F00618041500016DF00619041500016D; ids=0
+auth:0=S1; bare:24=S1; out:7; auth:24=S9(8,7); event=; output=-
 hear:30FFFFFFFF=S7E17; held=-
 hear:E0028B00=S10; held=-
 hear:2003008700=S11; held=-
@@ -159,6 +167,39 @@ fn cleans(client: &mut Client) -> Result<(), StateError> {
     }
 }
 
+fn leaves(alloc: Global, client: &mut Client, reason: &str) -> Result<(), StateError> {
+    let mut properties = DisconnectProperties::new(alloc);
+    properties.reason_string = Some(Text::from_str(alloc, "r")?);
+    let reason_code = match reason {
+        "4" => DisconnectReasonCode::DisconnectWithWillMessage,
+        "137" => DisconnectReasonCode::ServerBusy,
+        _normal => DisconnectReasonCode::NormalDisconnection,
+    };
+    let disconnect = Disconnect {
+        reason_code,
+        properties: Some(properties),
+    };
+    client.disconnect(disconnect, 3)
+}
+
+fn authenticates(
+    alloc: Global,
+    client: &mut Client,
+    name: &str,
+    code: &str,
+) -> Result<(), StateError> {
+    let mut properties = AuthProperties::new(alloc);
+    if name == "auth" {
+        properties.method = Some(Text::from_str(alloc, "m")?);
+    }
+    let code = match code {
+        "24" => AuthReasonCode::Continue,
+        "25" => AuthReasonCode::ReAuthentivate,
+        _success => AuthReasonCode::Success,
+    };
+    client.authenticate(Auth::new(code, Some(properties)), 3)
+}
+
 /// Makes a call.
 fn calls(alloc: Global, client: &mut Client, name: &str, argument: &str) -> Result<(), StateError>
     requires { IsReady client.old }
@@ -172,6 +213,8 @@ fn calls(alloc: Global, client: &mut Client, name: &str, argument: &str) -> Resu
         "resume" => client.resume(4),
         "clean" => cleans(client),
         "end" => client.request(Request::Disconnect, 3),
+        "leave" => leaves(alloc, client, argument),
+        "auth" | "bare" => authenticates(alloc, client, name, argument),
         _drive => drives(alloc, client, argument),
     }
 }

@@ -21,7 +21,8 @@ use std::test::Fail;
 /// shows two messages, `await` waits for two answers of these, and `await_end` reads what comes behind them. The broker's
 /// answers are ConnAcks, some not authorized, one with a maximum packet size of 10, and some without QoS 1, wildcards or
 /// shared subscriptions (3.2), acks of ids 1 and 2, some with quota exceeded (3.4 to 3.7), SubAcks and UnsubAcks, some not
-/// authorized (3.9, 3.11), PingResps (3.13), and a Disconnect for shutting down (3.14). Some have the reason string "no".
+/// authorized (3.9, 3.11), PingResps (3.13), a Disconnect for shutting down (3.14), and Auths that go on (3.15). Some have
+/// the reason string "no".
 const TALKS: &str =
     "publisher; from:2003000000; open; publish:0; close; written=100D00044D5154540502000000000030080003612F62006869E000
 publisher; from:2003008700; open=the broker refused the connection: NotAuthorized; written=100D00044D51545405020000000000
@@ -60,6 +61,10 @@ publisher; from:w/2003000000; pings; open=reads: WouldBlock; written=100D00044D5
 subscriber; from:2003000000/w/900400010002/D000/30080003612F62006869/w/D000/30080003612F62006869; pings; open; subscribe; receive; close; written=100D00044D5154540502000000000082090001000003612F2302C000C000E000; shown=612F622068690A612F622068690A
 subscriber; from:2003000000/900400010002/w/w; pings; open; subscribe; receive=Last pingreq isn't acked; written=100D00044D5154540502000000000082090001000003612F2302C000
 subscriber; from:2003000000/900400010002/B00400020087; open; subscribe; unsubscribe; await=the broker refused to end the subscription: NotAuthorized; written=100D00044D5154540502000000000082090001000003612F2302A2080002000003612F23
+publisher; from:F00618041500016D; open=the broker didn't answer the connect; written=100D00044D51545405020000000000
+publisher; from:2003000000/F00618041500016D; open; publish:1=Received a wrong packet while waiting for another packet; written=100D00044D51545405020000000000320A0003612F620001006869
+subscriber; from:2003000000/F00618041500016D; open; subscribe; receive=Received a wrong packet while waiting for another packet; written=100D00044D5154540502000000000082090001000003612F2302; shown=-
+subscriber; from:2003000000/F00618041500016D; open; subscribe; unsubscribe; await=Received a wrong packet while waiting for another packet; written=100D00044D5154540502000000000082090001000003612F2302A2080002000003612F23
 ";
 
 fn connect(alloc: Global) -> Result<Packet, Error> {

@@ -8,8 +8,8 @@ pub const ALIKE: &str = "<0 - 0 =
 <u - u =
 <D S10(NormalDisconnection) D =
 <d S10(ServerShuttingDown) d =
-<H S4 H =
-<h S4 h =
+<H - H =
+<h - h =
 <N S4 N =
 <P S4 P =
 <S S4 S =
