@@ -1,0 +1,3 @@
+pub mod FramesAgain
+pub mod HeadAgain
+pub mod Whole

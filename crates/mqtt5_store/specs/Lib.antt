@@ -1,0 +1,4 @@
+pub mod Errors
+pub mod Answers
+pub mod Format
+pub mod Saving
