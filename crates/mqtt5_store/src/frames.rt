@@ -15,7 +15,7 @@ use mqtt5_publish::Publish;
 use std::alloc::Global;
 
 /// Takes the packet at the front out. `Cut` or `Frame`.
-pub fn read_packet(alloc: Global, stream: &mut BytesMut) -> Result<Packet, StoreError>
+pub(super) fn read_packet(alloc: Global, stream: &mut BytesMut) -> Result<Packet, StoreError>
     ensures { Gives (λ p. (p, stream.new.items)) result (packet_at stream.old.items) }
 {
     frame_laws();
@@ -26,7 +26,7 @@ pub fn read_packet(alloc: Global, stream: &mut BytesMut) -> Result<Packet, Store
 }
 
 /// Takes so many packets out.
-pub fn read_packets(
+pub(super) fn read_packets(
     alloc: Global,
     count: u64,
     stream: &mut BytesMut,
@@ -48,7 +48,7 @@ pub fn read_packets(
 }
 
 /// Takes the publish that waits out, where one does.
-pub fn read_waiting(
+pub(super) fn read_waiting(
     alloc: Global,
     waits: bool,
     stream: &mut BytesMut,
@@ -68,7 +68,7 @@ pub fn read_waiting(
 }
 
 /// Appends a packet's frame.
-pub fn put_packet(packet: &Packet, out: &mut BytesMut) -> Result<(), Error>
+pub(super) fn put_packet(packet: &Packet, out: &mut BytesMut) -> Result<(), Error>
     ensures ok { OnOk result (Appends (λ bytes. IsPacket bytes (norm packet.now)) out.old.items
         out.new.items) }
     ensures err { IfErr result (λ f. CantPut packet.now f) }
@@ -80,7 +80,7 @@ pub fn put_packet(packet: &Packet, out: &mut BytesMut) -> Result<(), Error>
 }
 
 /// Appends the frames of packets.
-pub fn put_packets(packets: &Vec<Packet>, out: &mut BytesMut) -> Result<(), Error>
+pub(super) fn put_packets(packets: &Vec<Packet>, out: &mut BytesMut) -> Result<(), Error>
     ensures ok { OnOk result (Appends (λ bytes. ArePackets bytes packets.now.items) out.old.items
         out.new.items) }
     ensures err { IfErr result (λ f. CantPutOne packets.now.items f) }
@@ -95,14 +95,14 @@ pub fn put_packets(packets: &Vec<Packet>, out: &mut BytesMut) -> Result<(), Erro
 }
 
 /// Whether a publish waits.
-pub fn is_waiting(waiting: Option<&Publish>) -> bool
+pub(super) fn is_waiting(waiting: Option<&Publish>) -> bool
     ensures { result ≡ is_some (option_copied waiting.entry) }
 {
     waiting.is_some()
 }
 
 /// Appends the frame of the publish that waits, where one does.
-pub fn put_waiting(waiting: Option<&Publish>, out: &mut BytesMut) -> Result<(), Error>
+pub(super) fn put_waiting(waiting: Option<&Publish>, out: &mut BytesMut) -> Result<(), Error>
     ensures ok { OnOk result (Appends (λ bytes. IsWaiting bytes (option_copied waiting.entry))
         out.old.items out.new.items) }
     ensures err { IfErr result (λ f. CantPutWaiting (option_copied waiting.entry) f) }

@@ -20,24 +20,24 @@ const VERSION: u16 = 1;
 
 /// The numbers of a head, in the order of its bytes.
 #[derive(Clone, Copy, Debug, PartialEq, Eq)]
-pub struct Head {
-    pub magic: u32,
-    pub version: u16,
-    pub limit: u16,
-    pub current: u16,
-    pub last: u16,
-    pub alias_max: u16,
+pub(super) struct Head {
+    pub(super) magic: u32,
+    pub(super) version: u16,
+    pub(super) limit: u16,
+    pub(super) current: u16,
+    pub(super) last: u16,
+    pub(super) alias_max: u16,
     /// Not 0 where the user sends the acks.
-    pub manual_acks: u16,
+    pub(super) manual_acks: u16,
     /// Not 0 where a publish waits, whose frame is then the first.
-    pub waits: u16,
+    pub(super) waits: u16,
     /// How many frames follow, beside that one.
-    pub count: u64,
+    pub(super) count: u64,
 }
 
 impl Head {
     /// The session's numbers.
-    pub fn numbers(&self) -> Numbers
+    pub(super) fn numbers(&self) -> Numbers
         ensures { result ≡ record {
           limit = self.now.limit;
           current = self.now.current;
@@ -56,7 +56,7 @@ impl Head {
     }
 
     /// Whether a publish waits.
-    pub fn is_waiting(&self) -> bool
+    pub(super) fn is_waiting(&self) -> bool
         ensures { result ≡ is_set self.now.waits }
     {
         is_set(self.waits)
@@ -64,7 +64,7 @@ impl Head {
 }
 
 /// Appends a head. Err where memory is refused.
-pub fn put_head(
+pub(super) fn put_head(
     numbers: Numbers,
     waits: bool,
     count: u64,
@@ -86,7 +86,7 @@ pub fn put_head(
 
 /// The bytes of a head are read as its numbers, whatever follows. A law: the body only looks at the numbers, which says
 /// what their types do.
-pub fn head_known(numbers: Numbers, waits: bool, count: u64)
+pub(super) fn head_known(numbers: Numbers, waits: bool, count: u64)
     ensures { (rest : List ℕ) → head_at (head_bytes numbers waits count ++ rest)
         ≡ Ok (head_for numbers waits count, rest) }
 {
@@ -98,7 +98,7 @@ pub fn head_known(numbers: Numbers, waits: bool, count: u64)
 
 /// Takes the head at the front out. `Cut`, `Foreign` or `Version`.
 #[tactic(auto, unfolding(crate::specs::Format::head_at))]
-pub fn read_head(stream: &mut BytesMut) -> Result<Head, StoreError>
+pub(super) fn read_head(stream: &mut BytesMut) -> Result<Head, StoreError>
     ensures { Gives (λ h. (h, stream.new.items)) result (head_at stream.old.items) }
 {
     let there = stream.len();
