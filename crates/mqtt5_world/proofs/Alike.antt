@@ -60,7 +60,7 @@ sound_calls (call ∷ rest) s i = sound_calls rest (after_call s call) (sound_ca
 pub sound_after : (cs : List Call) (limit : ℕ) (manual : Bool) → Sound (after_calls cs (fresh limit manual)).core
 sound_after cs limit manual = sound_calls cs (fresh limit manual) (sound_start limit manual)
 
-in_one_piece : (s : Session) (at : ℕ) → Sound s.core → resume_of s at ≡ sent_unless (aliases_over s) (packets_of s.core.limit s.core.in_use) (in_use_again s.core.in_use) (on_clean s) at
+pub in_one_piece : (s : Session) (at : ℕ) → Sound s.core → resume_of s at ≡ sent_unless (aliases_over s) (packets_of s.core.limit s.core.in_use) (in_use_again s.core.in_use) (on_clean s) at
 in_one_piece s at i = resumes s at (within_fits s.core.limit s.core.in_use i.0)
 
 pub within : (s : Session) (at : ℕ) → Sound s.core → aliases_over s ≡ [] → IsOk (resume_of s at)
@@ -247,11 +247,11 @@ inc_agrees c s t packet at = by (event_of (with c s) packet)
 -- ---- any calls
 
 -- two sessions say the same to a call, and have one core after it but for dup of what awaits an ack
-abbrev Twins : Call → Session → Session → Type 0
+abbrev pub Twins : Call → Session → Session → Type 0
 Twins call s t = SameReply call (reply_of s call) (reply_of t call) × (with_dup (after_call s call).core ≡ with_dup (after_call t call).core)
 
 -- a clean gives the same
-given_alike : (limit : ℕ) (h : InUse) → requests_of limit h ≡ requests_of limit (in_use_again h)
+pub given_alike : (limit : ℕ) (h : InUse) → requests_of limit h ≡ requests_of limit (in_use_again h)
 given_alike limit h = ap₂ (λ xs ys. xs ++ ys) (sym (by_id_again publish_again published limit h)) (sym (by_id_again release_again released limit h))
   where
     published : (id : ℕ) (x : Option Slot) → publish_again id (option_map slot_again x) ≡ publish_again id x
@@ -278,7 +278,7 @@ joined (calls.Incoming packet at) a b c h k = h ∙ sym k
 joined calls.Clean a b c h k = h ∙ sym k
 joined calls.ProtocolError a b c h k = h ∙ sym k
 
-any_call : (call : Call) (s t : Session) → with_dup s.core ≡ with_dup t.core → Twins call s t
+pub any_call : (call : Call) (s t : Session) → with_dup s.core ≡ with_dup t.core → Twins call s t
 any_call call s t e =
     let a = one_call call s.core s t in
     let b = subst (λ c. Twins call t (with c t)) (sym e) (one_call call t.core t t) in
