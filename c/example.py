@@ -1,7 +1,9 @@
 """A client over TCP, by ctypes: it subscribes, publishes at QoS 0, 1 and 2, loses its connection in the middle of a
-publish and takes the session up on a new one. Usage: example.py LIBRARY HOST PORT"""
+publish and takes the session up on a new one. The session is kept in a file, so it outlives the process too.
+Usage: example.py LIBRARY HOST PORT FILE"""
 
 import ctypes as c
+import os
 import socket
 import sys
 import time
@@ -33,10 +35,13 @@ CALLS = {
     "output": BYTES + [c.POINTER(c.c_size_t)],
     "sent": [c.c_size_t],
     "publish": BYTES + BYTES + [c.c_uint8, c.c_bool] + TIME,
+    "may_publish": [c.POINTER(c.c_bool)],
     "subscribe": BYTES + [c.c_uint8] + TIME,
     "disconnect": TIME,
     "next_event": [c.POINTER(Event)] + BYTES + BYTES,
     "take_up": [c.c_bool] + TIME + [c.POINTER(c.c_size_t)],
+    "save": BYTES + [c.POINTER(c.c_size_t)],
+    "load": BYTES,
 }
 
 
@@ -73,11 +78,39 @@ def now():
 
 
 class Connection:
-    def __init__(self, client, address):
-        self.client, self.address = client, address
+    def __init__(self, client, address, file):
+        self.client, self.address, self.file = client, address, file
         self.socket, self.came, self.acked, self.connected = None, [], 0, None
 
+    def load(self):
+        """Makes the client, of the session in the file where there is one. Whether there is."""
+        try:
+            with open(self.file, "rb") as file:
+                stored = file.read()
+        except FileNotFoundError:
+            self.client.new(10, False)
+            return False
+        self.client.load(stored, len(stored))
+        return True
+
+    def save(self):
+        """Tells, and then saves: writes the session beside the file, syncs it, and puts it in the file's place. A message
+        that was saved as taken and is told only then is lost where the process ends in between. (A sync of the folder behind
+        it all makes the new name outlast a loss of power, too.)"""
+        self.tell()
+        sys.stdout.flush()
+        # (203: the session is longer, and count says how long)
+        room, count = c.create_string_buffer(4096), c.c_size_t()
+        self.client.save(room, len(room), c.byref(count))
+        with open(self.file + ".new", "wb") as file:
+            file.write(room.raw[: count.value])
+            file.flush()
+            os.fsync(file.fileno())
+        os.replace(self.file + ".new", self.file)
+
     def flush(self):
+        """Saves, and then sends what there is to send: what is sent before it is saved may come twice, or never."""
+        self.save()
         room, count = c.create_string_buffer(1024), c.c_size_t()
         while True:
             self.client.output(room, len(room), c.byref(count))
@@ -98,7 +131,7 @@ class Connection:
         self.tell()
 
     def tell(self):
-        """Tells of what came."""
+        """Tells of what happened."""
         event, topic, payload = Event(), c.create_string_buffer(256), c.create_string_buffer(1024)
         while True:
             self.client.next_event(c.byref(event), topic, len(topic), payload, len(payload))
@@ -131,24 +164,36 @@ class Connection:
             print(given_up.value, "requests are given up")
         self.flush()
 
+    def publish(self, payload, qos):
+        """Publishes, once the next packet identifier is free: an earlier process may have left some that await their acks."""
+        may = c.c_bool()
+        self.client.may_publish(c.byref(may))
+        while not may.value:
+            self.flush()
+            self.take()
+            self.client.may_publish(c.byref(may))
+        self.client.publish(b"mqtt5/python", 12, payload, len(payload), qos, False, now())
+
     def wait(self, came, acked):
         while len(self.came) < came or self.acked < acked:
             self.flush()
             self.take()
 
 
-def main(library, host, port):
+def main(library, host, port, file):
     client = Client(c.CDLL(library))
-    connection = Connection(client, (host, int(port)))
-    client.new(10, False)
-    connection.begin(True)
+    connection = Connection(client, (host, int(port)), file)
+    connection.begin(not connection.load())
     client.subscribe(b"mqtt5/#", 7, 2, now())
     for qos, payload in enumerate([b"at most once", b"at least once", b"exactly once"]):
-        client.publish(b"mqtt5/python", 12, payload, len(payload), qos, False, now())
+        connection.publish(payload, qos)
     connection.wait(3, 2)
-    # The connection is cut before this one is sent.
-    client.publish(b"mqtt5/python", 12, b"after a cut", 11, 2, False, now())
+    # The connection is cut before this one is sent, and the client ends, as it does with its process.
+    connection.publish(b"after a cut", 2)
+    connection.save()
     connection.socket.close()
+    client.free()
+    connection.load()
     connection.begin(False)
     connection.wait(4, 3)
     client.disconnect(now())

@@ -18,8 +18,8 @@ extern "C" {
    both as tables, and mqtt5_names.h their names. */
 enum {
     MQTT5_DONE = 0,
-    /* A publish whose identifier is in use while another waits, a clean while an event isn't taken out, a reason of a
-       Disconnect that only a broker gives, or an Auth of reason 0 or without a method. */
+    /* A publish whose identifier is in use while another waits, a clean or a save while an event isn't taken out, a reason of
+       a Disconnect that only a broker gives, or an Auth of reason 0 or without a method. */
     MQTT5_INVALID_STATE = 1,
     /* An ack of an identifier that awaits none. */
     MQTT5_UNSOLICITED = 2,
@@ -48,12 +48,23 @@ enum {
     /* A text isn't UTF-8, a topic or a topic filter isn't one, a number is out of range, or a packet can't have a
        property of the list. The handle is as before, but that the lists that the call takes are empty. */
     MQTT5_BAD_ARGUMENT = 201,
-    /* mqtt5_client_new of a handle that has a client, which stays. */
+    /* mqtt5_client_new or mqtt5_client_load of a handle that has a client, which stays. */
     MQTT5_HAS_CLIENT = 202,
     /* A buffer is too small: nothing is copied, and an event stays. */
     MQTT5_SMALL_BUFFER = 203,
     /* The oldest event, or the oldest request that was let go, hasn't what is asked for. */
-    MQTT5_ABSENT = 204
+    MQTT5_ABSENT = 204,
+    /* Why mqtt5_client_load makes no client, beside 100 + n of a frame that can't be read: the bytes don't begin as a stored
+       session does, are of another version of its form, or are cut short; they have numbers that no session has, a frame that
+       isn't stored (or no publish where one waits), or a packet identifier in use that is 0 or above the limit, or in use
+       twice. */
+    MQTT5_STORE_FOREIGN = 205,
+    MQTT5_STORE_VERSION = 206,
+    MQTT5_STORE_CUT = 207,
+    MQTT5_STORE_BAD_NUMBERS = 208,
+    MQTT5_STORE_NOT_STORED = 209,
+    MQTT5_STORE_OUT_OF_RANGE = 210,
+    MQTT5_STORE_TWICE = 211
 };
 
 /* Why a frame can't be read, or a packet can't be written: 100 + n of E1 to E21. */
@@ -351,6 +362,19 @@ uint32_t mqtt5_client_dropped_bytes(mqtt5_client *h, uint32_t property, uint8_t 
                                     size_t *count);
 uint32_t mqtt5_client_dropped_pair(mqtt5_client *h, size_t index, uint8_t *name, size_t name_len, size_t *name_count,
                                    uint8_t *value, size_t value_len, size_t *value_count);
+
+/* Copies the session as bytes, of which mqtt5_client_load makes a client in this process or in a later one, and tells how many
+   they are, also where the buffer is too small (203). What isn't sent yet is no part of it: the session sends again what
+   awaits an ack. So that the end of the process is no more than a lost connection, a program takes the events out and deals
+   with them, saves, writes the bytes beside the old ones, syncs, renames, and only then sends the output. 1: an event isn't
+   taken out yet. After 1, 12, and 100 + n of a publish that can't be written, the buffer and `count` are as before. */
+uint32_t mqtt5_client_save(mqtt5_client *h, uint8_t *buffer, size_t buffer_len, size_t *count);
+
+/* Makes a client in an empty handle, whose session is the one that was saved as these bytes; what follows them is ignored. It
+   has neither limits on packets nor login nor will, as a new one: a connection begins with mqtt5_client_connect, without clean
+   start, and once its ConnAck came mqtt5_client_take_up sends again what awaits an ack. 202: there is a client, which stays.
+   Else there is none where the answer isn't 0: 12, or the first fault of the bytes, 205 to 211 or 100 + n. */
+uint32_t mqtt5_client_load(mqtt5_client *h, const uint8_t *bytes, size_t len);
 
 /* Whether bytes can be the topic of a publish, or a topic filter, and whether a topic matches a filter (MQTT 5.0 section 4.7);
    but a topic that begins with `$` matches no filter, `$SYS/a` not even `$SYS/#` or itself, where 4.7.2 bars filters that

@@ -51,6 +51,13 @@ static inline const char *mqtt5_error_name(uint32_t code) {
         case 202: return "HasClient";
         case 203: return "SmallBuffer";
         case 204: return "Absent";
+        case 205: return "StoreForeign";
+        case 206: return "StoreVersion";
+        case 207: return "StoreCut";
+        case 208: return "StoreBadNumbers";
+        case 209: return "StoreNotStored";
+        case 210: return "StoreOutOfRange";
+        case 211: return "StoreTwice";
         default: return "unknown";
     }
 }

@@ -82,6 +82,27 @@ static int failures;
 #define AUTH_THAT_GOES_ON "\xf0\x0a\x18\x08\x15\0\x01m\x16\0\x01s"
 #define AUTH_OF_SUCCESS "\xf0\x06\0\x04\x15\0\x01m"
 
+/* Stored sessions, by hand (docs/USING.md): the text MQ5S, version 1, the limit, the current maximum, the last identifier, the
+   maximum of topic aliases, who sends the acks, whether a publish waits, how many frames follow beside that one's, and the
+   frames. Of limit 10 with one publish of QoS 1, which awaits its ack; and once it has it. */
+#define SAVED "MQ5S\0\x01" "\0\x0a\0\x0a\0\x01\0\0" "\0\0\0\0" "\0\0\0\0\0\0\0\x01" PUBLISH_1_DUP
+#define SAVED_ACKED "MQ5S\0\x01" "\0\x0a\0\x0a\0\x01\0\0" "\0\0\0\0" "\0\0\0\0\0\0\0\0"
+/* Limit 10, nothing happened, and the program sends the acks. */
+#define SAVED_BY_HAND "MQ5S\0\x01" "\0\x0a\0\x0a\0\0\0\0" "\0\x01\0\0" "\0\0\0\0\0\0\0\0"
+/* Limit 3, current maximum 2, last identifier 1, at most 5 topic aliases; a publish of QoS 1 that waits, one of QoS 2 under 1,
+   the release of 2, and identifier 7 of the broker's. */
+#define ALL_PARTS "MQ5S\0\x01" "\0\x03\0\x02\0\x01\0\x05" "\0\0\0\x01" "\0\0\0\0\0\0\0\x03" \
+    PUBLISH_THAT_WAITS PUBLISH_OF_ONE_DUP PUBREL PUBREC_OF_SEVEN
+/* No publish, where one waits. */
+#define NONE_WAITS "MQ5S\0\x01" "\0\x03\0\x02\0\x01\0\x05" "\0\0\0\x01" "\0\0\0\0\0\0\0\0" PUBREC_OF_SEVEN
+#define CONNECT_AGAIN "\x10\x13\0\x04MQTT\x05\0\0\x3c\x05\x11\0\0\x0e\x10\0\x01" "c"
+#define CONNACK_OF_TWO_AND_FIVE "\x20\x09\0\0\x06\x21\0\x02\x22\0\x05"
+#define PUBLISH_THAT_WAITS "\x32\x07\0\x01" "a" "\0\x01\0" "w"
+#define PUBLISH_OF_ONE_DUP "\x3c\x07\0\x01" "a" "\0\x01\0" "x"
+#define PUBLISH_OF_SEVEN "\x34\x07\0\x01" "a" "\0\x07\0" "z"
+#define PUBLISH_OF_SEVEN_DUP "\x3c\x07\0\x01" "a" "\0\x07\0" "z"
+#define PUBREC_OF_SEVEN "\x50\x02\0\x07"
+
 static uint8_t topic[4], payload[4];
 
 /* Whether the output is these bytes, which are then sent; pieces of three at a time. */
@@ -130,7 +151,7 @@ static void expect_bytes(mqtt5_client *h, uint32_t property, const uint8_t *want
 
 #define EVENT_BYTES(h, property, literal) expect_bytes(h, property, BYTES(literal), __LINE__)
 
-/* Every call but new and free of a handle without a client. */
+/* Every call but new and load of a handle without a client. */
 static void expect_no_client(mqtt5_client *h, int line) {
     uint8_t buffer[4] = {7, 7, 7, 7};
     size_t count = 5, other;
@@ -177,6 +198,7 @@ static void expect_no_client(mqtt5_client *h, int line) {
         mqtt5_client_dropped_number(h, MQTT5_TOPIC_ALIAS, &number),
         mqtt5_client_dropped_bytes(h, MQTT5_CONTENT_TYPE, buffer, 4, &count),
         mqtt5_client_dropped_pair(h, 0, buffer, 2, &count, buffer + 2, 2, &other),
+        mqtt5_client_save(h, buffer, 4, &count),
     };
     for (size_t i = 0; i < sizeof answers / sizeof *answers; i++) {
         if (answers[i] != MQTT5_NO_CLIENT) {
@@ -866,6 +888,194 @@ static void what_is_let_go(void) {
     EXPECT(blocks, 0);
 }
 
+/* Whether a session is saved as these bytes. */
+static void expect_saved(mqtt5_client *h, const uint8_t *wanted, size_t len, int line) {
+    uint8_t all[64];
+    size_t count = 0;
+    uint32_t code = mqtt5_client_save(h, all, sizeof all, &count);
+    if (code || count != len || memcmp(all, wanted, len)) {
+        printf("line %d: answer %u, and %zu other bytes\n", line, code, count);
+        failures++;
+    }
+}
+
+#define SAVED_AS(h, literal) expect_saved(h, BYTES(literal), __LINE__)
+
+/* A session that outlives its client: once saved it is loaded, also where other bytes follow it, and what awaits its ack is
+   sent again (4.4, 3.3.1.1). */
+static void a_saved_session(void) {
+    mqtt5_client h = {0}, loaded = {0};
+    uint8_t buffer[sizeof SAVED - 1] = {7};
+    size_t count = 5;
+    uint16_t id = 0;
+    EXPECT(mqtt5_client_new(&h, 10, false), MQTT5_DONE);
+    EXPECT(mqtt5_client_publish(&h, BYTES("a"), BYTES("x"), 1, false, 1), MQTT5_DONE);
+    EXPECT(mqtt5_client_save(&h, buffer, sizeof buffer, &count), MQTT5_INVALID_STATE);
+    EXPECT(count, 5);
+    EXPECT(buffer[0], 7);
+    EVENT(&h, 2, 3, 1);
+    EXPECT(mqtt5_client_save(&h, buffer, sizeof buffer - 1, &count), MQTT5_SMALL_BUFFER);
+    EXPECT(count, sizeof buffer);
+    EXPECT(buffer[0], 7);
+    count = 5;
+    EXPECT(mqtt5_client_save(&h, buffer, sizeof buffer, &count), MQTT5_DONE);
+    EXPECT(count, sizeof buffer);
+    EXPECT(memcmp(buffer, SAVED, sizeof buffer), 0);
+    /* It is as before. */
+    OUTPUT(&h, PUBLISH_1);
+    SAVED_AS(&h, SAVED);
+    EXPECT(mqtt5_client_load(&h, BYTES(SAVED_ACKED)), MQTT5_HAS_CLIENT);
+    SAVED_AS(&h, SAVED);
+    EXPECT(mqtt5_client_free(&h), MQTT5_DONE);
+    EXPECT(blocks, 0);
+
+    EXPECT(mqtt5_client_load(&loaded, BYTES(SAVED "more")), MQTT5_DONE);
+    SAVED_AS(&loaded, SAVED);
+    OUTPUT(&loaded, "");
+    EVENT(&loaded, 0, 0, 0);
+    NONE_LET_GO(&loaded);
+    EXPECT(mqtt5_client_connect(&loaded, BYTES("c"), 60, false, 3600), MQTT5_DONE);
+    OUTPUT(&loaded, CONNECT_AGAIN);
+    EXPECT(mqtt5_client_receive(&loaded, BYTES(CONNACK_WITH_SESSION), 2), MQTT5_DONE);
+    EXPECT(EVENT(&loaded, 1, 2, 0).session_present, true);
+    EXPECT(mqtt5_client_take_up(&loaded, true, 2, &count), MQTT5_DONE);
+    EXPECT(count, 0);
+    OUTPUT(&loaded, PUBLISH_1_DUP);
+    EVENT(&loaded, 2, 3, 1);
+    EXPECT(mqtt5_client_next_id(&loaded, &id), MQTT5_DONE);
+    EXPECT(id, 2);
+    EXPECT(mqtt5_client_receive(&loaded, BYTES(PUBACK), 2), MQTT5_DONE);
+    EVENT(&loaded, 1, 4, 1);
+    SAVED_AS(&loaded, SAVED_ACKED);
+    EXPECT(mqtt5_client_free(&loaded), MQTT5_DONE);
+    EXPECT(blocks, 0);
+}
+
+/* All parts of one: a publish and a release that await their acks, a publish that waits, an identifier of the broker's, both of
+   the broker's maxima; and who sends the acks. */
+static void all_parts_of_a_session(void) {
+    mqtt5_client h = {0};
+    size_t count;
+    EXPECT(mqtt5_client_new(&h, 3, false), MQTT5_DONE);
+    EXPECT(mqtt5_client_receive(&h, BYTES(CONNACK_OF_TWO_AND_FIVE), 1), MQTT5_DONE);
+    EXPECT(mqtt5_client_publish(&h, BYTES("a"), BYTES("x"), 2, false, 1), MQTT5_DONE);
+    EXPECT(mqtt5_client_publish(&h, BYTES("a"), BYTES("y"), 2, false, 1), MQTT5_DONE);
+    EXPECT(mqtt5_client_receive(&h, BYTES(PUBREC), 1), MQTT5_DONE);
+    EXPECT(mqtt5_client_publish(&h, BYTES("a"), BYTES("w"), 1, false, 1), MQTT5_DONE);
+    EXPECT(mqtt5_client_receive(&h, BYTES(PUBLISH_OF_SEVEN), 1), MQTT5_DONE);
+    take_events_out(&h);
+    SAVED_AS(&h, ALL_PARTS);
+    EXPECT(mqtt5_client_free(&h), MQTT5_DONE);
+
+    EXPECT(mqtt5_client_load(&h, BYTES(ALL_PARTS)), MQTT5_DONE);
+    SAVED_AS(&h, ALL_PARTS);
+    EXPECT(mqtt5_client_connect(&h, BYTES("c"), 60, false, 3600), MQTT5_DONE);
+    OUTPUT(&h, CONNECT_AGAIN);
+    EXPECT(mqtt5_client_receive(&h, BYTES(CONNACK_WITH_SESSION), 2), MQTT5_DONE);
+    EVENT(&h, 1, 2, 0);
+    EXPECT(mqtt5_client_take_up(&h, true, 2, &count), MQTT5_DONE);
+    EXPECT(count, 0);
+    OUTPUT(&h, PUBLISH_OF_ONE_DUP PUBREL);
+    take_events_out(&h);
+    /* The broker's copy is answered, and not told again (4.3.3). */
+    EXPECT(mqtt5_client_receive(&h, BYTES(PUBLISH_OF_SEVEN_DUP), 2), MQTT5_DONE);
+    OUTPUT(&h, PUBREC_OF_SEVEN);
+    EVENT(&h, 2, 5, 7);
+    EVENT(&h, 0, 0, 0);
+    /* What waits goes once its identifier is free. */
+    EXPECT(mqtt5_client_receive(&h, BYTES("\x50\x02\0\x01"), 2), MQTT5_DONE);
+    OUTPUT(&h, PUBREL_1);
+    EXPECT(mqtt5_client_receive(&h, BYTES("\x70\x02\0\x01"), 2), MQTT5_DONE);
+    OUTPUT(&h, PUBLISH_THAT_WAITS);
+    EXPECT(mqtt5_client_free(&h), MQTT5_DONE);
+
+    EXPECT(mqtt5_client_new(&h, 10, true), MQTT5_DONE);
+    SAVED_AS(&h, SAVED_BY_HAND);
+    EXPECT(mqtt5_client_free(&h), MQTT5_DONE);
+    EXPECT(mqtt5_client_load(&h, BYTES(SAVED_BY_HAND)), MQTT5_DONE);
+    EXPECT(mqtt5_client_receive(&h, BYTES(PUBLISH_1), 1), MQTT5_DONE);
+    OUTPUT(&h, "");
+    EXPECT(mqtt5_client_free(&h), MQTT5_DONE);
+    EXPECT(blocks, 0);
+}
+
+/* Bytes that are no session: there is no client then. */
+static void bytes_of_no_session(void) {
+    /* A place of all parts, another byte there, and what comes of it: the text, the version; a current maximum above the
+       limit, a last identifier that isn't below it; of QoS 0 the publish that waits, and the one that awaits its ack; a release
+       above the limit, under 0 and under an identifier in use; a frame of no type, of QoS 3, of identifier 0; and another
+       payload. */
+    static const struct {
+        size_t place;
+        uint8_t byte;
+        uint32_t code;
+    } changes[] = {
+        {0, 0, MQTT5_STORE_FOREIGN},
+        {5, 2, MQTT5_STORE_VERSION},
+        {9, 4, MQTT5_STORE_BAD_NUMBERS},
+        {11, 3, MQTT5_STORE_BAD_NUMBERS},
+        {26, 0x30, MQTT5_STORE_NOT_STORED},
+        {35, 0x30, MQTT5_STORE_NOT_STORED},
+        {47, 4, MQTT5_STORE_OUT_OF_RANGE},
+        {47, 0, MQTT5_STORE_OUT_OF_RANGE},
+        {47, 1, MQTT5_STORE_TWICE},
+        {48, 0, MQTT5_E_INVALID_PACKET_TYPE},
+        {35, 0x3e, MQTT5_E_INVALID_QOS},
+        {41, 0, MQTT5_E_PACKET_ID_ZERO},
+        {43, 'q', MQTT5_DONE},
+    };
+    mqtt5_client h = {0};
+    uint8_t bytes[sizeof ALL_PARTS - 1];
+    for (size_t i = 0; i < sizeof changes / sizeof *changes; i++) {
+        memcpy(bytes, ALL_PARTS, sizeof bytes);
+        bytes[changes[i].place] = changes[i].byte;
+        EXPECT(mqtt5_client_load(&h, bytes, sizeof bytes), changes[i].code);
+        EXPECT(mqtt5_client_free(&h), changes[i].code ? MQTT5_NO_CLIENT : MQTT5_DONE);
+        EXPECT(blocks, 0);
+    }
+    EXPECT(mqtt5_client_load(&h, BYTES(NONE_WAITS)), MQTT5_STORE_NOT_STORED);
+    for (size_t len = 0; len < sizeof bytes; len++)
+        EXPECT(mqtt5_client_load(&h, (const uint8_t *)ALL_PARTS, len), MQTT5_STORE_CUT);
+    expect_no_client(&h, __LINE__);
+    EXPECT(blocks, 0);
+}
+
+/* Memory is refused from each request on: of a save nothing is told, and of a load there is no client. */
+static void refused_store(void) {
+    mqtt5_client h = {0}, other = {0};
+    EXPECT(mqtt5_client_load(&h, BYTES(ALL_PARTS)), MQTT5_DONE);
+    long before = blocks;
+    for (left = 0;; left++) {
+        uint8_t buffer[64] = {7};
+        size_t count = 5;
+        requests = 0;
+        uint32_t code = mqtt5_client_save(&h, buffer, sizeof buffer, &count);
+        EXPECT(blocks, before);
+        if (code == MQTT5_DONE) break;
+        EXPECT(code, MQTT5_OUT_OF_MEMORY);
+        EXPECT(count, 5);
+        EXPECT(buffer[0], 7);
+        if (failures) break;
+    }
+    EXPECT(left > 0, true);
+    for (left = 0;; left++) {
+        requests = 0;
+        uint32_t code = mqtt5_client_load(&other, BYTES(ALL_PARTS));
+        if (code == MQTT5_DONE) break;
+        EXPECT(code, MQTT5_OUT_OF_MEMORY);
+        EXPECT(mqtt5_client_free(&other), MQTT5_NO_CLIENT);
+        EXPECT(blocks, before);
+        if (failures) break;
+    }
+    EXPECT(left > 0, true);
+    left = -1;
+    SAVED_AS(&h, ALL_PARTS);
+    SAVED_AS(&other, ALL_PARTS);
+    EXPECT(mqtt5_client_free(&h), MQTT5_DONE);
+    EXPECT(mqtt5_client_free(&other), MQTT5_DONE);
+    EXPECT(blocks, 0);
+}
+
 /* A null pointer of no bytes is as good as another one: each call that takes bytes, or a buffer. */
 static void null_pointers(void) {
     mqtt5_client h = {0};
@@ -909,7 +1119,11 @@ static void null_pointers(void) {
     EXPECT(e.packet, MQTT5_PUBLISH);
     EXPECT(mqtt5_client_next_dropped(&h, &e, NULL, 0, NULL, 0), MQTT5_DONE);
     EXPECT(e.kind, 0);
+    EXPECT(mqtt5_client_save(&h, NULL, 0, &count), MQTT5_SMALL_BUFFER);
+    EXPECT(count, sizeof SAVED_ACKED - 1);
     EXPECT(mqtt5_client_free(&h), MQTT5_DONE);
+    EXPECT(mqtt5_client_load(&h, NULL, 0), MQTT5_STORE_CUT);
+    EXPECT(mqtt5_client_free(&h), MQTT5_NO_CLIENT);
     EXPECT(blocks, 0);
 
     EXPECT(mqtt5_valid_topic(NULL, 0), false);
@@ -968,7 +1182,7 @@ static void misuse(void) {
 /* Makes the calls one after the other until one is refused; whether none was. */
 static bool all_calls(mqtt5_client *h, uint32_t *code) {
     uint8_t buffer[256];
-    size_t count;
+    size_t count, saved;
     mqtt5_event e;
     bool whole = !(*code = mqtt5_client_new(h, 10, true))
         && !(*code = mqtt5_client_set_login(h, BYTES("u"), BYTES("p")))
@@ -1001,11 +1215,12 @@ static bool all_calls(mqtt5_client *h, uint32_t *code) {
     do {
         if ((*code = mqtt5_client_next_event(h, &e, topic, sizeof topic, payload, sizeof payload))) return false;
     } while (e.kind);
+    if ((*code = mqtt5_client_save(h, buffer, sizeof buffer, &saved))) return false;
     if ((*code = mqtt5_client_clean(h, &count))) return false;
     do {
         if ((*code = mqtt5_client_next_dropped(h, &e, topic, sizeof topic, payload, sizeof payload))) return false;
     } while (e.kind);
-    return true;
+    return !(*code = mqtt5_client_free(h)) && !(*code = mqtt5_client_load(h, buffer, saved));
 }
 
 /* Memory is refused from each request on; every call answers 12 or is done, and nothing is left behind. */
@@ -1045,6 +1260,8 @@ static void numbers_by_name(void) {
         {MQTT5_E_OUT_OF_MEMORY, "OutOfMemory"},
         {MQTT5_NO_CLIENT, "NoClient"},
         {MQTT5_ABSENT, "Absent"},
+        {MQTT5_STORE_FOREIGN, "StoreForeign"},
+        {MQTT5_STORE_TWICE, "StoreTwice"},
         {99, "unknown"},
     }, reasons[] = {
         {MQTT5_REASON_SUCCESS, "Success"},
@@ -1075,10 +1292,14 @@ int main(void) {
     a_cut();
     a_lost_session();
     what_is_let_go();
+    a_saved_session();
+    all_parts_of_a_session();
+    bytes_of_no_session();
     null_pointers();
     version();
     misuse();
     refused();
-    if (!failures) printf("each call of c/mqtt5.h, a goodbye for a reason, extended authentication, acks by hand, a cut, a lost session, null pointers, and misuse: as they should be\n");
+    refused_store();
+    if (!failures) printf("each call of c/mqtt5.h, a goodbye for a reason, extended authentication, acks by hand, a cut, a lost session, a saved one, null pointers, and misuse: as they should be\n");
     return failures != 0;
 }

@@ -138,11 +138,13 @@ def answers():
     session = pairs(fault.format("StateError"), "crates/mqtt5_inflight/src/error.rt")
     packets = pairs(fault.format("Error"), "crates/mqtt5_base/src/error.rt")
     handle = pairs(r"const (?P<name>\w+): u32 = (?P<number>2\d\d);", "crates/mqtt5_c/src/number.rt")
+    stored = pairs(r"^        StoreError::(?P<name>\w+).* => (?P<number>2\d\d),", "crates/mqtt5_c/src/store.rt")
+    handle |= {number: f"store{name}" for number, name in stored.items()}
     crates = session | {100 + number: name for number, name in packets.items()} | handle
     for letter, listed in ("S", session), ("E", packets):
         row = rf"^\| {letter}(?P<number>\d+) \| `(?P<name>\w+)`"
         same(f"docs/PROGRAM.md, {letter}", pairs(row, "docs/PROGRAM.md"), listed)
-    same(HEADER, in_header("DONE", "ABSENT", ANSWERS), session | handle | {0: "done"})
+    same(HEADER, in_header("DONE", "STORE_TWICE", ANSWERS), session | handle | {0: "done"})
     why = in_header("INVALID_CONNECT_RETURN_CODE", "OUT_OF_MEMORY", prefix="MQTT5_E_")
     same(HEADER, why, {100 + number: name for number, name in packets.items()})
     same(C_NAMES, in_c_names("mqtt5_error_name"), crates | {0: "done"})

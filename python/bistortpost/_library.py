@@ -73,6 +73,8 @@ CALLS = {
     "dropped_number": [c.c_uint32, c.POINTER(c.c_uint32)],
     "dropped_bytes": [c.c_uint32] + BYTES + COUNT,
     "dropped_pair": [c.c_size_t] + BYTES + COUNT + BYTES + COUNT,
+    "save": BYTES + COUNT,
+    "load": BYTES,
 }
 
 

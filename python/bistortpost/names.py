@@ -58,7 +58,10 @@ _PACKETS = (
     "PayloadSizeLimitExceeded PayloadRequired TopicNotUtf8 BoundaryCrossed MalformedPacket MalformedRemainingLength "
     "InvalidPropertyType InsufficientBytes OutgoingPacketTooLarge OutOfMemory"
 )
-_HANDLE = "NoClient BadArgument HasClient SmallBuffer Absent"
+_HANDLE = (
+    "NoClient BadArgument HasClient SmallBuffer Absent StoreForeign StoreVersion StoreCut StoreBadNumbers StoreNotStored "
+    "StoreOutOfRange StoreTwice"
+)
 FAULTS = {
     first + at: name
     for first, names in ((1, _SESSION), (101, _PACKETS), (200, _HANDLE))

@@ -103,11 +103,15 @@ IsNewClient limit manual_acks c =
     (c.state ≡ fresh limit manual_acks) × (c.codec ≡ no_limits) × (c.input.items ≡ [])
     × (c.output.items ≡ []) × (c.disconnected ≡ false)
 
--- one without login and will, with nothing for its next packets, and with nothing that was let go
+-- no login and no will, nothing for the next packets, and nothing that was let go
+abbrev pub HasNothing : Holder → Type 0
+HasNothing h =
+    (h.settings ≡ defaults (text_of []) (text_of []) 0) × (h.properties ≡ []) × (h.filters ≡ [])
+    × (h.dropped ≡ [])
+
+-- one of a new client, with nothing else
 abbrev pub IsNew : ℕ → Bool → Holder → Type 0
-IsNew limit manual_acks h =
-    IsNewClient limit manual_acks h.client × (h.settings ≡ defaults (text_of []) (text_of []) 0)
-    × (h.properties ≡ []) × (h.filters ≡ []) × (h.dropped ≡ [])
+IsNew limit manual_acks h = IsNewClient limit manual_acks h.client × HasNothing h
 
 -- The session ends, where no event waits: the client is as a new one, with its limits on packets,
 -- and a Disconnect that was asked for is remembered. Or an event waits, or memory is refused, and

@@ -13,4 +13,5 @@ pub mod Events
 pub mod Told
 pub mod Dropped
 pub mod Ids
+pub mod Stored
 pub mod Version

@@ -15,6 +15,7 @@ mod number;
 mod properties;
 mod say;
 mod settings;
+mod store;
 mod stream;
 mod told;
 mod topic;

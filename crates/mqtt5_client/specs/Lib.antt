@@ -7,3 +7,4 @@ pub mod Handed
 pub mod TakingUp
 pub mod Resending
 pub mod Said
+pub mod Storing

@@ -6,6 +6,7 @@ mod asking;
 mod client;
 mod connecting;
 mod numbers;
+mod storing;
 mod taking_up;
 
 pub use client::{Client, one_run};
@@ -19,6 +20,7 @@ pub use mqtt5_control::{
 pub use mqtt5_options::MqttOptions;
 pub use mqtt5_publish::{PubAck, PubRec, Publish};
 pub use mqtt5_session::{Event, Incoming, MqttState, Outgoing, Request, StateError};
+pub use mqtt5_store::StoreError;
 pub use mqtt5_subscribe::{Filter, Subscribe, Unsubscribe};
 pub use numbers::{error_number, state_error_number};
 pub use taking_up::fitting_law;
