@@ -1,6 +1,6 @@
 -- What the broker's answers say, and what the user answers.
 use Rattle.std.specs.Prelude.{◌≡◌, ℕ, ◌+◌, Bool, List, [], ◌∷◌, ◌++◌, Option, Some, None, Result}
-use Rattle.std.specs.Prelude.{IfOk, ⊤}
+use Rattle.std.specs.Prelude.{IfOk, All, ⊤}
 use Rattle.mqtt5_base.specs.Views.{bit}
 use Rattle.mqtt5_base.specs.declared.ack_properties.AckProperties.{AckProperties}
 use Rattle.mqtt5_base.specs.declared.quality.QoS.{QoS}
@@ -94,6 +94,14 @@ abbrev pub IsEnded : UnsubAckReason → Type 0
 IsEnded ends.Success = ⊤
 IsEnded ends.NoSubscriptionExisted = ⊤
 IsEnded reason = ⊥
+
+-- an event refuses no filter, where it is a SubAck or an UnsubAck, and it is no Auth, for which
+-- nobody asked (4.12)
+abbrev pub IsGranted : Event → Type 0
+IsGranted (events.Incoming (packets.SubAck ack)) = All IsSuccess ack.return_codes
+IsGranted (events.Incoming (packets.UnsubAck ack)) = All IsEnded ack.reasons
+IsGranted (events.Incoming (packets.Auth auth)) = ⊥
+IsGranted event = ⊤
 
 -- one request, or none
 abbrev pub asked_by : Option Request → List Saying

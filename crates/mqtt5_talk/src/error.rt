@@ -10,6 +10,7 @@ ghost use Rattle.mqtt5_inflight.specs.Errors.{state_error};
 use crate::capabilities::Forbidden;
 use crate::reason::ReasonText;
 use mqtt5_base::Error;
+use mqtt5_client::StoreError;
 use mqtt5_control::{Auth, ConnectReturnCode, DisconnectReasonCode};
 use mqtt5_pipe::PipeError;
 use mqtt5_publish::PubAckReason;
@@ -55,6 +56,15 @@ pub enum TalkError {
     /// A message couldn't be shown. It isn't acknowledged.
     #[error("a message can't be shown: {0}")]
     Unshown(io::Error),
+    /// The file that the session is kept in can't be read or written. What would have been sent then isn't.
+    #[error("the session can't be stored: {0}")]
+    Unstored(io::Error),
+    /// That file has no session.
+    #[error("no stored session: {0}")]
+    NotASession(StoreError),
+    /// Messages of a session that was kept are let go: the broker has the session no more, or takes none of their length.
+    #[error("{0} messages are let go: the broker lost the session, or they are too long for it")]
+    LetGo(u64),
     /// Every other fault.
     #[error("{0}")]
     Failed(PipeError),

@@ -261,7 +261,7 @@ fn next_refusal(client: &mut Client) -> Option<TalkError>
 }
 
 /// Why a message is refused, where the event says so; or that an Auth came, for which no talk asks.
-fn refusal_in(event: Event) -> Option<TalkError>
+pub fn refusal_in(event: Event) -> Option<TalkError>
     ensures { result ≡ refusal_in event }
 {
     match event {

@@ -7,7 +7,7 @@ ghost use Rattle.mqtt5_inflight.specs.declared.event.Request.TheVariants as requ
 ghost use Rattle.mqtt5_client.specs.Client.{IsReady};
 ghost use Rattle.mqtt5_talk.specs.Capabilities.{IsPermitted};
 ghost use Rattle.mqtt5_talk.specs.Conversation.{Saying, Asks, Conversation, Talked, SendsOnly};
-ghost use Rattle.mqtt5_talk.specs.Answers.{ack_of, acks_of, asked_by, ShowsAll, Showed, Acknowledges, IsSuccess, IsEnded};
+ghost use Rattle.mqtt5_talk.specs.Answers.{ack_of, acks_of, asked_by, ShowsAll, Showed, Acknowledges, IsSuccess, IsEnded, IsGranted};
 
 use crate::capabilities::Capabilities;
 use crate::error::{TalkError, unasked};
@@ -131,21 +131,34 @@ fn is_subscribed(client: &mut Client) -> Result<bool, TalkError>
     }
 }
 
-/// Whether an event is a SubAck or an UnsubAck, in which each filter has what was asked for it. Err of an Auth.
+/// Whether an event is a SubAck or an UnsubAck. Err where it refuses a filter, and of an Auth.
 fn is_granted(event: Event) -> Result<bool, TalkError> {
+    let is_answer = matches!(
+        &event,
+        Event::Incoming(Packet::SubAck(_) | Packet::UnsubAck(_))
+    );
+    check_granted(event)?;
+    Ok(is_answer)
+}
+
+/// Refuses an event that refuses a filter: `NotSubscribed` of a SubAck, `NotUnsubscribed` of an UnsubAck; and `Failed` of an
+/// Auth, for which no talk asks.
+pub fn check_granted(event: Event) -> Result<(), TalkError>
+    ensures { OnOk result (IsGranted event) }
+{
     match event {
         Event::Incoming(Packet::SubAck(ack)) => {
             judge(ack)?;
-            Ok(true)
+            Ok(())
         }
         Event::Incoming(Packet::UnsubAck(ack)) => {
             judge_end(ack)?;
-            Ok(true)
+            Ok(())
         }
         Event::Incoming(Packet::Auth(auth)) => Err(unasked(auth)),
         other => {
             drop(other);
-            Ok(false)
+            Ok(())
         }
     }
 }
@@ -416,8 +429,8 @@ fn acknowledge<W: Write>(
     }
 }
 
-/// The answer to a message; None of QoS 0.
-fn ack_for(publish: &Publish) -> Option<Request>
+/// The answer to a message with Success: a PubAck or a PubRec; None of QoS 0.
+pub fn ack_for(publish: &Publish) -> Option<Request>
     ensures { asked_by result ≡ ack_of publish.now }
 {
     match publish.qos {
