@@ -9,9 +9,9 @@ host='' port='' socket='' tls=0 insecure=0 secure=() plain=() rest=() named=''
 # Whether help is asked for, what is shown goes to a file, which word says what the content is, which of the words in `rest`
 # is the message, whether the content is parted into lines, and what of standard input is published: all of it, or each line.
 asks_help=0 shows_itself=0 content='' message_at='' by_lines=0 from_input=''
-# The keep alive in seconds, the limit on the time, whether a connection that is lost is made again, and which of the words in
-# `rest` is the count of messages.
-keep_alive='' limit='' retries=0 count_at=''
+# The keep alive in seconds, the limit on the time, whether a connection that is lost is made again, whether the session is kept
+# in a file, and which of the words in `rest` is the count of messages.
+keep_alive='' limit='' retries=0 stores=0 count_at=''
 
 # Refuses a word's value.
 refuse_value() {
@@ -114,7 +114,7 @@ in_brackets() { case $1 in *:*) echo "[$1]" ;; *) echo "$1" ;; esac; }
 take_connection() {
     host='' port='' socket='' tls=0 insecure=0 secure=() plain=() rest=() named=''
     asks_help=0 shows_itself=0 content='' message_at='' by_lines=0 from_input=''
-    keep_alive='' limit='' retries=0 count_at=''
+    keep_alive='' limit='' retries=0 stores=0 count_at=''
     while [ $# -gt 0 ]; do
         case $1 in
             -h | --host | -p | --port | -L | --url | -I | --id-prefix | -A | --unix | --cafile | --capath | --cert | --key | \
@@ -146,9 +146,10 @@ take_connection() {
                 ;;
             -i | --id | -u | --username | -P | --pw | -x | --session-expiry-interval | --will-topic | --will-payload | --will-qos | \
                 -t | --topic | -m | --message | -f | --file | -q | --qos | -M | --max-inflight | -C | -o | --output | \
-                -U | --unsubscribe | -T | --filter-out | -F)
+                -U | --unsubscribe | -T | --filter-out | -F | --store)
                 case $1 in
                     -o | --output) shows_itself=1 ;;
+                    --store) stores=1 ;;
                     -m | --message) content=$1 message_at=$((${#rest[@]} + 1)) ;;
                     -f | --file) content=$1 ;;
                     -C) count_at=$((${#rest[@]} + 1)) ;;
@@ -162,6 +163,10 @@ take_connection() {
                 ;;
             --output=* | -o*)
                 shows_itself=1
+                rest+=("$1")
+                ;;
+            --store=*)
+                stores=1
                 rest+=("$1")
                 ;;
             --message=* | -m*)
@@ -197,6 +202,8 @@ check_connection() {
         refuse_value --retry 'only sub takes it'
     elif [ "$retries" = 1 ] && [ "$shows_itself" = 1 ]; then
         refuse_value --retry 'each connection makes the file of -o anew: leave that out, and turn standard output into the file'
+    elif [ "$stores" = 1 ] && [ "$shows_itself" = 1 ]; then
+        refuse_value --store 'each start makes the file of -o anew: leave that out, and turn standard output into the file'
     elif [ "$by_lines" = 1 ] && [ "${keep_alive:-0}" != 0 ]; then
         refuse_value -k 'with -l there is none, since no ping is sent while a line is waited for'
     elif [ -n "$socket" ] && [ "$tls" = 1 ]; then

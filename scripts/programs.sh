@@ -113,6 +113,7 @@ say_options() {
                           goes on with the broker's session of this client, which the broker keeps
   -x, --session-expiry-interval SECONDS
                           how long the broker keeps the session
+  --store FILE            with -c: keeps the client's session in this file over the end of the process, and goes on with it
   --will-topic TOPIC      the topic of what the broker publishes once the connection is lost
   --will-payload MESSAGE  its message, else empty
   --will-qos QOS          its quality of service, else 0

@@ -5,8 +5,13 @@
 
 mod ending;
 mod format;
+mod framed;
 mod hiding;
 mod json;
+mod keeping;
+mod kept_publishing;
+mod kept_subscribing;
+mod kept_talk;
 mod properties;
 mod publishing;
 mod relay;

@@ -4,6 +4,9 @@ ghost use Rattle.std.specs.Prelude.{◌≡◌, ◌<◌, ◌⊎◌, OnOk, IfErr};
 ghost use Rattle.mqtt5_client.specs.Client.{IsReady};
 
 use crate::ending::{status_of, tell_end};
+use crate::keeping::{Keeper, Start, begins_with};
+use crate::kept_publishing::{Once, publish_kept, skip};
+use crate::kept_talk::take_up;
 use crate::properties::{WithProperties, connect_with, copy_of, properties_of, refuses_properties};
 use crate::timed::{Timed, timed_reader};
 use crate::words::{keep_alive_in, parse_pub, refuses_texts, refuses_time, refuses_topic};
@@ -13,8 +16,8 @@ use mqtt5_codec::Packet;
 use mqtt5_pipe::PipeError;
 use mqtt5_publish::{Publish, PublishProperties};
 use mqtt5_talk::{
-    Capabilities, Heading, LineSource, TalkError, close, new_client, open, publish, publish_all,
-    quality_of, refuse,
+    Capabilities, Heading, LineSource, Source, TalkError, close, new_client, open, publish,
+    publish_all, quality_of, refuse,
 };
 use std::alloc::Global;
 use std::io::{Read, Write};
@@ -98,7 +101,7 @@ fn run_matches<F: Files + AllocGlobal, R: Read, W: Write, E: Write>(
             return 1;
         }
     };
-    match talk(task, matches, content, reader, writer) {
+    match talk(rt, task, matches, content, reader, writer) {
         Ok(()) => 0,
         Err(stop) => {
             let status = status_of(stop.trouble());
@@ -160,17 +163,24 @@ fn content_of<F: Files + AllocGlobal>(
     }
 }
 
-fn talk<F: Read + Drop, R: Read, W: Write>(
+fn talk<F: Files + AllocGlobal, C: Read + Drop, R: Read, W: Write>(
+    rt: &F,
     task: Task<'_>,
     matches: &ArgMatches<'_>,
-    content: Content<F>,
+    content: Content<C>,
     reader: &mut R,
     writer: &mut W,
 ) -> Result<(), Stop>
     requires { 0 < task.window }
 {
     let properties = properties_of::<PublishProperties>(task.alloc, matches, "publish")?;
-    let ended = talk_with(task, matches, content, &properties, reader, writer);
+    let ended = match matches.get_str("store") {
+        Some(path) => {
+            let keeper = Keeper { rt, path };
+            talk_kept(&keeper, task, matches, content, &properties, reader, writer)
+        }
+        None => talk_with(task, matches, content, &properties, reader, writer),
+    };
     drop(properties);
     ended
 }
@@ -200,6 +210,218 @@ fn talk_with<F: Read + Drop, R: Read, W: Write>(
     drop(client);
     drop(connect);
     ended
+}
+
+/// Publishes with the session of a file, in which it is kept.
+fn talk_kept<F: Files + AllocGlobal, C: Read + Drop, R: Read, W: Write>(
+    keeper: &Keeper<'_, F>,
+    task: Task<'_>,
+    matches: &ArgMatches<'_>,
+    content: Content<C>,
+    properties: &Option<PublishProperties>,
+    reader: &mut R,
+    writer: &mut W,
+) -> Result<(), Stop>
+    requires { 0 < task.window }
+{
+    match keeper.begin(task.window, false) {
+        Ok(beginning) => {
+            let start = beginning.start;
+            let mut client = beginning.client;
+            let ended = talk_from(
+                keeper,
+                &mut client,
+                start,
+                task,
+                matches,
+                content,
+                properties,
+                reader,
+                writer,
+            );
+            drop(client);
+            ended
+        }
+        Err(trouble) => {
+            drop(content);
+            Err(Stop::Elsewhere(trouble))
+        }
+    }
+}
+
+/// The same from what the file had.
+fn talk_from<F: Files + AllocGlobal, C: Read + Drop, R: Read, W: Write>(
+    keeper: &Keeper<'_, F>,
+    client: &mut Client,
+    start: Start,
+    task: Task<'_>,
+    matches: &ArgMatches<'_>,
+    content: Content<C>,
+    properties: &Option<PublishProperties>,
+    reader: &mut R,
+    writer: &mut W,
+) -> Result<(), Stop>
+    requires { IsReady client.old }
+{
+    let mut reader = timed_reader(task.alloc, matches, reader)?;
+    match open_kept(keeper, client, start, task, matches, &mut reader, writer) {
+        Ok(opened) => {
+            publish_content(
+                keeper,
+                client,
+                opened,
+                task,
+                content,
+                properties,
+                start.taken,
+                &mut reader,
+                writer,
+            )?;
+            close(client, writer)?;
+            Ok(())
+        }
+        Err(trouble) => {
+            drop(content);
+            Err(Stop::Elsewhere(trouble))
+        }
+    }
+}
+
+/// What a broker takes, and whether pings are due.
+#[derive(Clone, Copy)]
+struct Opened {
+    capabilities: Capabilities,
+    pings: bool,
+}
+
+/// Opens the connection, and takes the session up.
+fn open_kept<F: Files + AllocGlobal, R: Read, W: Write>(
+    keeper: &Keeper<'_, F>,
+    client: &mut Client,
+    start: Start,
+    task: Task<'_>,
+    matches: &ArgMatches<'_>,
+    reader: &mut Timed<R>,
+    writer: &mut W,
+) -> Result<Opened, TalkError>
+    requires { IsReady client.old }
+    ensures { OnOk result (IsReady client.new) }
+{
+    let connect = begins_with(connect_with(task.alloc, matches)?, start.is_new);
+    let opened = open(client, &connect, reader, writer);
+    drop(connect);
+    let capabilities = opened?;
+    let pings = reader.keep_alive(capabilities.keep_alive.unwrap_or(task.keep_alive));
+    let let_go = take_up(client)?;
+    if let_go > 0 {
+        keeper.forget(client, start.taken)?;
+        return Err(TalkError::LetGo(let_go));
+    }
+    Ok(Opened {
+        capabilities,
+        pings,
+    })
+}
+
+/// Publishes what is left of the content.
+fn publish_content<F: Files + AllocGlobal, C: Read + Drop, R: Read, W: Write>(
+    keeper: &Keeper<'_, F>,
+    client: &mut Client,
+    opened: Opened,
+    task: Task<'_>,
+    content: Content<C>,
+    properties: &Option<PublishProperties>,
+    taken: u64,
+    reader: &mut Timed<R>,
+    writer: &mut W,
+) -> Result<(), Stop>
+    requires { IsReady client.old }
+    ensures { OnOk result (IsReady client.new) }
+{
+    match content {
+        Content::Message(bytes) => {
+            let message = message_with(task, bytes.as_slice(), properties);
+            drop(bytes);
+            publish_once(keeper, client, opened, message?, taken, reader, writer)?;
+            Ok(())
+        }
+        Content::Lines(file) => publish_rest(
+            keeper, client, opened, task, file, properties, taken, reader, writer,
+        ),
+    }
+}
+
+/// Publishes a message, unless it was taken.
+fn publish_once<F: Files + AllocGlobal, R: Read, W: Write>(
+    keeper: &Keeper<'_, F>,
+    client: &mut Client,
+    opened: Opened,
+    message: Publish,
+    taken: u64,
+    reader: &mut Timed<R>,
+    writer: &mut W,
+) -> Result<(), TalkError>
+    requires { IsReady client.old }
+    ensures { OnOk result (IsReady client.new) }
+{
+    let mut source = Once {
+        message: Some(message),
+    };
+    publish_from(keeper, client, opened, &mut source, taken, reader, writer)
+}
+
+/// Publishes the lines behind those that were taken.
+fn publish_rest<F: Files + AllocGlobal, C: Read + Drop, R: Read, W: Write>(
+    keeper: &Keeper<'_, F>,
+    client: &mut Client,
+    opened: Opened,
+    task: Task<'_>,
+    file: C,
+    properties: &Option<PublishProperties>,
+    taken: u64,
+    reader: &mut Timed<R>,
+    writer: &mut W,
+) -> Result<(), Stop>
+    requires { IsReady client.old }
+    ensures { OnOk result (IsReady client.new) }
+{
+    let limit = client.state.numbers().limit;
+    let source = match LineSource::new(task.alloc, task.heading, limit, file) {
+        Ok(source) => source,
+        Err(error) => return Err(Stop::Elsewhere(TalkError::Unread(error))),
+    };
+    let mut lines = WithProperties { source, properties };
+    let ended = publish_from(keeper, client, opened, &mut lines, taken, reader, writer);
+    match ended {
+        Ok(()) => Ok(()),
+        Err(trouble) => Err(stop_at(trouble, &lines.source)),
+    }
+}
+
+/// Publishes the messages of a source, but so many.
+fn publish_from<F: Files + AllocGlobal, R: Read, W: Write, S: Source>(
+    keeper: &Keeper<'_, F>,
+    client: &mut Client,
+    opened: Opened,
+    source: &mut S,
+    taken: u64,
+    reader: &mut Timed<R>,
+    writer: &mut W,
+) -> Result<(), TalkError>
+    requires { IsReady client.old }
+    ensures { OnOk result (IsReady client.new) }
+{
+    skip(source, taken)?;
+    publish_kept(
+        keeper,
+        client,
+        opened.capabilities,
+        source,
+        taken,
+        opened.pings,
+        reader,
+        writer,
+    )
 }
 
 fn talk_over<F: Read + Drop, R: Read, W: Write>(

@@ -5,7 +5,11 @@ ghost use Rattle.mqtt5_client.specs.Client.{IsReady};
 
 use crate::ending::{is_over, status_of, tell_end};
 use crate::format::{Formatted, is_format};
+use crate::framed::Framed;
 use crate::hiding::{Counting, Hiding};
+use crate::keeping::{Keeper, begins_with};
+use crate::kept_subscribing::{answer_again, receive_kept};
+use crate::kept_talk::take_up;
 use crate::properties::{connect_with, properties_of, refuses_properties};
 use crate::timed::{Timed, timed_reader};
 use crate::words::{keep_alive_in, parse_sub, refuses_texts, refuses_time};
@@ -172,7 +176,7 @@ fn write_file<F: Files + AllocGlobal + Clock, R: Read, W: Write>(
 }
 
 /// Writes each message by its format, where there is one, or else escaped as a line, or as it is.
-fn write_to<F: AllocGlobal + Clock, O: Write + Drop, R: Read, W: Write>(
+fn write_to<F: Files + AllocGlobal + Clock, O: Write + Drop, R: Read, W: Write>(
     rt: &F,
     output: O,
     escapes: bool,
@@ -193,7 +197,7 @@ fn write_to<F: AllocGlobal + Clock, O: Write + Drop, R: Read, W: Write>(
             is_pretty: matches.get_flag("pretty"),
             with_newline,
         };
-        return show(alloc, matches, screen, shown, reader, writer);
+        return show(rt, matches, screen, shown, reader, writer);
     }
     if escapes {
         let screen = Lines {
@@ -201,7 +205,7 @@ fn write_to<F: AllocGlobal + Clock, O: Write + Drop, R: Read, W: Write>(
             writer: output,
             with_topic,
         };
-        return show(alloc, matches, screen, shown, reader, writer);
+        return show(rt, matches, screen, shown, reader, writer);
     }
     let screen = Raw {
         alloc,
@@ -209,12 +213,12 @@ fn write_to<F: AllocGlobal + Clock, O: Write + Drop, R: Read, W: Write>(
         with_topic,
         with_newline,
     };
-    show(alloc, matches, screen, shown, reader, writer)
+    show(rt, matches, screen, shown, reader, writer)
 }
 
 /// Shows each message on a screen, but for those that the words hide, and counts them.
-fn show<R: Read, W: Write, S: Screen + Drop>(
-    alloc: Global,
+fn show<F: Files + AllocGlobal, R: Read, W: Write, S: Screen + Drop>(
+    rt: &F,
     matches: &ArgMatches<'_>,
     screen: S,
     shown: &mut u64,
@@ -230,24 +234,35 @@ fn show<R: Read, W: Write, S: Screen + Drop>(
         screen: hiding,
         shown: 0,
     };
-    let ended = talk(alloc, matches, &mut screen, reader, writer);
+    let ended = talk(rt, matches, &mut screen, reader, writer);
     *shown = screen.shown;
     ended
 }
 
-fn talk<R: Read, W: Write, S: Screen>(
+fn talk<F: Files + AllocGlobal, R: Read, W: Write, S: Screen>(
+    rt: &F,
+    matches: &ArgMatches<'_>,
+    screen: &mut S,
+    reader: &mut R,
+    writer: &mut W,
+) -> Result<(), TalkError> {
+    match matches.get_str("store") {
+        Some(path) => {
+            let keeper = Keeper { rt, path };
+            talk_kept(&keeper, matches, screen, reader, writer)
+        }
+        None => talk_with(rt.alloc(), matches, screen, reader, writer),
+    }
+}
+
+fn talk_with<R: Read, W: Write, S: Screen>(
     alloc: Global,
     matches: &ArgMatches<'_>,
     screen: &mut S,
     reader: &mut R,
     writer: &mut W,
 ) -> Result<(), TalkError> {
-    let task = Task {
-        wanted: subscribe_of(alloc, matches)?,
-        unwanted: unsubscribe_of(alloc, matches)?,
-        count: count_of(matches),
-        keep_alive: keep_alive_in(matches),
-    };
+    let task = task_of(alloc, matches, matches.get_flag("again"))?;
     let connect = connect_with(alloc, matches)?;
     let mut reader = timed_reader(alloc, matches, reader)?;
     let mut client = new_client(alloc, 2, true);
@@ -263,6 +278,122 @@ fn talk<R: Read, W: Write, S: Screen>(
     drop(client);
     drop(connect);
     ended
+}
+
+/// What the words ask for.
+fn task_of(alloc: Global, matches: &ArgMatches<'_>, is_again: bool) -> Result<Task, Error> {
+    Ok(Task {
+        wanted: subscribe_of(alloc, matches, is_again)?,
+        unwanted: unsubscribe_of(alloc, matches)?,
+        count: count_of(matches),
+        keep_alive: keep_alive_in(matches),
+    })
+}
+
+/// Subscribes with the session of a file, in which it is kept.
+fn talk_kept<F: Files + AllocGlobal, R: Read, W: Write, S: Screen>(
+    keeper: &Keeper<'_, F>,
+    matches: &ArgMatches<'_>,
+    screen: &mut S,
+    reader: &mut R,
+    writer: &mut W,
+) -> Result<(), TalkError> {
+    let beginning = keeper.begin(2, true)?;
+    let is_new = beginning.start.is_new;
+    let mut client = beginning.client;
+    let ended = talk_from(keeper, &mut client, is_new, matches, screen, reader, writer);
+    drop(client);
+    ended
+}
+
+/// The same from what the file had.
+fn talk_from<F: Files + AllocGlobal, R: Read, W: Write, S: Screen>(
+    keeper: &Keeper<'_, F>,
+    client: &mut Client,
+    is_new: bool,
+    matches: &ArgMatches<'_>,
+    screen: &mut S,
+    reader: &mut R,
+    writer: &mut W,
+) -> Result<(), TalkError>
+    requires { IsReady client.old }
+{
+    let alloc = keeper.rt.alloc();
+    let mut reader = Framed::new(timed_reader(alloc, matches, reader)?);
+    let connect = begins_with(connect_with(alloc, matches)?, is_new);
+    let ended = talk_framed(
+        keeper,
+        client,
+        &connect,
+        is_new,
+        matches,
+        screen,
+        &mut reader,
+        writer,
+    );
+    drop(connect);
+    ended
+}
+
+/// The same over frames. It ends the connection, also where the time is over.
+fn talk_framed<F: Files + AllocGlobal, R: Read, W: Write, S: Screen>(
+    keeper: &Keeper<'_, F>,
+    client: &mut Client,
+    connect: &Packet,
+    is_new: bool,
+    matches: &ArgMatches<'_>,
+    screen: &mut S,
+    reader: &mut Framed<Timed<R>>,
+    writer: &mut W,
+) -> Result<(), TalkError>
+    requires { IsReady client.old }
+{
+    let alloc = keeper.rt.alloc();
+    let task = task_of(alloc, matches, !is_new || matches.get_flag("again"))?;
+    match show_kept(keeper, client, connect, task, screen, reader, writer) {
+        Ok(()) => {
+            close(client, writer)?;
+            await_broker(&mut reader.reader)
+        }
+        Err(trouble) if is_over(&trouble) => {
+            leave(alloc, &mut reader.reader, writer);
+            Err(trouble)
+        }
+        Err(trouble) => Err(trouble),
+    }
+}
+
+/// Opens the connection, takes the session up, subscribes, and shows so many messages.
+fn show_kept<F: Files + AllocGlobal, R: Read, W: Write, S: Screen>(
+    keeper: &Keeper<'_, F>,
+    client: &mut Client,
+    connect: &Packet,
+    task: Task,
+    screen: &mut S,
+    reader: &mut Framed<Timed<R>>,
+    writer: &mut W,
+) -> Result<(), TalkError>
+    requires { IsReady client.old }
+    ensures { OnOk result (IsReady client.new) }
+{
+    let Task {
+        wanted,
+        unwanted,
+        count,
+        keep_alive,
+    } = task;
+    let capabilities = open(client, connect, reader, writer)?;
+    let seconds = capabilities.keep_alive.unwrap_or(keep_alive);
+    let pings = reader.reader.keep_alive(seconds);
+    let _let_go = take_up(client)?;
+    answer_again(keeper.rt.alloc(), client)?;
+    keeper.keep(client, 0)?;
+    subscribe(client, capabilities, wanted, writer)?;
+    let asked = end_others(client, unwanted, writer)?;
+    match count {
+        Some(count) => receive_kept(keeper, client, screen, count, pings, reader, writer),
+        None => await_subscribed(client, asked, pings, reader, writer),
+    }
 }
 
 /// How many messages are shown; None where the program ends once it is subscribed.
@@ -358,10 +489,15 @@ fn end_others<W: Write>(
 }
 
 /// The Subscribe that the words ask for.
-fn subscribe_of(alloc: Global, matches: &ArgMatches<'_>) -> Result<Subscribe, Error> {
+fn subscribe_of(
+    alloc: Global,
+    matches: &ArgMatches<'_>,
+    is_again: bool,
+) -> Result<Subscribe, Error> {
     let mut filters = Sequence::new(alloc);
-    add_filters(alloc, matches, "filters", &mut filters)?;
-    add_filters(alloc, matches, "topic", &mut filters)?;
+    let rule = rule_of(is_again);
+    add_filters(alloc, matches, "filters", rule, &mut filters)?;
+    add_filters(alloc, matches, "topic", rule, &mut filters)?;
     let properties = properties_of::<SubscribeProperties>(alloc, matches, "subscribe")?;
     Ok(Subscribe {
         pkid: 0,
@@ -375,13 +511,13 @@ fn add_filters(
     alloc: Global,
     matches: &ArgMatches<'_>,
     id: &str,
+    rule: RetainForwardRule,
     filters: &mut Sequence<Filter>,
 ) -> Result<(), Error> {
     let Some(paths) = matches.get_strs(id) else {
         return Ok(());
     };
     let quality = quality_of(matches, "qos");
-    let rule = rule_of(matches);
     for path in paths {
         let mut filter = Filter::new(alloc, path, quality)?;
         filter.retain_forward_rule = rule;
@@ -392,8 +528,8 @@ fn add_filters(
 
 /// Which retained messages come: where the subscriptions were asked for before, those alone of one that is new
 /// (3.8.3.1).
-fn rule_of(matches: &ArgMatches<'_>) -> RetainForwardRule {
-    if matches.get_flag("again") {
+fn rule_of(is_again: bool) -> RetainForwardRule {
+    if is_again {
         RetainForwardRule::OnNewSubscribe
     } else {
         RetainForwardRule::OnEverySubscribe

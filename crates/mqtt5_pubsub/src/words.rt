@@ -117,7 +117,16 @@ fn window_option<'a>(alloc: Global) -> Arg<'a> {
 /// What the words of both clients have.
 fn shared_options<'a>(alloc: Global, command: Command<'a>) -> Result<Command<'a>, AllocError> {
     let command = command.arg(properties_option(alloc))?;
+    let command = command.arg(store_option(alloc)?)?;
     command.arg(chunks_option(alloc))
+}
+
+/// The file that the session is kept in.
+fn store_option<'a>(alloc: Global) -> Result<Arg<'a>, AllocError> {
+    Arg::new(alloc, "store")
+        .long("store")
+        .value_name("FILE")
+        .requires_arg("keep")
 }
 
 /// Properties of packets, of which `properties` reads.

@@ -1,0 +1,172 @@
+//! The file that a session is kept in over the end of the process: how many messages of the words were taken, in eight bytes,
+//! high byte first, and behind them the session. It is written beside, synced and renamed, so that it is whole at any time.
+
+ghost use Rattle.std.specs.Prelude.{◌<◌, IfOk};
+ghost use Rattle.mqtt5_client.specs.Client.{IsReady};
+
+use bytes::{Buf, BufMut, BytesMut};
+use mqtt5_client::{Client, StoreError};
+use mqtt5_codec::Packet;
+use mqtt5_pipe::{PipeError, write_output};
+use mqtt5_talk::{TalkError, new_client};
+use std::fs::OpenFile;
+use std::io::{ErrorKind, Write};
+use std::rt::Files;
+use std::{fs, io};
+
+/// How many bytes stand before the session.
+const HEAD: usize = 8;
+
+/// Where a session is kept.
+#[derive(Drop)]
+pub(super) struct Keeper<'a, F> {
+    pub(super) rt: &'a F,
+    pub(super) path: &'a str,
+}
+
+/// What a talk begins with.
+#[derive(Drop)]
+pub(super) struct Beginning {
+    pub(super) client: Client,
+    pub(super) start: Start,
+}
+
+/// What the file says beside the session.
+#[derive(Clone, Copy)]
+pub(super) struct Start {
+    /// How many messages of the words were taken.
+    pub(super) taken: u64,
+    /// Whether there was no file: a session of the broker's is then none of this client.
+    pub(super) is_new: bool,
+}
+
+impl<F: Files + AllocGlobal> Keeper<'_, F> {
+    /// The client of the file; where there is none a new one, of so many identifiers. `Unstored` where it can't be read, and
+    /// `NotASession` where it has none.
+    pub(super) fn begin(&self, limit: u16, manual_acks: bool) -> Result<Beginning, TalkError>
+        requires { 0 < limit }
+        ensures ready { IfOk result (λ b. IsReady b.client) }
+    {
+        match fs::read(self.rt, self.path) {
+            Ok(bytes) => self.load(bytes.as_slice()),
+            Err(error) if error.kind() == ErrorKind::NotFound => Ok(Beginning {
+                client: new_client(self.rt.alloc(), limit, manual_acks),
+                start: Start {
+                    taken: 0,
+                    is_new: true,
+                },
+            }),
+            Err(error) => Err(TalkError::Unstored(error)),
+        }
+    }
+
+    /// The client of a file's bytes.
+    fn load(&self, bytes: &[u8]) -> Result<Beginning, TalkError>
+        ensures ready { IfOk result (λ b. IsReady b.client) }
+    {
+        let alloc = self.rt.alloc();
+        let mut stream = BytesMut::copy_from_slice(alloc, bytes)?;
+        let length = stream.len();
+        if length < HEAD {
+            return Err(TalkError::NotASession(StoreError::Cut(HEAD - length)));
+        }
+        let mut head = stream.freeze_to(HEAD)?;
+        let taken = head.get_u64();
+        drop(head);
+        match Client::load(alloc, &mut stream) {
+            Ok(client) => Ok(Beginning {
+                client,
+                start: Start {
+                    taken,
+                    is_new: false,
+                },
+            }),
+            Err(fault) => Err(TalkError::NotASession(fault)),
+        }
+    }
+
+    /// Keeps a client's session, and how many messages of the words were taken. All events must be taken out. `Unstored`, and
+    /// `Failed` as of a save.
+    pub(super) fn keep(&self, client: &Client, taken: u64) -> Result<(), TalkError> {
+        let mut bytes = BytesMut::new(self.rt.alloc());
+        bytes.put_u64(taken)?;
+        match client.save(&mut bytes) {
+            Ok(()) => {}
+            Err(fault) => return Err(TalkError::from(PipeError::from(fault))),
+        }
+        match self.write(bytes.as_slice()) {
+            Ok(()) => Ok(()),
+            Err(error) => Err(TalkError::Unstored(error)),
+        }
+    }
+
+    /// Keeps a session of which messages are let go, with nothing that is to be sent.
+    pub(super) fn forget(&self, client: &mut Client, taken: u64) -> Result<(), TalkError>
+        ensures ready { IsReady client.old → IsReady client.new }
+    {
+        forget_events(client);
+        self.keep(client, taken)
+    }
+
+    /// Writes the file.
+    fn write(&self, bytes: &[u8]) -> io::Result<()> {
+        let beside = self.beside()?;
+        let mut file = fs::create(self.rt, beside.as_str())?;
+        file.write_all(bytes)?;
+        file.sync_all()?;
+        drop(file);
+        fs::rename(self.rt, beside.as_str(), self.path)
+    }
+
+    /// Where it is written before it is renamed.
+    fn beside(&self) -> io::Result<String> {
+        let mut beside = String::new(self.rt.alloc());
+        beside.push_str(self.path)?;
+        beside.push_str(".new")?;
+        Ok(beside)
+    }
+
+    /// Sends what is in the output, once the session is kept: so that the end of the process is no more than a lost connection.
+    /// All events must be taken out.
+    pub(super) fn send<W: Write>(
+        &self,
+        client: &mut Client,
+        taken: u64,
+        writer: &mut W,
+    ) -> Result<(), TalkError>
+        ensures ready { IsReady client.old → IsReady client.new }
+    {
+        if client.output().is_empty() {
+            return Ok(());
+        }
+        self.keep(client, taken)?;
+        match write_output(client, writer) {
+            Ok(()) => Ok(()),
+            Err(fault) => Err(TalkError::from(fault)),
+        }
+    }
+}
+
+/// Takes all events out.
+pub(super) fn forget_events(client: &mut Client)
+    ensures ready { IsReady client.old → IsReady client.new }
+{
+    for _ in 0..u64::MAX {
+        match client.next_event() {
+            Some(event) => drop(event),
+            None => break,
+        }
+    }
+}
+
+/// A Connect, with a clean start where the session is new.
+pub(super) fn begins_with(connect: Packet, is_new: bool) -> Packet {
+    match connect {
+        Packet::Connect(connect, will, login) => {
+            let mut connect = connect;
+            connect.clean_start = connect.clean_start || is_new;
+            Packet::Connect(connect, will, login)
+        }
+        other => other,
+    }
+}

@@ -1,0 +1,89 @@
+//! A client that subscribes, and keeps its session over the end of the process.
+
+ghost use Rattle.std.specs.Prelude.{◌≡◌, OnOk};
+ghost use Rattle.mqtt5_client.specs.Client.{IsReady};
+
+use crate::keeping::{Keeper, forget_events};
+use crate::kept_talk::{hand_in, hear};
+use mqtt5_client::{Client, Event, Request};
+use mqtt5_codec::Packet;
+use mqtt5_publish::{PubRec, Publish};
+use mqtt5_talk::{Screen, TalkError, ack_for, check_granted};
+use std::alloc::Global;
+use std::io::{Read, Write};
+use std::rt::Files;
+
+/// Answers anew each message of QoS 2 that was shown, and isn't released: the broker may not know of the first answer, and sends
+/// the message again, of which a session tells but once (MQTT 5.0 section 4.3.3). All events are taken out.
+pub(super) fn answer_again(alloc: Global, client: &mut Client) -> Result<(), TalkError>
+    requires { IsReady client.old }
+    ensures ready { IsReady client.new }
+{
+    let packets = client.state.stored_packets(alloc)?;
+    for packet in &packets {
+        if let Packet::PubRec(ack) = packet {
+            hand_in(client, Request::PubRec(PubRec::new(ack.pkid, None)))?;
+        }
+    }
+    forget_events(client);
+    Ok(())
+}
+
+/// Shows each message that comes, as `receive` of `mqtt5_talk` does, but that the session is kept before its answer is sent, and
+/// after it was shown. So where the process ends in between, this one alone is shown again. The reader must give one packet at a
+/// time, since a session isn't kept while another message waits to be shown.
+pub(super) fn receive_kept<F: Files + AllocGlobal, R: Read, W: Write, S: Screen>(
+    keeper: &Keeper<'_, F>,
+    client: &mut Client,
+    screen: &mut S,
+    count: u64,
+    pings: bool,
+    reader: &mut R,
+    writer: &mut W,
+) -> Result<(), TalkError>
+    requires { IsReady client.old }
+    ensures ready { OnOk result (IsReady client.new) }
+{
+    let mut left = count;
+    for _ in 0..u64::MAX {
+        left = show_events(client, screen, left)?;
+        keeper.send(client, 0, writer)?;
+        if left == 0 {
+            return Ok(());
+        }
+        hear(client, pings, reader)?;
+    }
+    Ok(())
+}
+
+/// Takes all events out, shows those that are messages, and answers how many are still to come.
+fn show_events<S: Screen>(client: &mut Client, screen: &mut S, count: u64) -> Result<u64, TalkError>
+    requires { IsReady client.old }
+    ensures ready { IsReady client.new }
+{
+    let mut left = count;
+    for _ in 0..u64::MAX {
+        match client.next_event() {
+            Some(Event::Incoming(Packet::Publish(publish))) => {
+                let shown = show(client, &publish, screen);
+                drop(publish);
+                left = left.saturating_sub(shown?);
+            }
+            Some(event) => check_granted(event)?,
+            None => break,
+        }
+    }
+    Ok(left)
+}
+
+/// Shows a message, and answers it; answers 1 where it is one that is to be shown.
+fn show<S: Screen>(client: &mut Client, publish: &Publish, screen: &mut S) -> Result<u64, TalkError>
+    requires { IsReady client.old }
+    ensures ready { IsReady client.new }
+{
+    let is_shown = screen.show(publish)?;
+    if let Some(answer) = ack_for(publish) {
+        hand_in(client, answer)?;
+    }
+    Ok(is_shown as u64)
+}
