@@ -1,0 +1,17 @@
+pub mod Sending
+pub mod Flow
+pub mod Moves
+pub mod Good
+pub mod Forwarding
+pub mod Clients
+pub mod Counted
+pub mod Places
+pub mod Copies
+pub mod Joined
+pub mod Handed
+pub mod Granting
+pub mod Subscribed
+pub mod Copied
+pub mod Standing
+pub mod Stepping
+pub mod Sample
