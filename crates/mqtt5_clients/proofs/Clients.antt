@@ -1,5 +1,5 @@
 -- What is kept of each client: its flows, and of a class of QoS 2 no more is put into its queue than was handed on.
-use Rattle.std.proofs.Common.{◌≡◌, ℕ, ◌+◌, ◌≤◌, Bool, List, [], ◌++◌, count_by, sym, ap, subst, arith, append_assoc}
+use Rattle.std.proofs.Common.{◌≡◌, ℕ, ◌+◌, ◌≤◌, Bool, List, ◌++◌, count_by, sym, ap, subst, arith, append_assoc}
 use Rattle.std.specs.List.{AllByRecursion, filter_map}
 use Rattle.mqtt5_base.specs.declared.quality.QoS.TheVariants.{ExactlyOnce}
 use Rattle.mqtt5_publish.specs.declared.publish.Publish.{Publish}

@@ -2,7 +2,7 @@
 use Rattle.std.proofs.Common.{◌≡◌, ℕ, ◌+◌, Bool, true, false, List, [], ◌∷◌, count_by, Option, Some, None, refl, sym, ap, ◌∙◌, subst, arith, ◌==◌}
 use Rattle.std.specs.Prelude.{option_map, slice_get, IfSome}
 use Rattle.std.specs.List.{filter_map, cons_option}
-use Rattle.std.proofs.lemmas.Bool.{eqb-true, eq-eqb}
+use Rattle.std.proofs.lemmas.Bool.{eq-eqb}
 use Rattle.mqtt5_base.specs.declared.quality.QoS.{QoS}
 use Rattle.mqtt5_base.specs.declared.quality.QoS.TheVariants.{ExactlyOnce}
 use Rattle.mqtt5_publish.specs.declared.publish.Publish.{Publish}
@@ -19,7 +19,7 @@ use Rattle.mqtt5_clients.specs.declared.event.NetworkEvent.{NetworkEvent}
 use Rattle.mqtt5_clients.specs.Subscriptions.{granted_for, forwarded_to}
 use Rattle.mqtt5_clients.specs.Asking.{others}
 use Rattle.mqtt5_clients.specs.Retained.{retained_of, copies_first}
-use Rattle.mqtt5_clients.specs.Client.{Client, routed}
+use Rattle.mqtt5_clients.specs.Client.{routed}
 use Rattle.mqtt5_clients.specs.Place.{Place, copies_in, AtRest}
 use Rattle.mqtt5_clients.specs.Network.{Network, handed_by, happens_in, run_network, IsReached}
 use Rattle.mqtt5_clients.specs.Granted.{IsCopy, AtPlace, Unchanged, IsHeard}

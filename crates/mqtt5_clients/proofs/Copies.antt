@@ -1,8 +1,8 @@
 -- The copies of retained messages: none is new, and each is as it is to be forwarded; and what is retained of a topic is the last
 -- that was handed on to it with retain.
-use Rattle.std.proofs.Common.{◌≡◌, ℕ, ◌≤◌, Bool, true, false, cond, ◌&&◌, List, [], ◌∷◌, ◌++◌, filter, count_by, Some, None, refl, sym, ap, ◌∙◌, subst, arith}
+use Rattle.std.proofs.Common.{◌≡◌, ℕ, Bool, true, false, cond, ◌&&◌, List, [], ◌∷◌, ◌++◌, filter, Some, None, refl, sym, ap, ◌∙◌, subst, arith}
 use Rattle.std.specs.Prelude.{not, nat_eq}
-use Rattle.std.specs.List.{AllByRecursion, filter_map, cons_option, find}
+use Rattle.std.specs.List.{filter_map, cons_option, find}
 use Rattle.std.specs.Cmp.Lexicographic.{pointwise, same_text}
 use Rattle.std.proofs.lemmas.Cmp.{nat_list_eq_equiv}
 use Rattle.mqtt5_publish.specs.declared.publish.Publish.{Publish}

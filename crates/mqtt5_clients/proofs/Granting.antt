@@ -15,7 +15,7 @@ use Rattle.mqtt5_network.specs.Forwarded.{forwarded, passes}
 use Rattle.mqtt5_clients.specs.declared.event.NetworkEvent.{NetworkEvent}
 use Rattle.mqtt5_clients.specs.Subscriptions.{granted_for, forwarded_to}
 use Rattle.mqtt5_clients.specs.Client.{Client, routed}
-use Rattle.mqtt5_clients.specs.Place.{Place, happens_at, becomes, becomes_with, queues_at, AtRest}
+use Rattle.mqtt5_clients.specs.Place.{Place, happens_at, becomes_with, queues_at, AtRest}
 use Rattle.mqtt5_clients.specs.Network.{Network, new_of, newly, handed_by, happens_in, run_network, IsReached, AllAtRest, given_in, lost_in, unacked_in}
 use Rattle.mqtt5_clients.specs.Granted.{published, Grants, GrantsNone, GrantsOthers, Reaches, IsNew, AtPlace, Throughout, GoesOn, Lives}
 use Rattle.mqtt5_clients.proofs.Forwarding.{count_here, count_both, published_class, two_granted, forwarded_kind, forwarded_least, forwarded_few, forwarded_none}

@@ -1,6 +1,6 @@
 -- Each client of a network that is reached is as it has to be, here or away, and so is each session that ended; what the broker
 -- handed on is what it did as the receiver of each of them, and their wills.
-use Rattle.std.proofs.Common.{◌≡◌, ℕ, zero, suc, ◌+◌, ◌≤◌, Bool, true, false, cond, List, [], ◌∷◌, ◌++◌, length, drop, count_by, map, Some, refl, sym, ap, ◌∙◌, subst, arith, ◌==◌, inl, append-nil}
+use Rattle.std.proofs.Common.{◌≡◌, ℕ, zero, suc, ◌+◌, Bool, true, false, cond, List, [], ◌∷◌, ◌++◌, length, drop, count_by, map, Some, refl, sym, ap, ◌∙◌, subst, arith, ◌==◌, inl, append-nil}
 use Rattle.std.specs.Prelude.{sum_by, option_map, slice_get}
 use Rattle.std.specs.List.{AllByRecursion, Contains, filter_map}
 use Rattle.std.proofs.Math.Dec.{eqb-suc-suc, eqb-suc-zero, eqb-zero-suc}
@@ -15,7 +15,7 @@ use Rattle.mqtt5_clients.specs.declared.event.ClientEvent.TheVariants as events
 use Rattle.mqtt5_clients.specs.declared.event.NetworkEvent.{NetworkEvent}
 use Rattle.mqtt5_clients.specs.Subscriptions.{forwarded_to}
 use Rattle.mqtt5_clients.specs.Client.{routed}
-use Rattle.mqtt5_clients.specs.Place.{Place, loses, happens_at, becomes, becomes_with, copies_in, ends_of, queues_at, gets_at}
+use Rattle.mqtt5_clients.specs.Place.{Place, loses, happens_at, becomes, becomes_with, copies_in, ends_of, queues_at}
 use Rattle.mqtt5_clients.specs.Network.{Network, Profile, begins, start_network, changed, new_of, newly, routes, handed_by, ends_at, happens_in, run_network, IsReached}
 use Rattle.mqtt5_clients.specs.Granted.{GoesOn}
 use Rattle.mqtt5_clients.proofs.Good.{Grows, routed_queues}

@@ -10,11 +10,9 @@ use Rattle.mqtt5_session.specs.Session.{Session}
 use Rattle.mqtt5_session.specs.Requests.{on_request}
 use Rattle.mqtt5_clients.specs.declared.event.ClientEvent.{ClientEvent}
 use Rattle.mqtt5_clients.specs.declared.event.ClientEvent.TheVariants as events
-use Rattle.mqtt5_clients.specs.Asking.{others}
 use Rattle.mqtt5_clients.specs.Client.{Client, routed, asked_of, sends_of, asks_for, requests_for, goes_up, goes_down, taken_for, passes_on}
 use Rattle.mqtt5_clients.specs.Place.{Place, cut_off, sent_from, passes, loses, happens_at, renewed, becomes, ends_of, queues_at, gets_at}
 use Rattle.mqtt5_clients.specs.Granted.{GoesOn, KeepsSubscriptions}
-use Rattle.mqtt5_clients.proofs.Moves.{moved}
 use Rattle.mqtt5_clients.proofs.Moves as moves
 use Rattle.mqtt5_clients.proofs.Good.{Grows, Quiet, client_grows, client_quiet, back_heard, routed_same}
 use Rattle.mqtt5_clients.proofs.Clients.{IsClient, AreCopies, client_start, client_moved, client_queues, client_gets}

@@ -1,7 +1,7 @@
 -- What a client is shown that keeps the subscriptions that it began with.
 use Rattle.std.proofs.Common.{◌≡◌, ◌≢◌, ℕ, ◌+◌, ◌*◌, ◌≤◌, Bool, true, false, cond, ◌&&◌, List, [], ◌∷◌, count_by, map, Option, Some, None, refl, sym, ap, ◌∙◌, subst, arith, ◌==◌, mul-le-mul_left}
-use Rattle.std.specs.Prelude.{not, sum_by, option_map, slice_get, IfSome}
-use Rattle.std.specs.List.{All, AllByRecursion, filter_map, list_any}
+use Rattle.std.specs.Prelude.{not, option_map, slice_get, IfSome}
+use Rattle.std.specs.List.{AllByRecursion, list_any}
 use Rattle.std.specs.Str.{is_utf8}
 use Rattle.std.proofs.lemmas.List.Elements.{recursion_from_All}
 use Rattle.std.proofs.lemmas.List.Sums.{sum_by-cons}
@@ -10,7 +10,6 @@ use Rattle.mqtt5_base.specs.Topics.{topic_matches}
 use Rattle.mqtt5_base.specs.declared.quality.QoS.{QoS}
 use Rattle.mqtt5_base.specs.declared.quality.QoS.TheVariants.{AtMostOnce, AtLeastOnce, ExactlyOnce}
 use Rattle.mqtt5_publish.specs.declared.publish.Publish.{Publish}
-use Rattle.mqtt5_session.specs.Session.{Core}
 use Rattle.mqtt5_world.specs.Delivery.{IsClass, stored_in, stored_without, waiting_in}
 use Rattle.mqtt5_world.proofs.Step.{one}
 use Rattle.mqtt5_inflight.specs.Unacked.{again as again_publish}

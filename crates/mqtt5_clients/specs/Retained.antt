@@ -1,7 +1,7 @@
 -- The messages that a broker retains, and what a Subscribe gets of them (MQTT 5.0 sections 3.3.1.3,
 -- 3.8.3.1 and 3.8.4).
 use Rattle.std.specs.Prelude.{ℕ, Bool, true, false, not, nat_eq, ◌&&◌, filter, List, [], ◌∷◌}
-use Rattle.std.specs.Prelude.{◌++◌, length, Option, Some, None, if◌then◌else◌}
+use Rattle.std.specs.Prelude.{◌++◌, Option, Some, None, if◌then◌else◌}
 use Rattle.std.specs.List.{filter_map, list_any}
 use Rattle.std.specs.Cmp.Lexicographic.{pointwise}
 use Rattle.mqtt5_base.specs.Texts.{Utf8}
