@@ -279,7 +279,7 @@ module _ (n : Network) (i : ℕ) (p : Place) (b : KeepsFirst n i p) (test : Publ
   first_joined = joined start (record { profiles = b.profiles; events = []; reached = refl })
 
   at_end : slice_get came.places i ≡ Some p
-  at_end = ap (λ (m : Network). slice_get m.places i) (sym b.reached) ∙ b.here
+  at_end = ap (λ (m : Network). slice_get m.places i) (sym b.reached) ∙ b.is_at
 
   began : (o : Place) × (slice_get start.places i ≡ Some o)
   began = were_there b.events start i p at_end
@@ -315,7 +315,7 @@ module _ (n : Network) (i : ℕ) (p : Place) (b : KeepsFirst n i p) (test : Publ
       omega (arith, l, m, z, h)
 
   place : IsPlace n.handed p
-  place = all_at (IsPlace n.handed) n.places i p j.places b.here
+  place = all_at (IsPlace n.handed) n.places i p j.places b.is_at
 
   abbrev of : QoS → Publish → Bool
   of q = at ss test q
@@ -375,7 +375,7 @@ module _ (n : Network) (i : ℕ) (p : Place) (b : KeepsFirst n i p) (test : Publ
 
   module _ (rests : AllAtRest n) where
     rest : AtRest p
-    rest = all_at AtRest n.places i p (recursion_from_All AtRest n.places rests) b.here
+    rest = all_at AtRest n.places i p (recursion_from_All AtRest n.places rests) b.is_at
 
     pub standing_exactly : IsClass ExactlyOnce test → count_by test (shown p.client.session) + lost_in n kind ≡ given_in n kind
     standing_exactly k =

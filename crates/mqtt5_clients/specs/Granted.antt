@@ -102,7 +102,7 @@ KeepsSubscriptions (events.Unsubscribe p) = ⊥
 KeepsSubscriptions events.Ends = ⊥
 KeepsSubscriptions event = ⊤
 
--- events in which the client at a place doesn't
+-- events in which that of the client at a place does, and the client asks for none
 abbrev pub Unchanged : ℕ → List NetworkEvent → Type 0
 Unchanged i [] = ⊤
 Unchanged i (e ∷ es) = (i ≡ e.client → KeepsSubscriptions e.what) × Unchanged i es
@@ -118,5 +118,5 @@ pub record KeepsFirst (n : Network) (i : ℕ) (p : Place) : Type 0 where
   pub events : List NetworkEvent
   pub reached : n ≡ run_network events (start_network profiles)
   pub unchanged : Unchanged i events
-  pub here : slice_get n.places i ≡ Some p
+  pub is_at : slice_get n.places i ≡ Some p
   pub local : All (λ (s : Subscription). s.no_local ≡ false) p.client.subscriptions
