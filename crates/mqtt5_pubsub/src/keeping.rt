@@ -1,7 +1,8 @@
 //! The file that a session is kept in over the end of the process: how many messages of the words were taken, in eight bytes,
 //! high byte first, and behind them the session. It is written beside, synced and renamed, so that it is whole at any time.
 
-ghost use Rattle.std.specs.Prelude.{◌<◌, IfOk};
+ghost use Rattle.std.specs.Prelude.{◌≡◌, ◌<◌, ◌⊎◌, [], IfOk, OnOk};
+ghost use Rattle.std.specs.Io.KnownBytes.{Keeps};
 ghost use Rattle.mqtt5_client.specs.Client.{IsReady};
 
 use bytes::{Buf, BufMut, BytesMut};
@@ -87,7 +88,9 @@ impl<F: Files + AllocGlobal> Keeper<'_, F> {
 
     /// Keeps a client's session, and how many messages of the words were taken. All events must be taken out. `Unstored`, and
     /// `Failed` as of a save.
-    pub(super) fn keep(&self, client: &Client, taken: u64) -> Result<(), TalkError> {
+    pub(super) fn keep(&self, client: &Client, taken: u64) -> Result<(), TalkError>
+        ensures told { OnOk result (client.now.state.events ≡ []) }
+    {
         let mut bytes = BytesMut::new(self.rt.alloc());
         bytes.put_u64(taken)?;
         match client.save(&mut bytes) {
@@ -134,10 +137,15 @@ impl<F: Files + AllocGlobal> Keeper<'_, F> {
         taken: u64,
         writer: &mut W,
     ) -> Result<(), TalkError>
+        ensures told { Keeps (W.contents writer.old) (W.contents writer.new)
+            ⊎ (client.old.state.events ≡ []) }
+        ensures whole { OnOk result (client.new.output.items ≡ []) }
+        ensures same { client.new ≡ record client.old { output = client.new.output } }
         ensures ready { IsReady client.old → IsReady client.new }
     {
-        if client.output().is_empty() {
-            return Ok(());
+        match client.output().first() {
+            Some(_byte) => {}
+            None => return Ok(()),
         }
         self.keep(client, taken)?;
         match write_output(client, writer) {

@@ -1,13 +1,14 @@
 //! A client that publishes, and keeps its session over the end of the process.
 
 ghost use Rattle.std.specs.Prelude.{◌≡◌, OnOk, None};
+ghost use Rattle.std.specs.FinMap as map;
 ghost use Rattle.mqtt5_client.specs.Client.{IsReady};
 
 use crate::keeping::Keeper;
-use crate::kept_talk::{hand_in, hear};
-use mqtt5_client::{Client, Request};
+use crate::kept_talk::hear;
+use mqtt5_client::Client;
 use mqtt5_publish::Publish;
-use mqtt5_talk::{Capabilities, Source, TalkError, refusal_in};
+use mqtt5_talk::{Capabilities, Source, TalkError, endless, hand_allowed, take_refusal};
 use std::io::{Read, Write};
 use std::rt::Files;
 
@@ -57,6 +58,7 @@ pub(super) fn publish_kept<F: Files + AllocGlobal, R: Read, W: Write, S: Source>
     writer: &mut W,
 ) -> Result<(), TalkError>
     requires { IsReady client.old }
+    ensures delivered { OnOk result (map.len client.new.state.core.in_use ≡ 0) }
     ensures ready { OnOk result (IsReady client.new) }
 {
     let mut taken = taken;
@@ -69,7 +71,7 @@ pub(super) fn publish_kept<F: Files + AllocGlobal, R: Read, W: Write, S: Source>
         }
         hear_acks(client, source, is_out, pings, reader)?;
     }
-    Ok(())
+    Err(endless())
 }
 
 /// Takes messages, unless the source has none left; answers whether it has none.
@@ -127,20 +129,6 @@ fn send_kept<F: Files + AllocGlobal, W: Write>(
     }
 }
 
-/// Takes all events out, and answers the first refusal among them.
-fn take_refusal(client: &mut Client) -> Option<TalkError>
-    ensures ready { IsReady client.old → IsReady client.new }
-{
-    let mut refusal = None;
-    for _ in 0..u64::MAX {
-        match client.next_event() {
-            Some(event) => refusal = refusal.or(refusal_in(event)),
-            None => break,
-        }
-    }
-    refusal
-}
-
 /// Takes messages as long as the next identifier is free, and the source has one at hand or nothing else is to be done. Answers
 /// whether there is none left.
 fn take_messages<S: Source>(
@@ -162,7 +150,7 @@ fn take_messages<S: Source>(
         let Some(message) = source.next(client.next_id())? else {
             return Ok(true);
         };
-        take_message(client, capabilities, message)?;
+        hand_allowed(client, capabilities, message)?;
         *taken = taken.saturating_add(1);
     }
     Ok(false)
@@ -177,22 +165,4 @@ fn is_busy(client: &Client) -> bool {
 fn has_room(client: &Client) -> bool {
     let id = client.next_id();
     client.state.outgoing_pub(id).is_none() && !client.state.outgoing_rel(id)
-}
-
-/// Hands a message in, unless the ConnAck forbids it.
-fn take_message(
-    client: &mut Client,
-    capabilities: Capabilities,
-    message: Publish,
-) -> Result<(), TalkError>
-    requires { IsReady client.old }
-    ensures ready { IsReady client.new }
-{
-    match capabilities.forbidden_message(&message) {
-        Some(why) => {
-            drop(message);
-            Err(TalkError::Forbidden(why))
-        }
-        None => hand_in(client, Request::Publish(message)),
-    }
 }

@@ -1,14 +1,14 @@
 //! A client that subscribes, and keeps its session over the end of the process.
 
-ghost use Rattle.std.specs.Prelude.{◌≡◌, OnOk};
+ghost use Rattle.std.specs.Prelude.{◌≡◌, [], OnOk};
 ghost use Rattle.mqtt5_client.specs.Client.{IsReady};
 
 use crate::keeping::{Keeper, forget_events};
-use crate::kept_talk::{hand_in, hear};
+use crate::kept_talk::hear;
 use mqtt5_client::{Client, Event, Request};
 use mqtt5_codec::Packet;
 use mqtt5_publish::{PubRec, Publish};
-use mqtt5_talk::{Screen, TalkError, ack_for, check_granted};
+use mqtt5_talk::{Screen, TalkError, ack_for, endless, hand_in, is_granted};
 use std::alloc::Global;
 use std::io::{Read, Write};
 use std::rt::Files;
@@ -53,7 +53,7 @@ pub(super) fn receive_kept<F: Files + AllocGlobal, R: Read, W: Write, S: Screen>
         }
         hear(client, pings, reader)?;
     }
-    Ok(())
+    Err(endless())
 }
 
 /// Takes all events out, shows those that are messages, and answers how many are still to come.
@@ -69,7 +69,9 @@ fn show_events<S: Screen>(client: &mut Client, screen: &mut S, count: u64) -> Re
                 drop(publish);
                 left = left.saturating_sub(shown?);
             }
-            Some(event) => check_granted(event)?,
+            Some(event) => {
+                is_granted(event)?;
+            }
             None => break,
         }
     }
@@ -86,4 +88,43 @@ fn show<S: Screen>(client: &mut Client, publish: &Publish, screen: &mut S) -> Re
         hand_in(client, answer)?;
     }
     Ok(is_shown as u64)
+}
+
+/// Awaits so many SubAcks and UnsubAcks, and lets go what else comes. Nothing is sent, and what was to be answered is let go
+/// too: none of it is kept, so it comes again. `NotSubscribed` and `NotUnsubscribed` where one refuses a filter, `Ended`,
+/// `Closed`; `Failed`, as of a read and of what came, and where an Auth comes, for which no talk asks.
+pub(super) fn await_kept<R: Read>(
+    client: &mut Client,
+    count: u64,
+    reader: &mut R,
+) -> Result<(), TalkError>
+    requires { IsReady client.old }
+    ensures unsent { OnOk result (client.new.output.items ≡ []) }
+    ensures ready { IsReady client.new }
+{
+    let mut left = count;
+    for _ in 0..u64::MAX {
+        left = left.saturating_sub(take_answers(client)?);
+        if left == 0 {
+            client.output.clear();
+            return Ok(());
+        }
+        hear(client, false, reader)?;
+    }
+    Err(endless())
+}
+
+/// Takes all events out, and answers how many SubAcks and UnsubAcks are among them.
+fn take_answers(client: &mut Client) -> Result<u64, TalkError>
+    requires { IsReady client.old }
+    ensures ready { IsReady client.new }
+{
+    let mut count: u64 = 0;
+    for _ in 0..u64::MAX {
+        match client.next_event() {
+            Some(event) => count = count.saturating_add(is_granted(event)? as u64),
+            None => break,
+        }
+    }
+    Ok(count)
 }

@@ -6,22 +6,11 @@ ghost use Rattle.mqtt5_client.specs.Client.{IsReady};
 use mqtt5_client::{Client, Event, Request};
 use mqtt5_codec::Packet;
 use mqtt5_pipe::PipeError;
-use mqtt5_talk::TalkError;
+use mqtt5_talk::{TalkError, hand_in};
 use std::io::{ErrorKind, Read};
 
 /// How many bytes are read at once.
 const ROOM: usize = 8192;
-
-/// Hands a request in.
-pub(super) fn hand_in(client: &mut Client, request: Request) -> Result<(), TalkError>
-    requires { IsReady client.old }
-    ensures ready { IsReady client.new }
-{
-    match client.request(request, 0) {
-        Ok(()) => Ok(()),
-        Err(fault) => Err(TalkError::from(PipeError::from(fault))),
-    }
-}
 
 /// Takes the session up once the ConnAck came: what awaits an ack goes to the output. Answers how many messages and releases are
 /// let go, since the broker has the session no more, or takes none of their length.

@@ -1,5 +1,5 @@
 -- What the broker's answers say, and what the user answers.
-use Rattle.std.specs.Prelude.{◌≡◌, ℕ, ◌+◌, Bool, List, [], ◌∷◌, ◌++◌, Option, Some, None, Result}
+use Rattle.std.specs.Prelude.{◌≡◌, ℕ, ◌+◌, Bool, true, false, List, [], ◌∷◌, ◌++◌, Option, Some, None, Result}
 use Rattle.std.specs.Prelude.{IfOk, All, ⊤}
 use Rattle.mqtt5_base.specs.Views.{bit}
 use Rattle.mqtt5_base.specs.declared.ack_properties.AckProperties.{AckProperties}
@@ -94,6 +94,12 @@ abbrev pub IsEnded : UnsubAckReason → Type 0
 IsEnded ends.Success = ⊤
 IsEnded ends.NoSubscriptionExisted = ⊤
 IsEnded reason = ⊥
+
+-- whether an event is a SubAck or an UnsubAck (3.9, 3.11)
+abbrev pub is_answer : Event → Bool
+is_answer (events.Incoming (packets.SubAck ack)) = true
+is_answer (events.Incoming (packets.UnsubAck ack)) = true
+is_answer event = false
 
 -- an event refuses no filter, where it is a SubAck or an UnsubAck, and it is no Auth, for which
 -- nobody asked (4.12)

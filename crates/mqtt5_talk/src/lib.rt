@@ -15,11 +15,11 @@ mod words;
 
 pub use capabilities::{Capabilities, Forbidden};
 pub use error::TalkError;
-pub use opening::{await_end, close, open};
+pub use opening::{await_end, close, endless, hand_in, open};
 pub use program::{new_client, refuse, refuse_words, tell};
-pub use publishing::{publish, publish_all, refusal_in};
+pub use publishing::{hand_allowed, publish, publish_all, take_refusal};
 pub use reason::ReasonText;
 pub use show::{Lines, Raw, Screen};
 pub use source::{Heading, LineSource, Source};
-pub use subscribing::{ack_for, await_subscribed, check_granted, receive, subscribe, unsubscribe};
+pub use subscribing::{ack_for, await_subscribed, is_granted, receive, subscribe, unsubscribe};
 pub use words::{connect_of, connection_options, quality_of};

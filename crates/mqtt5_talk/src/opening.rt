@@ -162,8 +162,8 @@ fn answer_in(state: &MqttState) -> Result<Option<Capabilities>, TalkError>
     }
 }
 
-/// After 2^64 - 1 turns.
-pub(crate) fn endless() -> TalkError
+/// The end of a talk after 2^64 - 1 turns: `Failed` of a read that took too long (`TimedOut`).
+pub fn endless() -> TalkError
     ensures { (error : IoError) × (result ≡ Failed (faults.Read error)) }
 {
     TalkError::Failed(PipeError::Read(ErrorKind::TimedOut.into()))
@@ -231,10 +231,12 @@ pub(crate) fn send<W: Write>(client: &mut Client, writer: &mut W) -> Result<(), 
     }
 }
 
-/// Hands a request in.
-pub(crate) fn hand_in(client: &mut Client, request: Request) -> Result<(), TalkError>
+/// Hands a request in, and sends nothing: what the session answers stays in the output. `Failed` where the session refuses it.
+pub fn hand_in(client: &mut Client, request: Request) -> Result<(), TalkError>
     requires { IsReady client.old }
+    // Nothing is said but that.
     ensures said { Conversation client.old (Asks request ∷ []) [] [] client.new }
+    // So another call may follow.
     ensures ready { IsReady client.new }
 {
     match client.request(request, 0) {

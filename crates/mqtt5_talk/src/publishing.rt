@@ -119,15 +119,17 @@ fn publish_each<R: Read, W: Write, S: Source>(
     Err(endless())
 }
 
-/// Hands a message in, unless the ConnAck forbids it.
-fn hand_allowed(
+/// Hands a message in, unless the ConnAck forbids it (`Forbidden`), and sends nothing. `Failed` where the session refuses it.
+pub fn hand_allowed(
     client: &mut Client,
     capabilities: Capabilities,
     message: Publish,
 ) -> Result<(), TalkError>
     requires ready { IsReady client.old }
+    // Nothing is said but the message, and that only where the ConnAck allows it.
     ensures said { Conversation client.old (asks_of capabilities message) [] [] client.new }
     ensures allowed { OnOk result (forbidden_message capabilities message ≡ None) }
+    // So another call may follow.
     ensures ready { IsReady client.new }
 {
     match capabilities.forbidden_message(&message) {
@@ -234,8 +236,9 @@ fn hear_acks<R: Read, W: Write>(
     }
 }
 
-/// Takes all events out, and answers the first refusal among them.
-fn take_refusal(client: &mut Client) -> Option<TalkError>
+/// Takes all events out, and answers the first refusal of a message among them, or that an Auth came, for which no talk asks.
+pub fn take_refusal(client: &mut Client) -> Option<TalkError>
+    // Nothing is said.
     ensures talks { Conversation client.old [] [] [] client.new }
     ensures ready { IsReady client.old → IsReady client.new }
 {
@@ -261,7 +264,7 @@ fn next_refusal(client: &mut Client) -> Option<TalkError>
 }
 
 /// Why a message is refused, where the event says so; or that an Auth came, for which no talk asks.
-pub fn refusal_in(event: Event) -> Option<TalkError>
+fn refusal_in(event: Event) -> Option<TalkError>
     ensures { result ≡ refusal_in event }
 {
     match event {

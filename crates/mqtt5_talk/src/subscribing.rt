@@ -7,7 +7,8 @@ ghost use Rattle.mqtt5_inflight.specs.declared.event.Request.TheVariants as requ
 ghost use Rattle.mqtt5_client.specs.Client.{IsReady};
 ghost use Rattle.mqtt5_talk.specs.Capabilities.{IsPermitted};
 ghost use Rattle.mqtt5_talk.specs.Conversation.{Saying, Asks, Conversation, Talked, SendsOnly};
-ghost use Rattle.mqtt5_talk.specs.Answers.{ack_of, acks_of, asked_by, ShowsAll, Showed, Acknowledges, IsSuccess, IsEnded, IsGranted};
+ghost use Rattle.mqtt5_talk.specs.Answers.{ack_of, acks_of, asked_by, is_answer, ShowsAll, Showed, Acknowledges};
+ghost use Rattle.mqtt5_talk.specs.Answers.{IsSuccess, IsEnded, IsGranted};
 
 use crate::capabilities::Capabilities;
 use crate::error::{TalkError, unasked};
@@ -131,19 +132,29 @@ fn is_subscribed(client: &mut Client) -> Result<bool, TalkError>
     }
 }
 
-/// Whether an event is a SubAck or an UnsubAck. Err where it refuses a filter, and of an Auth.
-fn is_granted(event: Event) -> Result<bool, TalkError> {
-    let is_answer = matches!(
-        &event,
-        Event::Incoming(Packet::SubAck(_) | Packet::UnsubAck(_))
-    );
+/// Whether an event is a SubAck or an UnsubAck. `NotSubscribed` of a SubAck that refuses a filter, `NotUnsubscribed` of
+/// such an UnsubAck; and `Failed` of an Auth, for which no talk asks.
+pub fn is_granted(event: Event) -> Result<bool, TalkError>
+    ensures granted { OnOk result (IsGranted event) }
+    ensures answer { IfOk result (λ is. is ≡ is_answer event) }
+{
+    let is_answer = is_answer(&event);
     check_granted(event)?;
     Ok(is_answer)
 }
 
-/// Refuses an event that refuses a filter: `NotSubscribed` of a SubAck, `NotUnsubscribed` of an UnsubAck; and `Failed` of an
-/// Auth, for which no talk asks.
-pub fn check_granted(event: Event) -> Result<(), TalkError>
+/// Whether an event is a SubAck or an UnsubAck.
+fn is_answer(event: &Event) -> bool
+    ensures { result ≡ is_answer event.now }
+{
+    matches!(
+        event,
+        Event::Incoming(Packet::SubAck(_) | Packet::UnsubAck(_))
+    )
+}
+
+/// Refuses an event that refuses a filter, and an Auth.
+fn check_granted(event: Event) -> Result<(), TalkError>
     ensures { OnOk result (IsGranted event) }
 {
     match event {
