@@ -16,11 +16,12 @@ pub enum ClientEvent {
     Up,
     /// The first packet on its way down arrives at the client, if there is one.
     Down,
-    /// The broker passes the first publish of the client's queue to the client, if there is one and the client is here.
+    /// The broker passes the first publish of the client's queue to the client, if there is one and the client is here; where
+    /// another one waits for its identifier it stays the first.
     PassOn,
     /// The connection is lost with all that was on its way: the broker publishes its will.
     Lost,
-    /// The client leaves with a Disconnect of reason 0: its will is dropped.
+    /// The client leaves with a Disconnect of reason 0: its will is dropped, and all that was on its way is lost.
     Left,
     /// The client comes on a new connection, with this will, and both sides take up their session; with the receive maximum
     /// that the broker says then, and the one that the client says, if they say one. One that is here takes its own session

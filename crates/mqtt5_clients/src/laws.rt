@@ -110,7 +110,8 @@ pub fn granted_law()
         → AtPlace i (λ (c : Client).
         count_by test (shown c.session) + lost_in (run_network es n) (published test)
         ≡ given_in (run_network es n) (published test)) (run_network es n) }
-    // So at least once each of a class of QoS 1, where it was granted QoS 1 or 2.
+    // So at least once each of a class of QoS 1, where it was granted QoS 1 or 2, but for what other
+    // sessions had no ack for when they ended.
     ensures at_least_once { (n : Network) (es : List NetworkEvent) (i : ℕ) (test : Publish → Bool)
         → IsReached n → IsClass AtLeastOnce test → given_in n (published test) ≡ 0 → Lives i es
         → Throughout es (AtPlace i (Grants test)) n → AllAtRest (run_network es n)
@@ -118,7 +119,7 @@ pub fn granted_law()
         ≤ count_by test (shown c.session) + unacked_in (run_network es n) (published test))
         (run_network es n) }
     // Where that was granted for the others' alone, as with No Local, it was shown each but its own
-    // (3.8.3.1).
+    // (3.8.3.1), but for what other sessions took along.
     ensures not_its_own { (n : Network) (es : List NetworkEvent) (i : ℕ) (test : Publish → Bool)
         → IsReached n → IsClass ExactlyOnce test → IsNew test
         → given_in n (published test) ≡ 0 → Lives i es
@@ -128,8 +129,9 @@ pub fn granted_law()
         + (count_by (published test) p.client.accepted + count_by (published test) p.willed)
         + lost_in (run_network es n) (published test)
         ≡ given_in (run_network es n) (published test)) }
-    // Whatever was granted, where from that moment on the same publishes reached it as ones of the
-    // class: exactly once each of these.
+    // Where QoS 2 was granted for some of the class alone, and from that moment on the same publishes
+    // reached it as ones of the class: exactly once each of these, but for what other sessions took
+    // along.
     ensures of_what_reaches { (n : Network) (es : List NetworkEvent) (i : ℕ)
         (test : Publish → Bool) (kind : Publish → Bool)
         → IsReached n → IsClass ExactlyOnce test → IsNew test → IsClass ExactlyOnce kind
@@ -149,20 +151,21 @@ pub fn granted_law()
         + lost_in (run_network more n) (published test)
         ≡ count_by test (shown p.client.session) + given_in (run_network more n) (published test)
         + lost_in n (published test) }
-    // Where it was granted nothing for any of a class of new ones of QoS 2, none was put into its queue; what
-    // was in it when it unsubscribed is still shown (3.10.4).
+    // Where it was granted nothing for any of a class of new ones of QoS 2, none was put into its
+    // queue (that what was in it is still shown, 3.10.4, is `shown_law`).
     ensures for_none { (n : Network) (es : List NetworkEvent) (i : ℕ) (p q : Place)
         (test : Publish → Bool)
         → IsClass ExactlyOnce test → IsNew test → Lives i es
         → slice_get n.places i ≡ Some p → slice_get (run_network es n).places i ≡ Some q
         → Throughout es (AtPlace i (GrantsNone test)) n
         → count_by test (routed q.client) ≡ count_by test (routed p.client) }
-    // However its subscriptions change, at any time no new message of QoS 2 was shown to it twice.
+    // However its subscriptions change, at any time no new message that is forwarded at QoS 2 was
+    // shown twice by the session that it has.
     ensures never_twice { (n : Network) (p : Place) (test : Publish → Bool)
         → IsReached n → Contains n.places p → IsClass ExactlyOnce test → IsNew test
         → count_by test (shown p.client.session) ≤ given_in n (published test) }
-    // And in some network at rest a client that subscribed by a packet was shown a message of QoS 2
-    // that it had asked for while it was away.
+    // And in some network with all at rest a client was shown the one message that its session had
+    // accepted, of QoS 2, so the promises aren't empty.
     ensures shows { (n : Network) × (p : Place) × (x : Publish)
         × IsReached n × Contains n.places p × AllAtRest n
         × (x.qos ≡ ExactlyOnce) × (p.client.accepted ≡ x ∷ [])
@@ -172,8 +175,8 @@ pub fn granted_law()
 /// A law, which does nothing when it is called: how long what is granted to a client stays (MQTT 5.0
 /// sections 3.8.4 and 3.10.4).
 pub fn subscribing_law()
-    // While the client asks for nothing about its subscriptions, no such request is on its way, and
-    // its session goes on.
+    // What is granted for a class stays so while the client asks for nothing about its subscriptions,
+    // no such request is on its way, and its session goes on.
     ensures stays { (n : Network) (es : List NetworkEvent) (i : ℕ) (test : Publish → Bool)
         → IsReached n → Unchanged i es
         → AtPlace i (λ (c : Client). IsHeard c × Grants test c) n
@@ -254,7 +257,7 @@ pub fn retained_law()
 /// and 3.8.4).
 pub fn copies_law()
     // Where a packet of the client at a place arrives, and then none about subscriptions is on its
-    // way and it asks for none: once it is here and at rest it was shown, of a class of copies of
+    // way, it asks for none and its session goes on: once it is here and at rest it was shown, of a class of copies of
     // QoS 2, what had been put into its queue before, and exactly once each that the packet brought.
     ensures exactly_once { (n : Network) (es : List NetworkEvent) (i : ℕ) (p q : Place)
         (test : Publish → Bool)
@@ -288,7 +291,8 @@ pub fn steps_law()
     ensures all_moved { (n : Network) (more : List NetworkEvent)
         → IsReached n → Steps more → work_left n ≤ moved more n
         → HereAtRest (run_network more n) }
-    // And where one that is here isn't at rest, some step finds something to do.
+    // And where one that is here isn't at rest, some step finds something to do, if the broker may
+    // use an id to each client.
     ensures goes_on { (n : Network) → IsReached n
         → All (λ (p : Place). 0 < p.client.sender.core.limit) n.places
         → HereAtRest n ⊎ ((e : NetworkEvent) × IsStep e.what × (moves n e ≡ 1)) }

@@ -9,6 +9,6 @@ pub struct Subscription {
     pub topic_filter: Text,
     /// The QoS that the broker granted, the greatest of what it forwards for the filter.
     pub granted: QoS,
-    /// No Local: what the client itself publishes isn't forwarded to it.
+    /// No Local: under this subscription what the client itself publishes isn't forwarded to it.
     pub no_local: bool,
 }
