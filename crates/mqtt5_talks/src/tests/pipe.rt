@@ -3,7 +3,7 @@
 ghost use Rattle.std.specs.Io.{ReadsAtMost};
 ghost use Rattle.mqtt5_client.specs.Client.{IsReady};
 
-use super::talk::talks;
+use super::talk::{grants, talks};
 use super::{add_bytes, cut, number_of, publish_hi, quality_of};
 use mqtt5_base::Error;
 use mqtt5_client::{Client, Request};
@@ -198,6 +198,7 @@ fn calls(
         "write" => writes(alloc, client, &mut ends.sink, argument),
         "turn" => turns(client, ends, text),
         "end" => runs_to_end(client, ends),
+        "granted" => grants(client, text),
         _talk => talks(alloc, client, ends, name, argument),
     }
 }

@@ -5,20 +5,23 @@ ghost use Rattle.mqtt5_client.specs.Client.{IsReady};
 use super::pipe::{Ends, is_row};
 use super::{publish_hi, quality_of};
 use mqtt5_base::{Error, QoS, Text};
-use mqtt5_client::Client;
+use mqtt5_client::{Client, Event, Request};
 use mqtt5_codec::Packet;
 use mqtt5_connect::Connect;
 use mqtt5_subscribe::{Filter, Subscribe, Unsubscribe};
 use mqtt5_talk::{
-    Heading, LineSource, TalkError, await_end, await_subscribed, close, open, publish, publish_all,
-    receive, subscribe, unsubscribe,
+    Heading, LineSource, TalkError, ack_for, await_end, await_subscribed, close, endless,
+    hand_allowed, hand_in, is_granted, open, publish, publish_all, receive, subscribe,
+    take_refusal, unsubscribe,
 };
 use std::alloc::Global;
 use std::test::Fail;
 
 /// `open` has clean start, keep alive 0 and no client identifier (3.1), `publish` is "hi" to "a/b" at a quality of service,
 /// `lines` are the lines "x", "y", an empty one and "z" to it, `subscribe` and `unsubscribe` are of "a/#" at QoS 2, `receive`
-/// shows two messages, `await` waits for two answers of these, and `await_end` reads what comes behind them. The broker's
+/// shows two messages, `await` waits for two answers of these, and `await_end` reads what comes behind them. Without writing,
+/// `ping` and `allowed` hand in a PingReq (3.12) and a publish, `refusal` takes all events out, and `granted` and `ack` the
+/// oldest, which is judged and, where it is a message, answered. `endless` is the end after 2^64 - 1 turns. The broker's
 /// answers are ConnAcks, some not authorized, one with a maximum packet size of 10, and some without QoS 1, wildcards or
 /// shared subscriptions (3.2), acks of ids 1 and 2, some with quota exceeded (3.4 to 3.7), SubAcks and UnsubAcks, some not
 /// authorized (3.9, 3.11), PingResps (3.13), a Disconnect for shutting down (3.14), and Auths that go on (3.15). Some have
@@ -65,6 +68,20 @@ publisher; from:F00618041500016D; open=the broker didn't answer the connect; wri
 publisher; from:2003000000/F00618041500016D; open; publish:1=Received a wrong packet while waiting for another packet; written=100D00044D51545405020000000000320A0003612F620001006869
 subscriber; from:2003000000/F00618041500016D; open; subscribe; receive=Received a wrong packet while waiting for another packet; written=100D00044D5154540502000000000082090001000003612F2302; shown=-
 subscriber; from:2003000000/F00618041500016D; open; subscribe; unsubscribe; await=Received a wrong packet while waiting for another packet; written=100D00044D5154540502000000000082090001000003612F2302A2080002000003612F23
+publisher; ping; left=C000; allowed:1; left=C000320A0003612F620001006869; written=-
+publisher; from:20050000022400; open; allowed:1=the broker takes no message of QoS 1; left=-; allowed:0; left=30080003612F62006869
+publisher; from:2003000000/40020001; open; allowed:1; write; turn=4; refusal; events=0; left=-
+publisher; from:2003000000/4003000197; open; allowed:1; write; turn=5; refusal=the broker refused the message: QuotaExceeded; events=0
+publisher; from:2003000000/40030001975003000297; open; allowed:1; allowed:2; write; turn=10; ping; refusal=the broker refused the message: QuotaExceeded; events=0; left=C000
+publisher; from:F00618041500016D; turn=8; refusal=Received a wrong packet while waiting for another packet; events=0
+publisher; endless=reads: TimedOut
+subscriber; from:2003000000/900400010002/B00400020000/30080003612F62006869; open; subscribe; unsubscribe; refusal; turn=6; granted=true; turn=6; granted=true; turn=10; granted=false; events=0
+subscriber; from:2003000000/900400010087; open; subscribe; refusal; turn=6; granted=the broker refused the subscription: NotAuthorized
+subscriber; from:2003000000/B00400010087; open; unsubscribe; refusal; turn=6; granted=the broker refused to end the subscription: NotAuthorized
+subscriber; from:F00618041500016D; turn=8; granted=Received a wrong packet while waiting for another packet
+subscriber; from:30080003612F62006869; turn=10; ack; left=-
+subscriber; from:320A0003612F620001006869; turn=12; ack; left=40020001; written=-
+subscriber; from:340A0003612F620001006869; turn=12; ack; left=50020001; written=-
 ";
 
 fn connect(alloc: Global) -> Result<Packet, Error> {
@@ -167,6 +184,43 @@ fn receives(client: &mut Client, ends: &mut Ends) -> Result<(), TalkError>
     )
 }
 
+fn hands(alloc: Global, client: &mut Client, ends: &Ends, quality: &str) -> Result<(), TalkError>
+    requires { IsReady client.old }
+{
+    let message = publish_hi(alloc, quality_of(quality))?;
+    hand_allowed(client, ends.capabilities, message)
+}
+
+fn refuses(client: &mut Client) -> Result<(), TalkError> {
+    match take_refusal(client) {
+        Some(refusal) => Err(refusal),
+        None => Ok(()),
+    }
+}
+
+/// Takes the oldest event out, and adds whether it is an answer of subscriptions.
+pub(super) fn grants(client: &mut Client, text: &mut String) -> Result<(), TalkError> {
+    let Some(event) = client.next_event() else {
+        return Ok(());
+    };
+    let is_answer = is_granted(event)?;
+    Ok(write!(text, "={is_answer}")?)
+}
+
+/// Takes the oldest event out, and hands in its answer, where it is a message.
+fn acknowledges(client: &mut Client) -> Result<(), TalkError>
+    requires { IsReady client.old }
+{
+    let answer = match client.next_event() {
+        Some(Event::Incoming(Packet::Publish(publish))) => ack_for(&publish),
+        _other => None,
+    };
+    match answer {
+        Some(request) => hand_in(client, request),
+        None => Ok(()),
+    }
+}
+
 /// Makes a call of a talk.
 pub(super) fn talks(
     alloc: Global,
@@ -187,6 +241,11 @@ pub(super) fn talks(
         "await" => await_subscribed(client, 2, ends.pings, &mut ends.source, &mut ends.sink),
         "receive" => receives(client, ends),
         "await_end" => await_end(&mut ends.source),
+        "ping" => hand_in(client, Request::PingReq),
+        "allowed" => hands(alloc, client, ends, argument),
+        "refusal" => refuses(client),
+        "ack" => acknowledges(client),
+        "endless" => Err(endless()),
         _close => close(client, &mut ends.sink),
     }
 }
