@@ -1,5 +1,6 @@
 //! The file that a session is kept in over the end of the process: how many messages of the words were taken, in eight bytes,
-//! high byte first, and behind them the session. It is written beside, synced and renamed, so that it is whole at any time.
+//! high byte first, and behind them the session. It is written beside, synced and renamed, so that it is whole at any time. It
+//! is of one process at a time: nothing locks it.
 
 ghost use Rattle.std.specs.Prelude.{◌≡◌, ◌<◌, ◌⊎◌, [], IfOk, OnOk};
 ghost use Rattle.std.specs.Io.KnownBytes.{Keeps};
@@ -42,14 +43,15 @@ pub(super) struct Start {
 }
 
 impl<F: Files + AllocGlobal> Keeper<'_, F> {
-    /// The client of the file; where there is none a new one, of so many identifiers. `Unstored` where it can't be read, and
-    /// `NotASession` where it has none.
+    /// The client of the file; where there is none a new one, of so many identifiers, which leaves the acks to the user or sends
+    /// them itself. `Unstored` where it can't be read, `NotASession` where it has no session, or one whose acks are sent
+    /// otherwise (`Foreign`), and `Failed` for want of memory.
     pub(super) fn begin(&self, limit: u16, manual_acks: bool) -> Result<Beginning, TalkError>
         requires { 0 < limit }
         ensures ready { IfOk result (λ b. IsReady b.client) }
     {
         match fs::read(self.rt, self.path) {
-            Ok(bytes) => self.load(bytes.as_slice()),
+            Ok(bytes) => self.load(bytes.as_slice(), manual_acks),
             Err(error) if error.kind() == ErrorKind::NotFound => Ok(Beginning {
                 client: new_client(self.rt.alloc(), limit, manual_acks),
                 start: Start {
@@ -62,7 +64,7 @@ impl<F: Files + AllocGlobal> Keeper<'_, F> {
     }
 
     /// The client of a file's bytes.
-    fn load(&self, bytes: &[u8]) -> Result<Beginning, TalkError>
+    fn load(&self, bytes: &[u8], manual_acks: bool) -> Result<Beginning, TalkError>
         ensures ready { IfOk result (λ b. IsReady b.client) }
     {
         let alloc = self.rt.alloc();
@@ -75,19 +77,13 @@ impl<F: Files + AllocGlobal> Keeper<'_, F> {
         let taken = head.get_u64();
         drop(head);
         match Client::load(alloc, &mut stream) {
-            Ok(client) => Ok(Beginning {
-                client,
-                start: Start {
-                    taken,
-                    is_new: false,
-                },
-            }),
+            Ok(client) => goes_on(client, taken, manual_acks),
             Err(fault) => Err(TalkError::NotASession(fault)),
         }
     }
 
-    /// Keeps a client's session, and how many messages of the words were taken. All events must be taken out. `Unstored`, and
-    /// `Failed` as of a save.
+    /// Keeps a client's session, and how many messages of the words were taken. All events must be taken out. `Unstored` where
+    /// the file can't be written, and `Failed` as of a save.
     pub(super) fn keep(&self, client: &Client, taken: u64) -> Result<(), TalkError>
         ensures told { OnOk result (client.now.state.events ≡ []) }
     {
@@ -103,7 +99,7 @@ impl<F: Files + AllocGlobal> Keeper<'_, F> {
         }
     }
 
-    /// Keeps a session of which messages are let go, with nothing that is to be sent.
+    /// Takes all events out, and keeps the session. Faults as of `keep`.
     pub(super) fn forget(&self, client: &mut Client, taken: u64) -> Result<(), TalkError>
         ensures ready { IsReady client.old → IsReady client.new }
     {
@@ -130,7 +126,7 @@ impl<F: Files + AllocGlobal> Keeper<'_, F> {
     }
 
     /// Sends what is in the output, once the session is kept: so that the end of the process is no more than a lost connection.
-    /// All events must be taken out.
+    /// Where nothing is there, nothing is kept. All events must be taken out. Faults as of `keep`, and `Failed` of a write.
     pub(super) fn send<W: Write>(
         &self,
         client: &mut Client,
@@ -153,6 +149,24 @@ impl<F: Files + AllocGlobal> Keeper<'_, F> {
             Err(fault) => Err(TalkError::from(fault)),
         }
     }
+}
+
+/// A client that a file had, unless it is of the other program, whose acks are sent otherwise.
+fn goes_on(client: Client, taken: u64, manual_acks: bool) -> Result<Beginning, TalkError>
+    requires { IsReady client }
+    ensures ready { IfOk result (λ b. IsReady b.client) }
+{
+    if client.state.numbers().manual_acks != manual_acks {
+        drop(client);
+        return Err(TalkError::NotASession(StoreError::Foreign));
+    }
+    Ok(Beginning {
+        client,
+        start: Start {
+            taken,
+            is_new: false,
+        },
+    })
 }
 
 /// Takes all events out.

@@ -33,7 +33,7 @@ impl Source for Once {
     }
 }
 
-/// Leaves out so many messages of a source, which were taken before.
+/// Leaves out so many messages of a source, which were taken before, or all where it has fewer. Faults are those of the source.
 pub(super) fn skip<S: Source>(source: &mut S, taken: u64) -> Result<(), TalkError> {
     for _ in 0..taken {
         match source.next(0)? {
@@ -45,8 +45,9 @@ pub(super) fn skip<S: Source>(source: &mut S, taken: u64) -> Result<(), TalkErro
 }
 
 /// Sends the messages of a source in order, as `publish_all` of `mqtt5_talk` does, but that each is kept, with how many were
-/// taken, before it is sent. All events must be taken out. In the end nothing awaits an ack, and that is kept with no message
-/// taken.
+/// taken, before it is sent. In the end nothing awaits an ack, and that is kept with no message taken. Faults as of
+/// `publish_all`, and those of `Keeper::keep`. A message that the broker refuses is no longer kept then. Where the source has a
+/// fault, or the next message is one that can't be sent, those before it are kept and sent, and it isn't taken.
 pub(super) fn publish_kept<F: Files + AllocGlobal, R: Read, W: Write, S: Source>(
     keeper: &Keeper<'_, F>,
     client: &mut Client,
@@ -64,8 +65,9 @@ pub(super) fn publish_kept<F: Files + AllocGlobal, R: Read, W: Write, S: Source>
     let mut taken = taken;
     let mut is_out = false;
     for _ in 0..u64::MAX {
-        is_out = take_more(client, capabilities, source, is_out, &mut taken)?;
+        let more = take_more(client, capabilities, source, is_out, &mut taken);
         send_kept(keeper, client, taken, writer)?;
+        is_out = more?;
         if is_out && client.state.inflight() == 0 {
             return keeper.keep(client, 0);
         }
@@ -74,7 +76,7 @@ pub(super) fn publish_kept<F: Files + AllocGlobal, R: Read, W: Write, S: Source>
     Err(endless())
 }
 
-/// Takes messages, unless the source has none left; answers whether it has none.
+/// Takes messages, unless the source has none left; answers whether it has none. Faults as of `take_messages`.
 fn take_more<S: Source>(
     client: &mut Client,
     capabilities: Capabilities,
@@ -91,7 +93,7 @@ fn take_more<S: Source>(
     take_messages(client, capabilities, source, taken)
 }
 
-/// Reads where something awaits its ack, and nothing else is to be done.
+/// Reads where something awaits its ack, and nothing else is to be done. Faults as of `hear`.
 fn hear_acks<R: Read, S: Source>(
     client: &mut Client,
     source: &S,
@@ -111,7 +113,8 @@ fn hear_acks<R: Read, S: Source>(
     hear(client, pings, reader)
 }
 
-/// Takes all events out, keeps and sends. A message that the broker refuses is no longer kept.
+/// Takes all events out, keeps and sends. A message that the broker refuses is no longer kept (`NotPublished`), and then nothing
+/// is sent. Else faults as of `Keeper::send`; `Failed` also of an Auth.
 fn send_kept<F: Files + AllocGlobal, W: Write>(
     keeper: &Keeper<'_, F>,
     client: &mut Client,
@@ -130,7 +133,7 @@ fn send_kept<F: Files + AllocGlobal, W: Write>(
 }
 
 /// Takes messages as long as the next identifier is free, and the source has one at hand or nothing else is to be done. Answers
-/// whether there is none left.
+/// whether there is none left. Faults as of `hand_allowed`, and those of the source; what was taken before stays in the output.
 fn take_messages<S: Source>(
     client: &mut Client,
     capabilities: Capabilities,

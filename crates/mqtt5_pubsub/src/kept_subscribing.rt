@@ -14,7 +14,8 @@ use std::io::{Read, Write};
 use std::rt::Files;
 
 /// Answers anew each message of QoS 2 that was shown, and isn't released: the broker may not know of the first answer, and sends
-/// the message again, of which a session tells but once (MQTT 5.0 section 4.3.3). All events are taken out.
+/// the message again, of which a session tells but once (MQTT 5.0 section 4.3.3). What is answered stays in the output, and all
+/// events are taken out. `Failed` as of a request, and for want of memory.
 pub(super) fn answer_again(alloc: Global, client: &mut Client) -> Result<(), TalkError>
     requires { IsReady client.old }
     ensures ready { IsReady client.new }
@@ -31,7 +32,8 @@ pub(super) fn answer_again(alloc: Global, client: &mut Client) -> Result<(), Tal
 
 /// Shows each message that comes, as `receive` of `mqtt5_talk` does, but that the session is kept before its answer is sent, and
 /// after it was shown. So where the process ends in between, this one alone is shown again. The reader must give one packet at a
-/// time, since a session isn't kept while another message waits to be shown.
+/// time, since a session isn't kept while another message waits to be shown. Faults as of `receive`, and those of
+/// `Keeper::keep`.
 pub(super) fn receive_kept<F: Files + AllocGlobal, R: Read, W: Write, S: Screen>(
     keeper: &Keeper<'_, F>,
     client: &mut Client,
@@ -56,7 +58,8 @@ pub(super) fn receive_kept<F: Files + AllocGlobal, R: Read, W: Write, S: Screen>
     Err(endless())
 }
 
-/// Takes all events out, shows those that are messages, and answers how many are still to come.
+/// Takes all events out, shows those that are messages, and answers how many are still to come. Faults as of `show` and
+/// `is_granted`.
 fn show_events<S: Screen>(client: &mut Client, screen: &mut S, count: u64) -> Result<u64, TalkError>
     requires { IsReady client.old }
     ensures ready { IsReady client.new }
@@ -78,7 +81,7 @@ fn show_events<S: Screen>(client: &mut Client, screen: &mut S, count: u64) -> Re
     Ok(left)
 }
 
-/// Shows a message, and answers it; answers 1 where it is one that is to be shown.
+/// Shows a message, and answers it; answers 1 where it is one that is to be shown. `Unshown`, and `Failed` as of a request.
 fn show<S: Screen>(client: &mut Client, publish: &Publish, screen: &mut S) -> Result<u64, TalkError>
     requires { IsReady client.old }
     ensures ready { IsReady client.new }

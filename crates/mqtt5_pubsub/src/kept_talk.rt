@@ -13,7 +13,7 @@ use std::io::{ErrorKind, Read};
 const ROOM: usize = 8192;
 
 /// Takes the session up once the ConnAck came: what awaits an ack goes to the output. Answers how many messages and releases are
-/// let go, since the broker has the session no more, or takes none of their length.
+/// let go, since the broker has the session no more, or takes none of their length. `Failed`, as of `Client::take_up`.
 pub(super) fn take_up(client: &mut Client) -> Result<u64, TalkError>
     requires { IsReady client.old }
     ensures ready { IsReady client.new }
@@ -44,7 +44,8 @@ fn take_answer(client: &mut Client) -> bool
 }
 
 /// Reads once, and has what came taken: what is answered stays in the output. With `pings` a PingReq is put there where it read
-/// in vain for as long as the reader waits. `Closed` at the end of the stream.
+/// in vain for as long as the reader waits. `Closed` at the end of the stream, `Ended`; `Failed` of a read, of what came, and of
+/// a ping whose last one isn't answered.
 pub(super) fn hear<R: Read>(
     client: &mut Client,
     pings: bool,

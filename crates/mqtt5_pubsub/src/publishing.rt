@@ -386,10 +386,7 @@ fn publish_rest<F: Files + AllocGlobal, C: Read + Drop, R: Read, W: Write>(
     ensures { OnOk result (IsReady client.new) }
 {
     let limit = client.state.numbers().limit;
-    let source = match LineSource::new(task.alloc, task.heading, limit, file) {
-        Ok(source) => source,
-        Err(error) => return Err(Stop::Elsewhere(TalkError::Unread(error))),
-    };
+    let source = lines_of(task, limit, file)?;
     let mut lines = WithProperties { source, properties };
     let ended = publish_from(keeper, client, opened, &mut lines, taken, reader, writer);
     match ended {
@@ -505,10 +502,7 @@ fn publish_lines<F: Read + Drop, R: Read, W: Write>(
     requires { IsReady client.old }
     ensures { OnOk result (IsReady client.new) }
 {
-    let source = match LineSource::new(task.alloc, task.heading, task.window, file) {
-        Ok(source) => source,
-        Err(error) => return Err(Stop::Elsewhere(TalkError::Unread(error))),
-    };
+    let source = lines_of(task, task.window, file)?;
     let mut lines = WithProperties { source, properties };
     let ended = publish_all(client, capabilities, &mut lines, pings, reader, writer);
     match ended {
@@ -517,15 +511,35 @@ fn publish_lines<F: Read + Drop, R: Read, W: Write>(
     }
 }
 
+/// The lines of a file, for a client of so many packet identifiers.
+fn lines_of<F: Read + Drop>(
+    task: Task<'_>,
+    limit: u16,
+    file: F,
+) -> Result<LineSource<'_, F>, TalkError> {
+    match LineSource::new(task.alloc, task.heading, limit, file) {
+        Ok(lines) => Ok(lines),
+        Err(error) => Err(TalkError::Unread(error)),
+    }
+}
+
 /// The trouble with its line, where it has one.
 fn stop_at<F: Read + Drop>(trouble: TalkError, lines: &LineSource<'_, F>) -> Stop {
-    match &trouble {
-        TalkError::NotPublished { pkid, .. } => Stop::AtLine(lines.line_of(*pkid), trouble),
-        TalkError::Forbidden(_) => Stop::AtLine(lines.count(), trouble),
+    match line_at(&trouble, lines) {
+        0 => Stop::Elsewhere(trouble),
+        line => Stop::AtLine(line, trouble),
+    }
+}
+
+/// The line of a trouble, counted from 1; 0 where it has none, as one of a message that an earlier start took.
+fn line_at<F: Read + Drop>(trouble: &TalkError, lines: &LineSource<'_, F>) -> u64 {
+    match trouble {
+        TalkError::NotPublished { pkid, .. } => lines.line_of(*pkid),
+        TalkError::Forbidden(_) => lines.count(),
         TalkError::Failed(PipeError::Session(StateError::OutgoingPacketTooLarge { .. })) => {
-            Stop::AtLine(lines.count(), trouble)
+            lines.count()
         }
-        _other => Stop::Elsewhere(trouble),
+        _other => 0,
     }
 }
 

@@ -350,20 +350,12 @@ fn talk_framed<F: Files + AllocGlobal, R: Read, W: Write, S: Screen>(
 {
     let alloc = keeper.rt.alloc();
     let task = task_of(alloc, matches, !is_new || matches.get_flag("again"))?;
-    match show_kept(keeper, client, connect, task, screen, reader, writer) {
-        Ok(()) => {
-            close(client, writer)?;
-            await_broker(&mut reader.reader)
-        }
-        Err(trouble) if is_over(&trouble) => {
-            leave(alloc, &mut reader.reader, writer);
-            Err(trouble)
-        }
-        Err(trouble) => Err(trouble),
-    }
+    let ended = show_kept(keeper, client, connect, task, screen, reader, writer);
+    end(alloc, client, ended, &mut reader.reader, writer)
 }
 
-/// Opens the connection, takes the session up, subscribes, and shows so many messages.
+/// Opens the connection, takes the session up, subscribes, and shows so many messages. Where none is to be shown, nothing is
+/// sent but the Connect, the Subscribe and the Unsubscribe.
 fn show_kept<F: Files + AllocGlobal, R: Read, W: Write, S: Screen>(
     keeper: &Keeper<'_, F>,
     client: &mut Client,
@@ -386,12 +378,14 @@ fn show_kept<F: Files + AllocGlobal, R: Read, W: Write, S: Screen>(
     let seconds = capabilities.keep_alive.unwrap_or(keep_alive);
     let pings = reader.reader.keep_alive(seconds);
     let _let_go = take_up(client)?;
-    answer_again(keeper.rt.alloc(), client)?;
-    keeper.keep(client, 0)?;
+    keeper.forget(client, 0)?;
     subscribe(client, capabilities, wanted, writer)?;
     let asked = end_others(client, unwanted, writer)?;
     match count {
-        Some(count) => receive_kept(keeper, client, screen, count, pings, reader, writer),
+        Some(count) => {
+            answer_again(keeper.rt.alloc(), client)?;
+            receive_kept(keeper, client, screen, count, pings, reader, writer)
+        }
         None => {
             reader.reader.keep_alive(0);
             await_kept(client, asked, reader)
@@ -419,7 +413,21 @@ fn talk_over<R: Read, W: Write, S: Screen>(
 ) -> Result<(), TalkError>
     requires { IsReady client.old }
 {
-    match show_all(client, connect, task, screen, reader, writer) {
+    let ended = show_all(client, connect, task, screen, reader, writer);
+    end(alloc, client, ended, reader, writer)
+}
+
+/// Ends the connection of a talk that is done, or whose time is over, and answers how the talk ended.
+fn end<R: Read, W: Write>(
+    alloc: Global,
+    client: &mut Client,
+    ended: Result<(), TalkError>,
+    reader: &mut Timed<R>,
+    writer: &mut W,
+) -> Result<(), TalkError>
+    requires { OnOk ended (IsReady client.old) }
+{
+    match ended {
         Ok(()) => {
             close(client, writer)?;
             await_broker(reader)
@@ -473,6 +481,7 @@ fn await_broker<R: Read>(reader: &mut Timed<R>) -> Result<(), TalkError> {
     reader.keep_alive(0);
     await_end(reader)
 }
+
 /// Ends other subscriptions, and answers how many requests of subscriptions there are then.
 fn end_others<W: Write>(
     client: &mut Client,
