@@ -10,8 +10,8 @@ host='' port='' socket='' tls=0 insecure=0 secure=() plain=() rest=() named=''
 # is the message, whether the content is parted into lines, and what of standard input is published: all of it, or each line.
 asks_help=0 shows_itself=0 content='' message_at='' by_lines=0 from_input=''
 # The keep alive in seconds, the limit on the time, whether a connection that is lost is made again, whether the session is kept
-# in a file, and which of the words in `rest` is the count of messages.
-keep_alive='' limit='' retries=0 stores=0 count_at=''
+# in a file, whether the client identifier has the number of the process, and which of the words in `rest` is the count of messages.
+keep_alive='' limit='' retries=0 stores=0 prefixes=0 count_at=''
 
 # Refuses a word's value.
 refuse_value() {
@@ -68,7 +68,7 @@ take_option() {
             port=$2
             ;;
         -L | --url) take_url "$2" ;;
-        -I | --id-prefix) rest+=(-i "$2$$") ;;
+        -I | --id-prefix) prefixes=1 rest+=(-i "$2$$") ;;
         -A)
             is_host "$2" || refuse_value "$1" "no address: '$2'" || return
             plain+=("bind=$(in_brackets "$2")")
@@ -114,7 +114,7 @@ in_brackets() { case $1 in *:*) echo "[$1]" ;; *) echo "$1" ;; esac; }
 take_connection() {
     host='' port='' socket='' tls=0 insecure=0 secure=() plain=() rest=() named=''
     asks_help=0 shows_itself=0 content='' message_at='' by_lines=0 from_input=''
-    keep_alive='' limit='' retries=0 stores=0 count_at=''
+    keep_alive='' limit='' retries=0 stores=0 prefixes=0 count_at=''
     while [ $# -gt 0 ]; do
         case $1 in
             -h | --host | -p | --port | -L | --url | -I | --id-prefix | -A | --unix | --cafile | --capath | --cert | --key | \
@@ -203,7 +203,9 @@ check_connection() {
     elif [ "$retries" = 1 ] && [ "$shows_itself" = 1 ]; then
         refuse_value --retry 'each connection makes the file of -o anew: leave that out, and turn standard output into the file'
     elif [ "$stores" = 1 ] && [ "$shows_itself" = 1 ]; then
-        refuse_value --store 'each start makes the file of -o anew: leave that out, and turn standard output into the file'
+        refuse_value --store 'each start makes the file of -o anew: leave that out, and add standard output to the file, without -h standard error'
+    elif [ "$stores" = 1 ] && [ "$prefixes" = 1 ]; then
+        refuse_value --store 'with -I each start has another client identifier: give it one by -i'
     elif [ "$by_lines" = 1 ] && [ "${keep_alive:-0}" != 0 ]; then
         refuse_value -k 'with -l there is none, since no ping is sent while a line is waited for'
     elif [ -n "$socket" ] && [ "$tls" = 1 ]; then

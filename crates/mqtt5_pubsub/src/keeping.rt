@@ -45,7 +45,7 @@ pub(super) struct Start {
 impl<F: Files + AllocGlobal> Keeper<'_, F> {
     /// The client of the file; where there is none a new one, of so many identifiers, which leaves the acks to the user or sends
     /// them itself. `Unstored` where it can't be read, `NotASession` where it has no session, or one whose acks are sent
-    /// otherwise (`Foreign`), and `Failed` for want of memory.
+    /// otherwise (`Foreign`). Want of memory is `Failed`, and once the session itself is read `NotASession`.
     pub(super) fn begin(&self, limit: u16, manual_acks: bool) -> Result<Beginning, TalkError>
         requires { 0 < limit }
         ensures ready { IfOk result (λ b. IsReady b.client) }
