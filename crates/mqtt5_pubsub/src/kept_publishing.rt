@@ -45,8 +45,8 @@ pub(super) fn skip<S: Source>(source: &mut S, taken: u64) -> Result<(), TalkErro
 }
 
 /// Sends the messages of a source in order, as `publish_all` of `mqtt5_talk` does, but that each is kept, with how many were
-/// taken, before it is sent. In the end nothing awaits an ack, and that is kept with no message taken. Faults as of
-/// `publish_all`, and those of `Keeper::keep`. A message that the broker refuses is no longer kept then. Where the source has a
+/// taken, before it is sent. In the end nothing awaits an ack, and that is kept. Faults as of `publish_all`, and those of
+/// `Keeper::keep`. A message that the broker refuses is no longer kept then. Where the source has a
 /// fault, or the next message is one that can't be sent, those before it are kept and sent, and it isn't taken.
 pub(super) fn publish_kept<F: Files + AllocGlobal, R: Read, W: Write, S: Source>(
     keeper: &Keeper<'_, F>,
@@ -69,7 +69,7 @@ pub(super) fn publish_kept<F: Files + AllocGlobal, R: Read, W: Write, S: Source>
         send_kept(keeper, client, taken, writer)?;
         is_out = more?;
         if is_out && client.state.inflight() == 0 {
-            return keeper.keep(client, 0);
+            return keeper.keep(client, taken);
         }
         hear_acks(client, source, is_out, pings, reader)?;
     }

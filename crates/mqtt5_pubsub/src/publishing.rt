@@ -249,7 +249,7 @@ fn talk_kept<F: Files + AllocGlobal, C: Read + Drop, R: Read, W: Write>(
     }
 }
 
-/// The same from what the file had.
+/// The same from what the file had. That no message is taken is kept last of all: so a start after a fault publishes none anew.
 fn talk_from<F: Files + AllocGlobal, C: Read + Drop, R: Read, W: Write>(
     keeper: &Keeper<'_, F>,
     client: &mut Client,
@@ -278,6 +278,7 @@ fn talk_from<F: Files + AllocGlobal, C: Read + Drop, R: Read, W: Write>(
                 writer,
             )?;
             close(client, writer)?;
+            keeper.forget(client, 0)?;
             Ok(())
         }
         Err(trouble) => {
