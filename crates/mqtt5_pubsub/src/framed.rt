@@ -18,6 +18,18 @@ pub(super) struct Framed<R> {
     left: usize,
     /// What the next byte of the length counts.
     factor: usize,
+    /// The frame's first byte.
+    kind: u8,
+    /// How many bytes behind the head were read.
+    body: usize,
+    /// How many bytes the topic has, where the frame is a message.
+    topic: usize,
+    /// The first byte of a number of two.
+    high: u8,
+    /// The packet identifier, where the frame is a message of QoS 1 or 2.
+    id: u16,
+    /// That of the last frame that was read whole, where it is a message of QoS 2.
+    came: Option<u16>,
 }
 
 impl<R: Read> Framed<R> {
@@ -28,7 +40,18 @@ impl<R: Read> Framed<R> {
             head: 0,
             left: 0,
             factor: 1,
+            kind: 0,
+            body: 0,
+            topic: 0,
+            high: 0,
+            id: 0,
+            came: None,
         }
+    }
+
+    /// The packet identifier of the frame that was read last, where it is whole and a message of QoS 2; it is told but once.
+    pub(super) fn take_came(&mut self) -> Option<u16> {
+        self.came.take()
     }
 
     /// Whether the head of a frame is read, or its end.
@@ -42,6 +65,8 @@ impl<R: Read> Framed<R> {
             self.head = 1;
             self.left = 0;
             self.factor = 1;
+            self.kind = byte;
+            self.body = 0;
             return;
         }
         let digit = (byte & 127) as usize;
@@ -52,6 +77,27 @@ impl<R: Read> Framed<R> {
         } else {
             self.head += 1;
         }
+    }
+
+    /// Notes what is read behind the head: the topic's length, the topic, and the packet identifier (3.3.2).
+    fn note_body(&mut self, bytes: &[u8]) {
+        for byte in bytes {
+            self.note_at(*byte);
+        }
+        if self.left == 0 && self.kind & 0xf6 == 0x34 {
+            self.came = Some(self.id);
+        }
+    }
+
+    fn note_at(&mut self, byte: u8) {
+        let number = u16::from_be_bytes([self.high, byte]);
+        if self.body == 1 {
+            self.topic = number as usize;
+        } else if self.body == self.topic.saturating_add(3) {
+            self.id = number;
+        }
+        self.high = byte;
+        self.body = self.body.saturating_add(1);
     }
 
     /// Reads one byte of the head.
@@ -75,6 +121,7 @@ impl<R: Read> Read for Framed<R> {
         let most = self.left.min(buf.len());
         let count = self.reader.read(&mut buf[..most])?;
         self.left = self.left.saturating_sub(count);
+        self.note_body(&buf[..count]);
         Ok(count)
     }
 }

@@ -170,7 +170,7 @@ fn goes_on(client: Client, taken: u64, manual_acks: bool) -> Result<Beginning, T
 }
 
 /// Takes all events out.
-pub(super) fn forget_events(client: &mut Client)
+fn forget_events(client: &mut Client)
     ensures ready { IsReady client.old → IsReady client.new }
 {
     for _ in 0..u64::MAX {

@@ -3,44 +3,42 @@
 ghost use Rattle.std.specs.Prelude.{◌≡◌, [], OnOk};
 ghost use Rattle.mqtt5_client.specs.Client.{IsReady};
 
-use crate::keeping::{Keeper, forget_events};
+use crate::framed::Framed;
+use crate::keeping::Keeper;
 use crate::kept_talk::hear;
 use mqtt5_client::{Client, Event, Request};
 use mqtt5_codec::Packet;
 use mqtt5_publish::{PubRec, Publish};
 use mqtt5_talk::{Screen, TalkError, ack_for, endless, hand_in, is_granted};
-use std::alloc::Global;
 use std::io::{Read, Write};
 use std::rt::Files;
 
-/// Answers anew each message of QoS 2 that was shown, and isn't released: the broker may not know of the first answer, and sends
-/// the message again, of which a session tells but once (MQTT 5.0 section 4.3.3). What is answered stays in the output, and all
-/// events are taken out. `Failed` as of a request, and for want of memory.
-pub(super) fn answer_again(alloc: Global, client: &mut Client) -> Result<(), TalkError>
+/// Answers anew a message of QoS 2 that comes again, under this identifier, and was shown: the broker doesn't know of the first
+/// answer, and a session tells of the message but once (MQTT 5.0 section 4.3.3). Where the session told of it, or doesn't have it,
+/// nothing is answered. The answer stays in the output. `Failed` as of a request.
+fn answer_again(client: &mut Client, came: Option<u16>) -> Result<(), TalkError>
     requires { IsReady client.old }
     ensures ready { IsReady client.new }
 {
-    let packets = client.state.stored_packets(alloc)?;
-    for packet in &packets {
-        if let Packet::PubRec(ack) = packet {
-            hand_in(client, Request::PubRec(PubRec::new(ack.pkid, None)))?;
+    match came {
+        Some(id) if client.state.events().is_empty() && client.state.incoming_pub(id) => {
+            hand_in(client, Request::PubRec(PubRec::new(id, None)))
         }
+        _other => Ok(()),
     }
-    forget_events(client);
-    Ok(())
 }
 
 /// Shows each message that comes, as `receive` of `mqtt5_talk` does, but that the session is kept before its answer is sent, and
-/// after it was shown. So where the process ends in between, this one alone is shown again. The reader must give one packet at a
-/// time, since a session isn't kept while another message waits to be shown. Faults as of `receive`, and those of
-/// `Keeper::keep`.
+/// after it was shown. So where the process ends in between, this one alone is shown again. One of QoS 2 that comes again and was
+/// shown is answered alone. The reader gives one packet at a time, since a session isn't kept while another message waits to be
+/// shown. Faults as of `receive`, and those of `Keeper::keep`.
 pub(super) fn receive_kept<F: Files + AllocGlobal, R: Read, W: Write, S: Screen>(
     keeper: &Keeper<'_, F>,
     client: &mut Client,
     screen: &mut S,
     count: u64,
     pings: bool,
-    reader: &mut R,
+    reader: &mut Framed<R>,
     writer: &mut W,
 ) -> Result<(), TalkError>
     requires { IsReady client.old }
@@ -54,6 +52,7 @@ pub(super) fn receive_kept<F: Files + AllocGlobal, R: Read, W: Write, S: Screen>
             return Ok(());
         }
         hear(client, pings, reader)?;
+        answer_again(client, reader.take_came())?;
     }
     Err(endless())
 }

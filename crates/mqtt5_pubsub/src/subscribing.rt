@@ -8,7 +8,7 @@ use crate::format::{Formatted, is_format};
 use crate::framed::Framed;
 use crate::hiding::{Counting, Hiding};
 use crate::keeping::{Keeper, begins_with};
-use crate::kept_subscribing::{answer_again, await_kept, receive_kept};
+use crate::kept_subscribing::{await_kept, receive_kept};
 use crate::kept_talk::take_up;
 use crate::properties::{connect_with, properties_of, refuses_properties};
 use crate::timed::{Timed, timed_reader};
@@ -382,10 +382,7 @@ fn show_kept<F: Files + AllocGlobal, R: Read, W: Write, S: Screen>(
     subscribe(client, capabilities, wanted, writer)?;
     let asked = end_others(client, unwanted, writer)?;
     match count {
-        Some(count) => {
-            answer_again(keeper.rt.alloc(), client)?;
-            receive_kept(keeper, client, screen, count, pings, reader, writer)
-        }
+        Some(count) => receive_kept(keeper, client, screen, count, pings, reader, writer),
         None => {
             reader.reader.keep_alive(0);
             await_kept(client, asked, reader)
