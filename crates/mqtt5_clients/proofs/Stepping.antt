@@ -502,7 +502,7 @@ module _ (handed : List Publish) (c : Client) (i : IsClient handed c) (can : 0 <
     taken_moves (Ok reply) s t = let f = ap length l in omega (arith, f)
     taken_moves (Err e) s t = absurd (let f = t.1 in cc)
 
-    passes_moves : c.up ≡ [] → c.down ≡ [] → length c.queue - length (passes_on c (x ∷ rest)).queue ≡ 1
+    pub passes_moves : c.up ≡ [] → c.down ≡ [] → length c.queue - length (passes_on c (x ∷ rest)).queue ≡ 1
     passes_moves u d =
         let is : IsForwarded x × AllByRecursion IsForwarded rest = subst (AllByRecursion IsForwarded) l i.good.queued in
         taken_moves (on_request c.sender (requests.Publish x) 0).0 (on_request c.sender (requests.Publish x) 0).1

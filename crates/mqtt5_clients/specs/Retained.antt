@@ -61,8 +61,8 @@ last_after topic last (p ∷ ps) = last_after topic (last_with topic last p) ps
 
 -- ---- copies
 
--- a copy of a retained message for a subscription, if its filter matches: with retain, at the lesser
--- of both QoS (3.3.1.3, 3.8.4)
+-- a copy of a retained message for a subscription, if its filter matches: with retain, at the
+-- lesser of both QoS (3.3.1.3, 3.8.4)
 abbrev pub copy_for : Subscription → Publish → Option Publish
 copy_for s p =
     if hits (s.topic_filter ∷ []) p then Some (record (forwarded s.granted p) { retain = true })

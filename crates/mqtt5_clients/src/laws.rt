@@ -22,8 +22,8 @@ ghost use Rattle.mqtt5_clients.specs.Network.{Network, handed_by, happens_in, ru
 ghost use Rattle.mqtt5_clients.specs.Network.{IsReached, AllAtRest, IsDone, HasTokens, given_in};
 ghost use Rattle.mqtt5_clients.specs.Network.{most_in, kept_by, lost_in, unacked_in};
 ghost use Rattle.mqtt5_clients.specs.Granted.{published, Grants, GrantsNone, GrantsOthers, Reaches};
-ghost use Rattle.mqtt5_clients.specs.Granted.{Covers, AtPlace, Throughout, GoesOn, Lives, Unchanged};
-ghost use Rattle.mqtt5_clients.specs.Granted.{IsHeard, IsNew, IsCopy, KeepsFirst, reaching};
+ghost use Rattle.mqtt5_clients.specs.Granted.{Covers, AtPlace, Throughout, GoesOn, Lives};
+ghost use Rattle.mqtt5_clients.specs.Granted.{Unchanged, IsHeard, IsNew, IsCopy, KeepsFirst, reaching};
 ghost use Rattle.mqtt5_clients.specs.Steps.{IsStep, Steps, work_left, moves, moved, HereAtRest};
 
 /// A law, which does nothing when it is called: how often the publishes of a class are shown to a
@@ -182,8 +182,8 @@ pub fn subscribing_law()
         → AtPlace i (λ (c : Client). IsHeard c × Grants test c) n
         → Throughout es (AtPlace i (Grants test)) n }
     // So where the client at a place has a subscription then that grants QoS 2 for a class of new
-    // messages of QoS 2, of which none was given before: once all are here and at rest it was shown each that was
-    // given, exactly once, but for what other sessions took along when they ended.
+    // messages of QoS 2, of which none was given before: once all are here and at rest it was shown
+    // each that was given, exactly once, but for what other sessions took along when they ended.
     ensures exactly_once { (n : Network) (es : List NetworkEvent) (i : ℕ) (s : Subscription)
         (test : Publish → Bool)
         → IsReached n → IsClass ExactlyOnce test → IsNew test → Covers test s
@@ -257,8 +257,9 @@ pub fn retained_law()
 /// and 3.8.4).
 pub fn copies_law()
     // Where a packet of the client at a place arrives, and then none about subscriptions is on its
-    // way, it asks for none and its session goes on: once it is here and at rest it was shown, of a class of copies of
-    // QoS 2, what had been put into its queue before, and exactly once each that the packet brought.
+    // way, it asks for none and its session goes on: once it is here and at rest it was shown, of a
+    // class of copies of QoS 2, what had been put into its queue before, and exactly once each that
+    // the packet brought.
     ensures exactly_once { (n : Network) (es : List NetworkEvent) (i : ℕ) (p q : Place)
         (test : Publish → Bool)
         → IsReached n → IsClass ExactlyOnce test → IsCopy test
