@@ -41,8 +41,10 @@ use Rattle.mqtt5_inflight.specs.declared.error.StateError.TheVariants as errors
 use Rattle.mqtt5_subscribe.specs.declared.subscribe.Subscribe.{Subscribe}
 use Rattle.mqtt5_subscribe.specs.declared.unsubscribe.Unsubscribe.{Unsubscribe}
 use Rattle.mqtt5_clients.specs.Subscriptions.{granted_for, forwarded_to}
+use Rattle.mqtt5_clients.specs.Answered.{answers_told}
 use Rattle.mqtt5_clients.specs.Client.{Client, routed, new_client, asked_of, sends_of, comes_to, goes_up, takes_in, goes_down, queues, taken_for, passes_on, reconnects}
-use Rattle.mqtt5_clients.proofs.Moves.{Move, moved, AsksForNone}
+use Rattle.mqtt5_clients.proofs.Telling.{Same, out_same, subscribe_same, unsubscribe_same, sending_same, ack_same, answer_more, back_same, Tells, tells_still, tells_same, tells_taken, tells_lost, tells_asked}
+use Rattle.mqtt5_clients.proofs.Moves.{Move, moved, AsksForNone, asked_in_move}
 use Rattle.mqtt5_clients.proofs.Moves as moves
 
 -- ---- what is said of the packets of a flow
@@ -176,6 +178,7 @@ pub record Stepped (limit sender_limit : ℕ) (c d : Client) : Type 0 where
   pub good : IsGood limit sender_limit d
   pub grows : Grows c.receiver.handed d.receiver.handed
   pub quiet : Quiet c d
+  pub tells : Tells c d []
 
 -- how many filters the first packet of a way asks for
 abbrev pub filters_first : List Packet → ℕ
@@ -235,7 +238,7 @@ answered ss other = tt
 
 module _ (limit sender_limit : ℕ) (c : Client) (i : IsGood limit sender_limit c) where
   nothing : Stepped limit sender_limit c c
-  nothing = record { good = i; grows = same _ _ refl; quiet = λ q. (q, refl) }
+  nothing = record { good = i; grows = same _ _ refl; quiet = λ q. (q, refl); tells = tells_same c c refl refl refl refl }
 
   nothing_found : Step limit sender_limit c c 0 0
   nothing_found = record { stepped = nothing; less = idle c }
@@ -250,9 +253,10 @@ module _ (limit sender_limit : ℕ) (c : Client) (i : IsGood limit sender_limit 
       (asks Any any_closed limit c.lost (ends_from c) i.from p (λ k. tt {0}))
       (sends_out Any any_closed limit c.lost (ends_from c) i.from p (λ k. tt {0}))
       (out_apart c.session p).kept
+      (out_same c.session p)
     where
-      by : (r : Result (Option Packet) StateError) (t : Session) → Asked Any any_closed limit c.lost (ends_from c) i.from p r t → Sends (reply_in r) → Kept c.session t → Stepped limit sender_limit c (asked_of c p r t)
-      by (Ok reply) t a k e =
+      by : (r : Result (Option Packet) StateError) (t : Session) → Asked Any any_closed limit c.lost (ends_from c) i.from p r t → Sends (reply_in r) → Kept c.session t → Same c.session t → Stepped limit sender_limit c (asked_of c p r t)
+      by (Ok reply) t a k e h =
           record {
             good = record {
               from = a;
@@ -264,8 +268,9 @@ module _ (limit sender_limit : ℕ) (c : Client) (i : IsGood limit sender_limit 
             };
             grows = same _ _ refl;
             quiet = λ q. ((behind_sends c.up (option_to_list reply) k).2 ∙ q, refl);
+            tells = tells_same c _ h refl (behind_sends c.up (option_to_list reply) k).2 refl;
           }
-      by (Err f) t a k e = nothing
+      by (Err f) t a k e h = nothing
 
   -- something else is asked for
   good_sends : (r : Result (Option Packet) StateError) (t : Session) → Aside c.session (r, t) → Others (reply_in r) → IsGood limit sender_limit (sends_of c r t)
@@ -296,6 +301,7 @@ module _ (limit sender_limit : ℕ) (c : Client) (i : IsGood limit sender_limit 
             };
             grows = serve_grows c.receiver x;
             quiet = λ q. (sym (first_sending c.up x rest u e).2 ∙ q, refl);
+            tells = tells_same c d refl behind.2 (sym (first_sending c.up x rest u e).2) refl;
           };
           less = record {
             s = 1;
@@ -334,6 +340,7 @@ module _ (limit sender_limit : ℕ) (c : Client) (i : IsGood limit sender_limit 
             };
             grows = same _ _ refl;
             quiet = λ q. (sym (first_ack c.up x rest u e h).2 ∙ q, refl);
+            tells = tells_same c d refl behind.2 (sym (first_ack c.up x rest u e h).2) refl;
           };
           less = record {
             s = 0;
@@ -372,6 +379,7 @@ module _ (limit sender_limit : ℕ) (c : Client) (i : IsGood limit sender_limit 
             };
             grows = same _ _ refl;
             quiet = λ q. absurd (let z : x ∷ others rest ≡ [] = sym front.0 ∙ q in cc);
+            tells = tells_taken c d x (others rest) front.0 refl one_more_down refl refl;
           };
           less = record {
             s = 0;
@@ -380,10 +388,8 @@ module _ (limit sender_limit : ℕ) (c : Client) (i : IsGood limit sender_limit 
             to =
                 let k = ap work other in
                 let l = ap length front.0 in
-                let m = ap length behind.0 in
-                let o = length-append (others c.down) (option_to_list (answer_of c.subscriptions x)) in
-                let p = one_answer (answer_of c.subscriptions x) in
-                omega (arith, k, l, m, o, p);
+                let m = one_more_down in
+                omega (arith, k, l, m);
             few = none_new c.receiver.handed;
             found = omega arith;
             asked = let k = ap (sum_by filters_in) front.0 in let l = sum_by-cons filters_in x (others rest) in omega (arith, k, l);
@@ -398,6 +404,13 @@ module _ (limit sender_limit : ℕ) (c : Client) (i : IsGood limit sender_limit 
 
         behind : (others (c.down ++ option_to_list (answer_of c.subscriptions x)) ≡ others c.down ++ option_to_list (answer_of c.subscriptions x)) × (sent (c.down ++ option_to_list (answer_of c.subscriptions x)) ≡ sent c.down) × (acks (c.down ++ option_to_list (answer_of c.subscriptions x)) ≡ acks c.down)
         behind = behind_others c.down (option_to_list (answer_of c.subscriptions x)) (answer_others c.subscriptions x)
+
+        one_more_down : length (others d.down) ≤ length (others c.down) + 1
+        one_more_down =
+            let m = ap length behind.0 in
+            let o = length-append (others c.down) (option_to_list (answer_of c.subscriptions x)) in
+            let p = one_answer (answer_of c.subscriptions x) in
+            omega (arith, m, o, p)
 
         own : flow_from d ≡ flow_from c
         own = same_flow c.session c.session c.receiver c.receiver c.up rest c.down d.down c.accepted refl refl (sym front.1) behind.2
@@ -426,6 +439,7 @@ module _ (limit sender_limit : ℕ) (c : Client) (i : IsGood limit sender_limit 
             good = record { from = subst (IsFlow Any limit c.lost) (sym other) i.from; to = a.still; own = r.own; range = i.range; queued = i.queued; told = told_still rest (sym (first_sending c.down x rest f e).2) };
             grows = same _ _ refl;
             quiet = λ q. (about ∙ q, refl);
+            tells = tells_same c taker (sending_same c.session x e) (sym (first_sending c.down x rest f e).2) about refl;
           };
           less = record {
             s = 0;
@@ -462,6 +476,7 @@ module _ (limit sender_limit : ℕ) (c : Client) (i : IsGood limit sender_limit 
             good = record { from = a.still; to = subst (IsFlow Plain sender_limit c.lost) (sym other) i.to; own = k.own ∙ i.own; range = i.range; queued = i.queued; told = told_still rest (sym (first_ack c.down x rest f e h).2) };
             grows = same _ _ refl;
             quiet = λ q. (about ∙ q, refl);
+            tells = tells_same c taker (ack_same c.session x h) (sym (first_ack c.down x rest f e h).2) about refl;
           };
           less = record {
             s = 1;
@@ -502,6 +517,7 @@ module _ (limit sender_limit : ℕ) (c : Client) (i : IsGood limit sender_limit 
             };
             grows = same _ _ refl;
             quiet = λ q. (ap others none ∙ q, refl);
+            tells = tells_still c taker (let y = answer_more c.session x told.0 in let l = ap length front.0 in omega (arith, y, l)) (ap others none) refl;
           };
           less = record {
             s = 0;
@@ -558,6 +574,7 @@ module _ (limit sender_limit : ℕ) (c : Client) (i : IsGood limit sender_limit 
             good = record { from = subst (IsFlow Any limit c.lost) (sym other) i.from; to = a; own = i.own; range = range; queued = is.1; told = told_still (c.down ++ option_to_list reply) behind.2 };
             grows = same _ _ refl;
             quiet = λ q. (q, refl);
+            tells = tells_same c d refl behind.2 refl refl;
           };
           less = record { s = 0; t = 1; from = let z = ap work other in omega (arith, z); to = costs; few = none_new c.receiver.handed; found = let f = ap length l in omega (arith, f); asked = omega arith };
         }
@@ -598,6 +615,7 @@ module _ (limit sender_limit : ℕ) (c : Client) (i : IsGood limit sender_limit 
       (record {
         grows = same _ _ refl;
         quiet = λ q. (up.rest, refl);
+        tells = tells_lost c _ [] (back_same m c.session) down.rest up.rest refl;
         good = record {
           from = loses Any any_closed limit c.lost (ends_from c) i.from m (again_of k).0 down;
           to = subst (λ b. IsFlow Plain sender_limit (c.lost + 1) (flow (again_of k).1 b (again_of k).0 (again_of h).0 c.taken)) (sym kept.seen)
@@ -634,6 +652,13 @@ module _ (limit sender_limit : ℕ) (c : Client) (i : IsGood limit sender_limit 
   pub back_heard : (m n : Option ℕ) → others (moved c (moves.Back m n)).up ≡ []
   back_heard m n = ap (λ r. others (sent_in r)) (resumes_again Any any_closed limit c.lost (ends_from c) i.from m) ∙ (sends_on Any any_closed limit c.lost (ends_from c) i.from m).rest
 
+  -- and no answer to one
+  pub back_answered : (m n : Option ℕ) → others (moved c (moves.Back m n)).down ≡ []
+  back_answered m n = ap (λ r. others (sent_in r)) (resumes_again Plain plain_closed sender_limit c.lost (ends_to c) i.to n) ∙ (sends_on Plain plain_closed sender_limit c.lost (ends_to c) i.to n).rest
+
+  pub back_told : (m n : Option ℕ) → Same c.session (moved c (moves.Back m n)).session
+  back_told m n = ap (λ r. answers_told (kept_by (connected m c.session) r)) (resumes_again Any any_closed limit c.lost (ends_from c) i.from m) ∙ back_same m c.session
+
   -- ---- each move
 
   sends_receiver : (r : Result (Option Packet) StateError) (t : Session) → (sends_of c r t).receiver ≡ c.receiver
@@ -667,6 +692,16 @@ module _ (limit sender_limit : ℕ) (c : Client) (i : IsGood limit sender_limit 
   client_quiet moves.Down k = (down_stepped c.down refl).stepped.quiet
   client_quiet moves.PassOn k = (passed_stepped c.queue refl).stepped.quiet
   client_quiet (moves.Back m n) k = (lost_stepped m n).quiet
+
+  -- of what it asks for about subscriptions
+  pub client_tells : (e : Move) → Tells c (moved c e) (asked_in_move c.session e)
+  client_tells (moves.Ask p) = (asked_stepped p).tells
+  client_tells (moves.Subscribing p) = tells_asked c (on_request c.session (requests.Subscribe p) 0).0 (on_request c.session (requests.Subscribe p) 0).1 (subscribe_same c.session p) (subscribe_others c.session p)
+  client_tells (moves.Unsubscribing p) = tells_asked c (on_request c.session (requests.Unsubscribe p) 0).0 (on_request c.session (requests.Unsubscribe p) 0).1 (unsubscribe_same c.session p) (unsubscribe_others c.session p)
+  client_tells moves.Up = (up_stepped c.up refl).stepped.tells
+  client_tells moves.Down = (down_stepped c.down refl).stepped.tells
+  client_tells moves.PassOn = (passed_stepped c.queue refl).stepped.tells
+  client_tells (moves.Back m n) = (lost_stepped m n).tells
 
   -- a step leaves less work
   pub up_less : Less c (moved c moves.Up) (found c.up) (filters_first c.up)

@@ -1,5 +1,6 @@
 pub mod Sending
 pub mod Flow
+pub mod Telling
 pub mod Moves
 pub mod Good
 pub mod Forwarding
@@ -11,6 +12,7 @@ pub mod Joined
 pub mod Handed
 pub mod Granting
 pub mod Subscribed
+pub mod Answered
 pub mod Copied
 pub mod Standing
 pub mod Stepping

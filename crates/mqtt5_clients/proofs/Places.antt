@@ -1,5 +1,5 @@
 -- A client that is away is one whose packets on their way aren't seen: each event keeps it a client as it has to be.
-use Rattle.std.proofs.Common.{◌≡◌, ◌≤◌, Bool, true, false, List, [], ◌∷◌, ◌++◌, length, Option, Some, None, Result, Ok, Err, refl, sym, ap, ◌∙◌, subst, arith, ◌⊎◌, inl, inr, ⊎_elim, append-nil}
+use Rattle.std.proofs.Common.{◌≡◌, ℕ, ◌≤◌, Bool, true, false, List, [], ◌∷◌, ◌++◌, length, Option, Some, None, Result, Ok, Err, refl, sym, ap, ◌∙◌, subst, arith, ◌⊎◌, inl, inr, ⊎_elim, append-nil}
 use Rattle.std.specs.Option.{option_to_list}
 use Rattle.mqtt5_publish.specs.declared.publish.Publish.{Publish}
 use Rattle.mqtt5_codec.specs.declared.packet.Packet.{Packet}
@@ -13,8 +13,10 @@ use Rattle.mqtt5_clients.specs.declared.event.ClientEvent.TheVariants as events
 use Rattle.mqtt5_clients.specs.Client.{Client, routed, asked_of, sends_of, asks_for, requests_for, goes_up, goes_down, taken_for, passes_on}
 use Rattle.mqtt5_clients.specs.Place.{Place, cut_off, sent_from, passes, loses, happens_at, renewed, becomes, ends_of, queues_at, gets_at}
 use Rattle.mqtt5_clients.specs.Granted.{GoesOn, KeepsSubscriptions}
+use Rattle.mqtt5_clients.specs.Answered.{asked_by, IsClear}
+use Rattle.mqtt5_clients.proofs.Telling.{subscribe_same, unsubscribe_same, Tells, tells_same, tells_lost, asked_away, requests_away}
 use Rattle.mqtt5_clients.proofs.Moves as moves
-use Rattle.mqtt5_clients.proofs.Good.{Grows, Quiet, client_grows, client_quiet, back_heard, routed_same}
+use Rattle.mqtt5_clients.proofs.Good.{Grows, Quiet, client_grows, client_quiet, client_tells, back_heard, back_answered, back_told, routed_same}
 use Rattle.mqtt5_clients.proofs.Clients.{IsClient, AreCopies, client_start, client_moved, client_queues, client_gets}
 
 -- ---- here and away
@@ -289,6 +291,50 @@ module _ (handed : List Publish) (p : Place) where
   -- they stay while the client asks for none, and no request for some is on its way up
   pub place_quiet : (e : ClientEvent) → KeepsSubscriptions e → IsPlace handed p → Quiet p.client (happens_at p e).client
   place_quiet e k i = ⊎_elim (λ (h : IsHere handed p). here_quiet e k h) (λ (h : IsGone handed p). gone_quiet e k h) i
+
+-- ---- what it is told of them
+
+module _ (handed : List Publish) (p : Place) where
+  here_sent_tells : (c : Client) (asked : List Packet) → IsHere handed p → Tells p.client c asked → Tells p.client (sent_from p.here c) asked
+  here_sent_tells c asked h t = subst (λ b. Tells p.client (sent_from b c) asked) (sym h.is) t
+
+  gone_sent_tells : (c : Client) (asked : List Packet) → IsGone handed p → Tells p.client (cut_off c) asked → Tells p.client (sent_from p.here c) asked
+  gone_sent_tells c asked h t = subst (λ b. Tells p.client (sent_from b c) asked) (sym h.is) t
+
+  here_tells : (e : ClientEvent) → GoesOn e → IsHere handed p → Tells p.client (happens_at p e).client (asked_by e p.client.session)
+  here_tells (events.Ask x) g h = here_sent_tells (asks_for p.client x) [] h (client_tells h.client.limit h.client.sender_limit p.client h.client.good (moves.Ask x))
+  here_tells (events.Subscribe x) g h = here_sent_tells (requests_for p.client (requests.Subscribe x)) (asked_by (events.Subscribe x) p.client.session) h (client_tells h.client.limit h.client.sender_limit p.client h.client.good (moves.Subscribing x))
+  here_tells (events.Unsubscribe x) g h = here_sent_tells (requests_for p.client (requests.Unsubscribe x)) (asked_by (events.Unsubscribe x) p.client.session) h (client_tells h.client.limit h.client.sender_limit p.client h.client.good (moves.Unsubscribing x))
+  here_tells events.Up g h = client_tells h.client.limit h.client.sender_limit p.client h.client.good moves.Up
+  here_tells events.Down g h = client_tells h.client.limit h.client.sender_limit p.client h.client.good moves.Down
+  here_tells events.PassOn g h = subst (λ b. Tells p.client (passes b p.client) []) (sym h.is) (client_tells h.client.limit h.client.sender_limit p.client h.client.good moves.PassOn)
+  here_tells events.Lost g h = tells_lost p.client (cut_off p.client) [] refl refl refl refl
+  here_tells events.Left g h = tells_lost p.client (cut_off p.client) [] refl refl refl refl
+  here_tells (events.Back m n w) g h = client_tells h.client.limit h.client.sender_limit p.client h.client.good (moves.Back m n)
+  here_tells events.Ends g h = absurd g
+
+  gone_tells : (e : ClientEvent) → GoesOn e → IsGone handed p → Tells p.client (happens_at p e).client (asked_by e p.client.session)
+  gone_tells (events.Ask x) g h = gone_sent_tells (asks_for p.client x) [] h (asked_away p.client x)
+  gone_tells (events.Subscribe x) g h = gone_sent_tells (requests_for p.client (requests.Subscribe x)) (asked_by (events.Subscribe x) p.client.session) h (requests_away p.client (requests.Subscribe x) (asked_by (events.Subscribe x) p.client.session) (subscribe_same p.client.session x))
+  gone_tells (events.Unsubscribe x) g h = gone_sent_tells (requests_for p.client (requests.Unsubscribe x)) (asked_by (events.Unsubscribe x) p.client.session) h (requests_away p.client (requests.Unsubscribe x) (asked_by (events.Unsubscribe x) p.client.session) (unsubscribe_same p.client.session x))
+  gone_tells events.Up g h = subst (λ us. Tells p.client (goes_up p.client us) []) (sym h.up) (tells_same p.client p.client refl refl refl refl)
+  gone_tells events.Down g h = subst (λ ds. Tells p.client (goes_down p.client ds) []) (sym h.down) (tells_same p.client p.client refl refl refl refl)
+  gone_tells events.PassOn g h = subst (λ b. Tells p.client (passes b p.client) []) (sym h.is) (tells_same p.client p.client refl refl refl refl)
+  gone_tells events.Lost g h = tells_lost p.client (cut_off p.client) [] refl refl refl refl
+  gone_tells events.Left g h = tells_lost p.client (cut_off p.client) [] refl refl refl refl
+  gone_tells (events.Back m n w) g h = let c = seen p.client h.hidden.up h.hidden.down in let i = h.hidden.client in tells_lost p.client (happens_at p (events.Back m n w)).client [] (back_told i.limit i.sender_limit c i.good m n) (back_answered i.limit i.sender_limit c i.good m n) (back_heard i.limit i.sender_limit c i.good m n) refl
+  gone_tells events.Ends g h = absurd g
+
+  -- of what it asks for, while its session goes on
+  pub place_tells : (e : ClientEvent) → GoesOn e → IsPlace handed p → Tells p.client (happens_at p e).client (asked_by e p.client.session)
+  place_tells e g i = ⊎_elim (λ (h : IsHere handed p). here_tells e g h) (λ (h : IsGone handed p). gone_tells e g h) i
+
+  -- on a new connection nothing of it is on its way
+  pub place_clear : (m n : Option ℕ) (w : Option Publish) → IsPlace handed p → IsClear (happens_at p (events.Back m n w)).client
+  place_clear m n w i = ⊎_elim
+      (λ (h : IsHere handed p). let j = h.client in record { up = back_heard j.limit j.sender_limit p.client j.good m n; down = back_answered j.limit j.sender_limit p.client j.good m n })
+      (λ (h : IsGone handed p). let c = seen p.client h.hidden.up h.hidden.down in let j = h.hidden.client in record { up = back_heard j.limit j.sender_limit c j.good m n; down = back_answered j.limit j.sender_limit c j.good m n })
+      i
 
 -- ---- of what is said of it
 

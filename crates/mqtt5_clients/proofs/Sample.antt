@@ -1,5 +1,7 @@
--- A network in which all is at rest, and a client was shown a message that it asked for while it was away.
-use Rattle.std.proofs.Common.{◌≡◌, ◌||◌, ℕ, zero, suc, true, false, List, [], ◌∷◌, ◌++◌, None, refl, sym, ap, ◌∙◌, arith, map, append-nil}
+-- A network in which all is at rest, and a client was shown a message that it asked for while it was away; at its beginning the client
+-- was told of an answer.
+use Rattle.std.proofs.Common.{◌≡◌, ◌||◌, ℕ, ◌+◌, zero, suc, true, false, List, [], ◌∷◌, ◌++◌, length, None, Some, refl, sym, ap, ◌∙◌, arith, map, append-nil}
+use Rattle.std.specs.Prelude.{slice_get}
 use Rattle.std.specs.Str.{is_utf8, IsAscii}
 use Rattle.std.proofs.lemmas.Str.{is_utf8-from_IsUtf8, IsUtf8-from_ascii}
 use Rattle.std.specs.Ordering.{nat_cmp, eq_by_cmp}
@@ -28,7 +30,8 @@ use Rattle.mqtt5_clients.specs.declared.event.ClientEvent.TheVariants as events
 use Rattle.mqtt5_clients.specs.declared.event.NetworkEvent.{NetworkEvent}
 use Rattle.mqtt5_clients.specs.Place.{Place, happens_at, copies_in, queues_at, gets_at, AtRest}
 use Rattle.mqtt5_clients.specs.Network.{Network, Profile, begins, new_of, run_network, IsReached, AllAtRest}
-use Rattle.mqtt5_clients.specs.Granted.{GoesOn}
+use Rattle.mqtt5_clients.specs.Granted.{GoesOn, Lives}
+use Rattle.mqtt5_clients.specs.Answered.{answers_told, asked_in, IsClear}
 use Rattle.mqtt5_clients.proofs.Places.{goes_on}
 
 -- ---- a client alone
@@ -136,6 +139,30 @@ begun_ready = refl
 begun_shown : shown begun.client.session ≡ []
 unfolding on_request on_packet begun
 begun_shown = refl
+
+begun_told : answers_told begun.client.session ≡ 1
+unfolding on_request on_packet begun
+begun_told = refl
+
+begun_asked : length (asked_in 0 (map event first) (one (begins profile) [])) ≡ 1
+unfolding on_request on_packet
+begun_asked = refl
+
+pub answered : (n : Network) × (es : List NetworkEvent) × (p : Place) × (q : Place) × IsReached n × Lives 0 es × (slice_get n.places 0 ≡ Some p) × (slice_get (run_network es n).places 0 ≡ Some q) × IsClear p.client × (length (asked_in 0 es n) ≡ 1) × (answers_told q.client.session ≡ answers_told p.client.session + 1)
+unfolding begun
+answered = (
+  one (begins profile) [],
+  map event first,
+  begins profile,
+  begun,
+  record { profiles = profile ∷ []; events = []; reached = refl },
+  (λ h. tt, (λ h. tt, (λ h. tt, tt))),
+  refl,
+  ap (λ (m : Network). slice_get m.places 0) (run_alone first (tt, (tt, (tt, tt {0}))) (begins profile) []),
+  record { up = refl; down = refl },
+  begun_asked,
+  begun_told,
+)
 
 -- it is away, asks for a publish, and comes back
 abbrev second : List ClientEvent

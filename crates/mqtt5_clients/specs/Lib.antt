@@ -5,4 +5,5 @@ pub mod Client
 pub mod Place
 pub mod Network
 pub mod Granted
+pub mod Answered
 pub mod Steps

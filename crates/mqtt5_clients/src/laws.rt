@@ -3,7 +3,7 @@
 
 ghost use Rattle.std.specs.Prelude.{◌≡◌, ◌≢◌, ◌<◌, ◌≤◌, ◌+◌, ◌*◌, ◌⊎◌, ◌++◌, ◌∷◌, ◌==◌, []};
 ghost use Rattle.std.specs.Prelude.{ℕ, Bool, true, Some, None, IfSome, List, count_by, slice_get};
-ghost use Rattle.std.specs.Prelude.{false, if◌then◌else◌};
+ghost use Rattle.std.specs.Prelude.{false, length, Option, if◌then◌else◌};
 ghost use Rattle.std.specs.List.{All, Contains, filter_map, find};
 ghost use Rattle.mqtt5_base.specs.declared.quality.QoS.{QoS};
 ghost use Rattle.mqtt5_base.specs.declared.quality.QoS.TheVariants.{AtMostOnce, AtLeastOnce, ExactlyOnce};
@@ -25,6 +25,7 @@ ghost use Rattle.mqtt5_clients.specs.Granted.{published, Grants, GrantsNone, Gra
 ghost use Rattle.mqtt5_clients.specs.Granted.{Covers, AtPlace, Throughout, GoesOn, Lives};
 ghost use Rattle.mqtt5_clients.specs.Granted.{Unchanged, IsHeard, IsNew, IsCopy, KeepsFirst, reaching};
 ghost use Rattle.mqtt5_clients.specs.Steps.{IsStep, Steps, work_left, moves, moved, HereAtRest};
+ghost use Rattle.mqtt5_clients.specs.Answered.{answers_told, asked_in, subscriptions_by, IsClear};
 
 /// A law, which does nothing when it is called: how often the publishes of a class are shown to a
 /// client, of those that were put into its queue, however often its connection was lost and it was
@@ -193,6 +194,58 @@ pub fn subscribing_law()
         → AtPlace i (λ (c : Client).
         count_by test (shown c.session) + lost_in (run_network es n) (published test)
         ≡ given_in (run_network es n) (published test)) (run_network es n) }
+{}
+
+/// A law, which does nothing when it is called: what a client knows of its subscriptions by the
+/// answers that it is told of: a SubAck or an UnsubAck to each request that its session accepts, or
+/// fewer (MQTT 5.0 sections 3.8.4, 3.10.4 and 4.4).
+pub fn answered_law()
+    // On a new connection no request of the client and no answer to one is on its way.
+    ensures clear { (n : Network) (i : ℕ) (p : Place) (a b : Option ℕ) (will : Option Publish)
+        → IsReached n
+        → slice_get (happens_in n (record { client = i; what = events.Back a b will })).places i
+        ≡ Some p
+        → IsClear p.client }
+    // From a moment at which none is, and while its session goes on, the client at a place is told of
+    // at most as many answers as its session accepts requests.
+    ensures at_most { (n : Network) (es : List NetworkEvent) (i : ℕ) (p q : Place)
+        → IsReached n → Lives i es → slice_get n.places i ≡ Some p
+        → slice_get (run_network es n).places i ≡ Some q → IsClear p.client
+        → answers_told q.client.session
+        ≤ answers_told p.client.session + length (asked_in i es n) }
+    // Where it was told of as many, the broker took each request in, in order: none is on its way, and
+    // the subscriptions are what they made of those of that moment. Else it was told of fewer: a
+    // request and an answer are lost with their connection, and not sent again (4.4).
+    ensures taken_in { (n : Network) (since : List NetworkEvent) (i : ℕ) (p q : Place)
+        → IsReached n → Lives i since → slice_get n.places i ≡ Some p
+        → slice_get (run_network since n).places i ≡ Some q → IsClear p.client
+        → answers_told q.client.session ≡ answers_told p.client.session + length (asked_in i since n)
+        → IsClear q.client
+        × (q.client.subscriptions
+        ≡ subscriptions_by (asked_in i since n) p.client.subscriptions) }
+    // So where it was told of as many, what it asked for leaves a subscription that grants QoS 2 for a
+    // class of new messages of QoS 2, of which none was given before, and it asks for nothing more:
+    // once all are here and at rest it was shown each that was given, exactly once, but for what other
+    // sessions took along when they ended.
+    ensures exactly_once { (n m : Network) (since more : List NetworkEvent) (i : ℕ) (p q : Place)
+        (s : Subscription) (test : Publish → Bool)
+        → IsReached n → Lives i since → m ≡ run_network since n
+        → slice_get n.places i ≡ Some p → slice_get m.places i ≡ Some q → IsClear p.client
+        → answers_told q.client.session
+        ≡ answers_told p.client.session + length (asked_in i since n)
+        → Contains (subscriptions_by (asked_in i since n) []) s → Covers test s
+        → IsClass ExactlyOnce test → IsNew test → given_in m (published test) ≡ 0
+        → Unchanged i more → AllAtRest (run_network more m)
+        → AtPlace i (λ (c : Client).
+        count_by test (shown c.session) + lost_in (run_network more m) (published test)
+        ≡ given_in (run_network more m) (published test)) (run_network more m) }
+    // And in some network a client asked once, and was told of the answer, so the promises aren't
+    // empty.
+    ensures shows { (n : Network) × (es : List NetworkEvent) × (p : Place) × (q : Place)
+        × IsReached n × Lives 0 es × (slice_get n.places 0 ≡ Some p)
+        × (slice_get (run_network es n).places 0 ≡ Some q) × IsClear p.client
+        × (length (asked_in 0 es n) ≡ 1)
+        × (answers_told q.client.session ≡ answers_told p.client.session + 1) }
 {}
 
 /// A law, which does nothing when it is called: how often the publishes of a class are shown to a

@@ -8,7 +8,7 @@ mod subscription;
 
 pub use event::{ClientEvent, NetworkEvent};
 pub use laws::{
-    clients_law, copies_law, granted_law, retained_law, routing_law, shown_law, standing_law,
-    steps_law, subscribing_law,
+    answered_law, clients_law, copies_law, granted_law, retained_law, routing_law, shown_law,
+    standing_law, steps_law, subscribing_law,
 };
 pub use subscription::Subscription;
