@@ -3,7 +3,8 @@
 ghost use Rattle.std.specs.Prelude.{◌≡◌, map, IfOk, OnOk, OnErr};
 ghost use Rattle.std.specs.List.{list_any};
 ghost use Rattle.mqtt5_clients.specs.Subscriptions.{is_of, unsubscribed};
-ghost use Rattle.mqtt5_clients.specs.Asking.{subscription_of, subscribed_all, code_of, unsubscribed_all, reason_of, reasons_of};
+ghost use Rattle.mqtt5_clients.specs.Asking.{subscription_of, subscribed_all, code_of};
+ghost use Rattle.mqtt5_clients.specs.Asking.{unsubscribed_all, reason_of, reasons_of};
 
 use crate::subscriptions::{subscribe, unsubscribe};
 use mqtt5_base::{Sequence, Text, copied};
@@ -48,7 +49,7 @@ fn with_filters(
 ) -> Result<Vec<Subscription>, AllocError>
     ensures { IfOk result (λ next. next.items ≡ subscribed_all filters.now subscriptions.now) }
 {
-    let mut next = copies_of(alloc, subscriptions)?;
+    let mut next = subscriptions_of(alloc, subscriptions)?;
     for filter in filters {
         let subscription = subscription_of(filter)?;
         subscribe(&mut next, subscription)?;
@@ -56,8 +57,11 @@ fn with_filters(
     Ok(next)
 }
 
-/// A copy of subscriptions.
-fn copies_of(alloc: Global, subscriptions: &[Subscription]) -> Result<Vec<Subscription>, AllocError>
+/// A copy of subscriptions. Err where memory is refused.
+pub fn subscriptions_of(
+    alloc: Global,
+    subscriptions: &[Subscription],
+) -> Result<Vec<Subscription>, AllocError>
     ensures { IfOk result (λ copies. copies.items ≡ subscriptions.now) }
 {
     let mut copies = Vec::new(alloc);
@@ -78,7 +82,7 @@ fn copy_of(subscription: &Subscription) -> Result<Subscription, AllocError>
 }
 
 /// A filter as the subscription that is made of it.
-fn subscription_of(filter: &Filter) -> Result<Subscription, AllocError>
+pub(super) fn subscription_of(filter: &Filter) -> Result<Subscription, AllocError>
     ensures { IfOk result (λ s. s ≡ subscription_of filter.now) }
 {
     Ok(Subscription {
@@ -101,10 +105,10 @@ pub fn unsubscribe_all(
         (subscriptions.new.items ≡ unsubscribed_all topic_filters.now subscriptions.old.items) }
     ensures err { OnErr result (subscriptions.new.items ≡ subscriptions.old.items) }
 {
-    let mut next = copies_of(alloc, subscriptions.as_slice())?;
+    let mut next = subscriptions_of(alloc, subscriptions.as_slice())?;
     let mut reasons = Sequence::new(alloc);
-    for topic_filter in topic_filters {
-        reasons.push(take_out(&mut next, topic_filter))?;
+    for filter in topic_filters {
+        reasons.push(take_out(&mut next, filter))?;
     }
     *subscriptions = next;
     Ok(reasons)
@@ -126,7 +130,7 @@ fn take_out(subscriptions: &mut Vec<Subscription>, topic_filter: &Text) -> Unsub
 }
 
 /// Whether one of these subscriptions is of a filter.
-fn is_among(subscriptions: &[Subscription], topic_filter: &Text) -> bool
+pub(super) fn is_among(subscriptions: &[Subscription], topic_filter: &Text) -> bool
     ensures { result ≡ list_any (is_of topic_filter.now) subscriptions.now }
 {
     subscriptions

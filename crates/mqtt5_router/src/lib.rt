@@ -1,12 +1,24 @@
-//! What a broker does with subscriptions: it takes them in and out, and puts what is forwarded under them into a client's queue.
+//! What a broker keeps for each client, with calls over packets: it takes subscriptions in and out, receives publishes, and sends
+//! what it forwards of them from a queue.
 #![tactic(auto)]
 
 mod asking;
+mod forwarding;
+mod kept;
+#[cfg(test)]
+mod kept_tests;
+mod laws;
 mod queue;
+mod retained;
+pub mod sessions;
 mod subscriptions;
 #[cfg(test)]
 mod tests;
 
-pub use asking::{subscribe_all, unsubscribe_all};
+pub use asking::{subscribe_all, subscriptions_of, unsubscribe_all};
+pub use forwarding::forward;
+pub use kept::{Arrived, Kept, Passed};
+pub use laws::kept_law;
 pub use queue::route;
-pub use subscriptions::granted_for;
+pub use retained::retain;
+pub use subscriptions::{granted_for, greater};

@@ -1,5 +1,5 @@
 use Rattle.std.proofs.Common.{◌≡◌, take}
-use Rattle.mqtt5_router.proofs.asking.copies_of.Given as goal
+use Rattle.mqtt5_router.proofs.asking.subscriptions_of.Given as goal
 
 abbrev pub invariant-loop-subscription : goal.invariant-loop-subscription
 invariant-loop-subscription l = l.copies.items ≡ take l.subscription-index l.subscriptions
