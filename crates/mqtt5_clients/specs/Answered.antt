@@ -60,7 +60,8 @@ subscriptions_by (x ∷ xs) ss = subscriptions_by xs (subscriptions_after ss x)
 
 -- ---- what is on its way
 
--- no request about a client's subscriptions is on its way to the broker, and no answer to the client
+-- no request about a client's subscriptions is on its way to the broker, and no answer to the
+-- client
 pub record IsClear (c : Client) : Type 0 where
   pub up : others c.up ≡ []
   pub down : others c.down ≡ []

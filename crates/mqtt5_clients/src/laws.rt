@@ -23,7 +23,8 @@ ghost use Rattle.mqtt5_clients.specs.Network.{IsReached, AllAtRest, IsDone, HasT
 ghost use Rattle.mqtt5_clients.specs.Network.{most_in, kept_by, lost_in, unacked_in};
 ghost use Rattle.mqtt5_clients.specs.Granted.{published, Grants, GrantsNone, GrantsOthers, Reaches};
 ghost use Rattle.mqtt5_clients.specs.Granted.{Covers, AtPlace, Throughout, GoesOn, Lives};
-ghost use Rattle.mqtt5_clients.specs.Granted.{Unchanged, IsHeard, IsNew, IsCopy, KeepsFirst, reaching};
+ghost use Rattle.mqtt5_clients.specs.Granted.{Unchanged, IsHeard, IsNew, IsCopy};
+ghost use Rattle.mqtt5_clients.specs.Granted.{KeepsFirst, reaching};
 ghost use Rattle.mqtt5_clients.specs.Steps.{IsStep, Steps, work_left, moves, moved, HereAtRest};
 ghost use Rattle.mqtt5_clients.specs.Answered.{answers_told, asked_in, subscriptions_by, IsClear};
 
@@ -206,27 +207,28 @@ pub fn answered_law()
         → slice_get (happens_in n (record { client = i; what = events.Back a b will })).places i
         ≡ Some p
         → IsClear p.client }
-    // From a moment at which none is, and while its session goes on, the client at a place is told of
-    // at most as many answers as its session accepts requests.
+    // From a moment at which none is, and while its session goes on, the client at a place is told
+    // of at most as many answers as its session accepts requests.
     ensures at_most { (n : Network) (es : List NetworkEvent) (i : ℕ) (p q : Place)
         → IsReached n → Lives i es → slice_get n.places i ≡ Some p
         → slice_get (run_network es n).places i ≡ Some q → IsClear p.client
         → answers_told q.client.session
         ≤ answers_told p.client.session + length (asked_in i es n) }
-    // Where it was told of as many, the broker took each request in, in order: none is on its way, and
-    // the subscriptions are what they made of those of that moment. Else it was told of fewer: a
-    // request and an answer are lost with their connection, and not sent again (4.4).
+    // Where it was told of as many, the broker took each request in, in order: none is on its way,
+    // and the subscriptions are what they made of those of that moment. Else it was told of fewer:
+    // a request and an answer are lost with their connection, and not sent again (4.4).
     ensures taken_in { (n : Network) (since : List NetworkEvent) (i : ℕ) (p q : Place)
         → IsReached n → Lives i since → slice_get n.places i ≡ Some p
         → slice_get (run_network since n).places i ≡ Some q → IsClear p.client
-        → answers_told q.client.session ≡ answers_told p.client.session + length (asked_in i since n)
+        → answers_told q.client.session ≡ answers_told p.client.session
+        + length (asked_in i since n)
         → IsClear q.client
         × (q.client.subscriptions
         ≡ subscriptions_by (asked_in i since n) p.client.subscriptions) }
-    // So where it was told of as many, what it asked for leaves a subscription that grants QoS 2 for a
-    // class of new messages of QoS 2, of which none was given before, and it asks for nothing more:
-    // once all are here and at rest it was shown each that was given, exactly once, but for what other
-    // sessions took along when they ended.
+    // So where it was told of as many, what it asked for leaves a subscription that grants QoS 2 for
+    // a class of new messages of QoS 2, of which none was given before, and it asks for nothing
+    // more: once all are here and at rest it was shown each that was given, exactly once, but for
+    // what other sessions took along when they ended.
     ensures exactly_once { (n m : Network) (since more : List NetworkEvent) (i : ℕ) (p q : Place)
         (s : Subscription) (test : Publish → Bool)
         → IsReached n → Lives i since → m ≡ run_network since n
