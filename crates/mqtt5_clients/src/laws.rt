@@ -225,8 +225,8 @@ pub fn answered_law()
         → IsClear q.client
         × (q.client.subscriptions
         ≡ subscriptions_by (asked_in i since n) p.client.subscriptions) }
-    // So where it was told of as many, what it asked for leaves a subscription that grants QoS 2 for
-    // a class of new messages of QoS 2, of which none was given before, and it asks for nothing
+    // So where it was told of as many, what it asked for leaves a subscription that grants QoS 2
+    // for a class of new messages of QoS 2, of which none was given before, and it asks for nothing
     // more: once all are here and at rest it was shown each that was given, exactly once, but for
     // what other sessions took along when they ended.
     ensures exactly_once { (n m : Network) (since more : List NetworkEvent) (i : ℕ) (p q : Place)

@@ -195,7 +195,8 @@ impl Kept {
         ensures reply { IfOk result (λ a. option_to_list a.reply
             ≡ (comes_to (is_sending packet.now) false (alone self.old) packet.now).down) }
         ensures handed { IfOk result (λ a. option_to_list a.handed
-            ≡ (comes_to (is_sending packet.now) false (alone self.old) packet.now).receiver.handed) }
+            ≡ (comes_to (is_sending packet.now) false (alone self.old)
+            packet.now).receiver.handed) }
         ensures memory { IfErr result (λ e. e ≡ StateError.OutOfMemory) }
         ensures left { OnErr result (self.new ≡ self.old) }
     {
