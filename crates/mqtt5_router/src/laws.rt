@@ -21,7 +21,8 @@ pub fn kept_law()
         → (comes_to (is_sending x) (is_ack x) c x).receiver.handed
         ≡ c.receiver.handed ++ (after_packet (kept_of c) x).receiver.handed }
     // After the first of its queue is passed on the same is kept.
-    ensures pass { (c : Client) → kept_of (passes_on c c.queue) ≡ kept_of (after_pass (kept_of c)) }
+    ensures pass { (c : Client)
+        → kept_of (passes_on c c.queue) ≡ kept_of (after_pass (kept_of c)) }
     // What is sent goes behind what is on its way down.
     ensures sent { (c : Client)
         → (passes_on c c.queue).down ≡ c.down ++ (after_pass (kept_of c)).down }
