@@ -5,8 +5,6 @@
 mod asking;
 mod forwarding;
 mod kept;
-#[cfg(test)]
-mod kept_tests;
 mod laws;
 mod queue;
 mod retained;
