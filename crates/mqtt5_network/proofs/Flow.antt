@@ -1,8 +1,9 @@
 -- The publishes that go from a session that sends to one that receives are those of a run of a world.
-use Rattle.std.proofs.Common.{◌≡◌, ℕ, ◌+◌, ◌≤◌, true, false, cond, List, [], ◌∷◌, ◌++◌, Option, None, Result, Ok, Err, refl, sym, ap, ◌∙◌, subst, arith, append-nil}
+use Rattle.std.proofs.Common.{◌≡◌, ℕ, ◌+◌, ◌≤◌, true, false, cond, List, [], ◌∷◌, ◌++◌, Option, None, Result, Ok, Err, refl, sym, ap, ◌∙◌, subst, arith, append-nil, Bool, ◌&&◌, map}
 use Rattle.std.specs.Prelude.{not}
 use Rattle.std.specs.Option.{option_to_list}
 use Rattle.std.specs.FinMap.{get}
+use Rattle.std.proofs.lemmas.List.{map-append}
 use Rattle.std.proofs.lemmas.List.Elements.{filter-append}
 use Rattle.mqtt5_base.specs.declared.quality.QoS.{QoS}
 use Rattle.mqtt5_base.specs.declared.quality.QoS.TheVariants.{AtMostOnce, AtLeastOnce, ExactlyOnce}
@@ -27,58 +28,97 @@ use Rattle.mqtt5_progress.specs.Progress.{Deliveries, work, delivered, found}
 use Rattle.mqtt5_progress.proofs.Work.{lowers}
 use Rattle.mqtt5_progress.specs.Packets.{IsAck, Every, numbered}
 use Rattle.mqtt5_progress.proofs.Closed.{Closed, IsSent, APublish, ARelease, GoesUp, ComesDown, HoldsCore, Holds, HoldsReply, IfAccepted, Owes, again_of, taken_core, taken_reply, resumes_taken, keeps_out, keeps_inc, keeps_again, taken_holds, holds_next, holds_start}
-use Rattle.mqtt5_network.specs.Client.{is_sending, reply_in, connected}
-use Rattle.mqtt5_network.specs.Network.{sent, acks}
-use Rattle.mqtt5_network.proofs.Sending.{part, out_alike, ack_alike, connected_alike, again_alike}
+use Rattle.mqtt5_network.specs.Connection.{is_sending, reply_in, connected, sent}
+use Rattle.mqtt5_network.specs.Asking.{is_ack as is_an_ack, acks, others, answer_of}
+use Rattle.mqtt5_network.specs.declared.subscription.Subscription.{Subscription}
+use Rattle.mqtt5_network.proofs.Sending.{part, out_alike, numbered_again, ack_alike, connected_alike, again_alike}
 
--- ---- what is sent, and what is an ack
+-- ---- what is sent, what is an ack, and what is neither
+
+-- a packet that is sent isn't an ack
+apart : (x : Packet) → is_sending x ≡ true → is_an_ack x ≡ false
+apart (packets.Publish p) e = refl
+apart (packets.PubRel p) e = refl
+apart other e = absurd cc
 
 -- packets of a sender alone
 pub record Sends (ps : List Packet) : Type 0 where
   pub all : sent ps ≡ ps
   pub none : acks ps ≡ []
+  pub rest : others ps ≡ []
 
 -- acks alone
 pub record Acks (ps : List Packet) : Type 0 where
   pub all : acks ps ≡ ps
   pub none : sent ps ≡ []
+  pub rest : others ps ≡ []
 
-front_sending : (x : Packet) (xs : List Packet) → is_sending x ≡ true → (sent (x ∷ xs) ≡ x ∷ sent xs) × (acks (x ∷ xs) ≡ acks xs)
-front_sending x xs e = (ap (λ b. cond b (x ∷ sent xs) (sent xs)) e, ap (λ b. cond (not b) (x ∷ acks xs) (acks xs)) e)
+-- neither
+pub record Others (ps : List Packet) : Type 0 where
+  pub all : others ps ≡ ps
+  pub none : sent ps ≡ []
+  pub rest : acks ps ≡ []
 
-front_ack : (x : Packet) (xs : List Packet) → is_sending x ≡ false → (acks (x ∷ xs) ≡ x ∷ acks xs) × (sent (x ∷ xs) ≡ sent xs)
-front_ack x xs e = (ap (λ b. cond (not b) (x ∷ acks xs) (acks xs)) e, ap (λ b. cond b (x ∷ sent xs) (sent xs)) e)
+abbrev kept_if : Bool → Packet → List Packet → List Packet
+kept_if b x xs = cond b (x ∷ xs) xs
+
+front_sending : (x : Packet) (xs : List Packet) → is_sending x ≡ true → (sent (x ∷ xs) ≡ x ∷ sent xs) × (acks (x ∷ xs) ≡ acks xs) × (others (x ∷ xs) ≡ others xs)
+front_sending x xs e = (ap (λ b. kept_if b x (sent xs)) e, ap (λ b. kept_if b x (acks xs)) (apart x e), ap (λ b. kept_if (not b && not (is_an_ack x)) x (others xs)) e)
+
+front_ack : (x : Packet) (xs : List Packet) → is_sending x ≡ false → is_an_ack x ≡ true → (acks (x ∷ xs) ≡ x ∷ acks xs) × (sent (x ∷ xs) ≡ sent xs) × (others (x ∷ xs) ≡ others xs)
+front_ack x xs e f = (ap (λ b. kept_if b x (acks xs)) f, ap (λ b. kept_if b x (sent xs)) e, λ n. kept_if (not (e n) && not (f n)) x (others xs))
+
+front_other : (x : Packet) (xs : List Packet) → is_sending x ≡ false → is_an_ack x ≡ false → (others (x ∷ xs) ≡ x ∷ others xs) × (sent (x ∷ xs) ≡ sent xs) × (acks (x ∷ xs) ≡ acks xs)
+front_other x xs e f = (λ n. kept_if (not (e n) && not (f n)) x (others xs), ap (λ b. kept_if b x (sent xs)) e, ap (λ b. kept_if b x (acks xs)) f)
 
 -- of a way with such a front
-pub first_sending : (way : List Packet) (x : Packet) (rest : List Packet) → way ≡ x ∷ rest → is_sending x ≡ true → (sent way ≡ x ∷ sent rest) × (acks way ≡ acks rest)
-first_sending way x rest w e = let f = front_sending x rest e in (ap sent w ∙ f.0, ap acks w ∙ f.1)
+pub first_sending : (way : List Packet) (x : Packet) (rest : List Packet) → way ≡ x ∷ rest → is_sending x ≡ true → (sent way ≡ x ∷ sent rest) × (acks way ≡ acks rest) × (others way ≡ others rest)
+first_sending way x rest w e = let f = front_sending x rest e in (ap sent w ∙ f.0, ap acks w ∙ f.1, ap others w ∙ f.2)
 
-pub first_ack : (way : List Packet) (x : Packet) (rest : List Packet) → way ≡ x ∷ rest → is_sending x ≡ false → (acks way ≡ x ∷ acks rest) × (sent way ≡ sent rest)
-first_ack way x rest w e = let f = front_ack x rest e in (ap acks w ∙ f.0, ap sent w ∙ f.1)
+pub first_ack : (way : List Packet) (x : Packet) (rest : List Packet) → way ≡ x ∷ rest → is_sending x ≡ false → is_an_ack x ≡ true → (acks way ≡ x ∷ acks rest) × (sent way ≡ sent rest) × (others way ≡ others rest)
+first_ack way x rest w e h = let f = front_ack x rest e h in (ap acks w ∙ f.0, ap sent w ∙ f.1, ap others w ∙ f.2)
+
+pub first_other : (way : List Packet) (x : Packet) (rest : List Packet) → way ≡ x ∷ rest → is_sending x ≡ false → is_an_ack x ≡ false → (others way ≡ x ∷ others rest) × (sent way ≡ sent rest) × (acks way ≡ acks rest)
+first_other way x rest w e h = let f = front_other x rest e h in (ap others w ∙ f.0, ap sent w ∙ f.1, ap acks w ∙ f.2)
 
 -- behind others
-pub behind_sends : (xs ps : List Packet) → Sends ps → (sent (xs ++ ps) ≡ sent xs ++ ps) × (acks (xs ++ ps) ≡ acks xs)
+pub behind_sends : (xs ps : List Packet) → Sends ps → (sent (xs ++ ps) ≡ sent xs ++ ps) × (acks (xs ++ ps) ≡ acks xs) × (others (xs ++ ps) ≡ others xs)
 behind_sends xs ps s = (
   filter-append is_sending xs ps ∙ ap (λ l. sent xs ++ l) s.all,
-  filter-append (λ x. not (is_sending x)) xs ps ∙ ap (λ l. acks xs ++ l) s.none ∙ append-nil (acks xs),
+  filter-append is_an_ack xs ps ∙ ap (λ l. acks xs ++ l) s.none ∙ append-nil (acks xs),
+  filter-append (λ x. not (is_sending x) && not (is_an_ack x)) xs ps ∙ ap (λ l. others xs ++ l) s.rest ∙ append-nil (others xs),
 )
 
-pub behind_acks : (xs ps : List Packet) → Acks ps → (acks (xs ++ ps) ≡ acks xs ++ ps) × (sent (xs ++ ps) ≡ sent xs)
+pub behind_acks : (xs ps : List Packet) → Acks ps → (acks (xs ++ ps) ≡ acks xs ++ ps) × (sent (xs ++ ps) ≡ sent xs) × (others (xs ++ ps) ≡ others xs)
 behind_acks xs ps s = (
-  filter-append (λ x. not (is_sending x)) xs ps ∙ ap (λ l. acks xs ++ l) s.all,
+  filter-append is_an_ack xs ps ∙ ap (λ l. acks xs ++ l) s.all,
   filter-append is_sending xs ps ∙ ap (λ l. sent xs ++ l) s.none ∙ append-nil (sent xs),
+  filter-append (λ x. not (is_sending x) && not (is_an_ack x)) xs ps ∙ ap (λ l. others xs ++ l) s.rest ∙ append-nil (others xs),
 )
+
+pub behind_others : (xs ps : List Packet) → Others ps → (others (xs ++ ps) ≡ others xs ++ ps) × (sent (xs ++ ps) ≡ sent xs) × (acks (xs ++ ps) ≡ acks xs)
+behind_others xs ps s = (
+  filter-append (λ x. not (is_sending x) && not (is_an_ack x)) xs ps ∙ ap (λ l. others xs ++ l) s.all,
+  filter-append is_sending xs ps ∙ ap (λ l. sent xs ++ l) s.none ∙ append-nil (sent xs),
+  filter-append is_an_ack xs ps ∙ ap (λ l. acks xs ++ l) s.rest ∙ append-nil (acks xs),
+)
+
+-- the broker answers a request for subscriptions with such
+pub answer_others : (ss : List Subscription) (x : Packet) → Others (option_to_list (answer_of ss x))
+answer_others ss (packets.Subscribe p) = record { all = refl; none = refl; rest = refl }
+answer_others ss (packets.Unsubscribe p) = record { all = refl; none = refl; rest = refl }
+answer_others ss other = record { all = refl; none = refl; rest = refl }
 
 -- a receiver answers with acks
 publish_acks : (q : QoS) (b : Broker) (p : Publish) → Acks (option_to_list (serve_publish q b p).0)
-publish_acks AtMostOnce b p = record { all = refl; none = refl }
-publish_acks AtLeastOnce b p = record { all = refl; none = refl }
-publish_acks ExactlyOnce b p = record { all = refl; none = refl }
+publish_acks AtMostOnce b p = record { all = refl; none = refl; rest = refl }
+publish_acks AtLeastOnce b p = record { all = refl; none = refl; rest = refl }
+publish_acks ExactlyOnce b p = record { all = refl; none = refl; rest = refl }
 
 pub serve_acks : (b : Broker) (x : Packet) → Acks (option_to_list (serve b x).0)
 serve_acks b (packets.Publish p) = publish_acks p.qos b p
-serve_acks b (packets.PubRel a) = record { all = refl; none = refl }
-serve_acks b other = record { all = refl; none = refl }
+serve_acks b (packets.PubRel a) = record { all = refl; none = refl; rest = refl }
+serve_acks b other = record { all = refl; none = refl; rest = refl }
 
 -- what goes up in a world is sent
 sent_sending : (x : Packet) → IsSent x → is_sending x ≡ true
@@ -86,15 +126,15 @@ sent_sending _ (APublish p) = refl
 sent_sending _ (ARelease id) = refl
 
 every_sends : (Q : Packet → Type 0) (ps : List Packet) → Every (GoesUp Q) ps → Sends ps
-every_sends Q [] h = record { all = refl; none = refl }
+every_sends Q [] h = record { all = refl; none = refl; rest = refl }
 every_sends Q (x ∷ ps) h =
     let rest = every_sends Q ps h.1 in
     let f = front_sending x ps (sent_sending x h.0.1) in
-    record { all = f.0 ∙ ap (λ l. x ∷ l) rest.all; none = f.1 ∙ rest.none }
+    record { all = f.0 ∙ ap (λ l. x ∷ l) rest.all; none = f.1 ∙ rest.none; rest = f.2 ∙ rest.rest }
 
 reply_sends : (Q : Packet → Type 0) (r : Result (Option Packet) StateError) → HoldsReply Q r → Sends (reply_in r)
 reply_sends Q (Ok o) h = every_sends Q (option_to_list o) h
-reply_sends Q (Err e) h = record { all = refl; none = refl }
+reply_sends Q (Err e) h = record { all = refl; none = refl; rest = refl }
 
 -- ---- a flow
 
@@ -117,19 +157,30 @@ pub record Ends : Type 0 where
 abbrev pub flow_of : Ends → World
 flow_of e = flow e.sender e.receiver e.there e.back e.taken
 
--- it is a run, and so much is said of all its packets
+-- with id 0
+abbrev pub unnumbered : Publish → Publish
+unnumbered p = record p { pkid = 0 }
+
+-- it is a run, whose publishes are asked for with the ids that they are given, and so much is said of all its packets
 pub record IsFlow (Q : Packet → Type 0) (limit times : ℕ) (v : World) : Type 0 where
   pub events : List WorldEvent
-  pub reached : trim (run_world events (start limit)) ≡ v
+  pub ids : List Publish
+  pub like : map unnumbered ids ≡ map unnumbered v.accepted
+  pub reached : trim (run_world events (start limit)) ≡ record v { accepted = ids }
   pub holds : Holds Q limit (run_world events (start limit))
   pub lost : losses events ≡ times
 
 pub start_flow : (Q : Packet → Type 0) (limit : ℕ) → IsFlow Q limit 0 (trim (start limit))
-start_flow Q limit = record { events = []; reached = refl; holds = holds_start Q limit; lost = refl }
+start_flow Q limit = record { events = []; ids = []; like = refl; reached = refl; holds = holds_start Q limit; lost = refl }
 
 -- the same but for the other flow
 pub same_flow : (s t : Session) (b d : Broker) (forth ahead back behind : List Packet) (ps : List Publish) → part t ≡ part s → d ≡ b → sent ahead ≡ sent forth → acks behind ≡ acks back → flow t d ahead behind ps ≡ flow s b forth back ps
 same_flow s t b d forth ahead back behind ps e f g h = λ n. record { session = e n; broker = f n; up = g n; down = h n; accepted = ps; refused = []; faults = [] }
+
+numbered_blank : (q : QoS) (c : Core) (p : Publish) → unnumbered (numbered q c p) ≡ unnumbered p
+numbered_blank AtMostOnce c p = refl
+numbered_blank AtLeastOnce c p = refl
+numbered_blank ExactlyOnce c p = refl
 
 if_so : (a : Result (Option Packet) StateError) (P : Type 0) → P → IfAccepted a P
 if_so (Ok o) P h = h
@@ -178,19 +229,21 @@ module _ (Q : Packet → Type 0) (closed : Closed Q) (limit lost : ℕ) (ends : 
       let k : HoldsCore Q limit (part s).core = subst (λ (r : Session). HoldsCore Q limit r.core) same_part (record { limited = h.limited; in_use = h.in_use; waits = h.waits }) in
       record { limited = k.limited; in_use = k.in_use; waits = k.waits }
 
-  on : (v : World) (e : WorldEvent) (m : ℕ) → trim (happens w e) ≡ v → Owes Q w e → lost + losses (e ∷ []) ≡ m → IsFlow Q limit m v
-  on v e m same owes l =
+  on : (v : World) (ids : List Publish) → map unnumbered ids ≡ map unnumbered v.accepted → (e : WorldEvent) (m : ℕ) → trim (happens w e) ≡ record v { accepted = ids } → Owes Q w e → lost + losses (e ∷ []) ≡ m → IsFlow Q limit m v
+  on v ids like e m same owes l =
       record {
         events = i.events ++ e ∷ [];
+        ids = ids;
+        like = like;
         reached = ap trim (run_append i.events (e ∷ []) (start limit)) ∙ same;
         holds = subst (Holds Q limit) (sym (run_append i.events (e ∷ []) (start limit))) (holds_next Q limit closed w e inv i.holds owes);
         lost = let a = losses_append i.events (e ∷ []) in let c = i.lost in omega (arith, a, c, l);
       }
 
-  goes : (v : World) (e : WorldEvent) → trim (happens w e) ≡ v → Owes Q w e → losses (e ∷ []) ≡ 0 → Deliveries (e ∷ []) → delivered (e ∷ []) w ≡ 1 → Goes Q limit lost (flow_of ends) v
-  goes v e same owes none d one =
+  goes : (v : World) → v.accepted ≡ ps → (e : WorldEvent) → trim (happens w e) ≡ record v { accepted = i.ids } → Owes Q w e → losses (e ∷ []) ≡ 0 → Deliveries (e ∷ []) → delivered (e ∷ []) w ≡ 1 → Goes Q limit lost (flow_of ends) v
+  goes v kept e same owes none d one =
       record {
-        still = on v e lost same owes (omega (arith, none));
+        still = on v i.ids (i.like ∙ ap (map unnumbered) (sym kept)) e lost same owes (omega (arith, none));
         less = let l = lowers (e ∷ []) w d in let c = ap work same in let k = ap work i.reached in omega (arith, l, c, k, one);
       }
 
@@ -207,14 +260,23 @@ module _ (Q : Packet → Type 0) (closed : Closed Q) (limit lost : ℕ) (ends : 
       let a = out_alike w.session s p same_part in
       by (on_request s (requests.Publish p) 0).0 (on_request s (requests.Publish p) 0).1 a.reply a.after (sends_out p q)
     where
-      by : (r : Result (Option Packet) StateError) (t : Session) → (on_request w.session (requests.Publish p) 0).0 ≡ r → part (on_request w.session (requests.Publish p) 0).1 ≡ part t → Sends (reply_in r) → Asked p r t
+      given : Publish
+      given = numbered p.qos s.core p
+
+      owed : Q (packets.Publish (numbered given.qos w.session.core given))
+      owed = subst (λ x. Q (packets.Publish x)) (sym (numbered_again s.core w.session.core p)) (q s.core)
+
+      alike : map unnumbered (i.ids ++ given ∷ []) ≡ map unnumbered (ps ++ p ∷ [])
+      alike = map-append unnumbered i.ids (given ∷ []) ∙ ap (λ l. l ++ unnumbered given ∷ []) i.like ∙ ap (λ x. map unnumbered ps ++ x ∷ []) (numbered_blank p.qos s.core p) ∙ sym (map-append unnumbered ps (p ∷ []))
+
+      by : (r : Result (Option Packet) StateError) (t : Session) → (on_request w.session (requests.Publish given) 0).0 ≡ r → part (on_request w.session (requests.Publish given) 0).1 ≡ part t → Sends (reply_in r) → Asked p r t
       by (Ok reply) t e f k =
-          on (flow t b (forth ++ option_to_list reply) back (ps ++ p ∷ [])) (events.Publish p) lost
-          (ap (λ r. trim (after_request w p r (on_request w.session (requests.Publish p) 0).1)) e
-          ∙ (λ n. record (trim w) { session = f n; up = w.up ++ option_to_list reply; accepted = w.accepted ++ p ∷ [] })
-          ∙ ap (λ (v : World). record v { session = part t; up = v.up ++ option_to_list reply; accepted = v.accepted ++ p ∷ [] }) i.reached
-          ∙ (λ n. record (flow_of ends) { session = part t; up = sym (behind_sends forth (option_to_list reply) k).0 n; accepted = ps ++ p ∷ [] }))
-          (if_so (on_request w.session (requests.Publish p) 0).0 (Q (packets.Publish (numbered p.qos w.session.core p))) (q w.session.core)) (omega arith)
+          on (flow t b (forth ++ option_to_list reply) back (ps ++ p ∷ [])) (i.ids ++ given ∷ []) alike (events.Publish given) lost
+          (ap (λ r. trim (after_request w given r (on_request w.session (requests.Publish given) 0).1)) e
+          ∙ (λ n. record (trim w) { session = f n; up = w.up ++ option_to_list reply; accepted = w.accepted ++ given ∷ [] })
+          ∙ ap (λ (v : World). record v { session = part t; up = v.up ++ option_to_list reply; accepted = v.accepted ++ given ∷ [] }) i.reached
+          ∙ (λ n. record (flow_of ends) { session = part t; up = sym (behind_sends forth (option_to_list reply) k).0 n; accepted = i.ids ++ given ∷ [] }))
+          (if_so (on_request w.session (requests.Publish given) 0).0 (Q (packets.Publish (numbered given.qos w.session.core given))) owed) (omega arith)
       by (Err e) t f g k = tt {0}
 
   -- the first packet that is sent
@@ -227,19 +289,19 @@ module _ (Q : Packet → Type 0) (closed : Closed Q) (limit lost : ℕ) (ends : 
   -- it arrives at the receiver
   pub serves : (x : Packet) (rest : List Packet) → forth ≡ x ∷ rest → is_sending x ≡ true → Goes Q limit lost (flow_of ends) (flow s (serve b x).1 rest (back ++ option_to_list (serve b x).0) ps)
   serves x rest f e =
-      goes _ events.Up
+      goes _ refl events.Up
       (ap (λ us. trim (arrives w us)) up
       ∙ ap (λ (v : World). record v { up = sent rest; broker = (serve v.broker x).1; down = v.down ++ option_to_list (serve v.broker x).0 }) i.reached
-      ∙ (λ n. record (flow_of ends) { up = sent rest; broker = (serve b x).1; down = sym (behind_acks back (option_to_list (serve b x).0) (serve_acks b x)).0 n }))
+      ∙ (λ n. record (flow_of ends) { accepted = i.ids; up = sent rest; broker = (serve b x).1; down = sym (behind_acks back (option_to_list (serve b x).0) (serve_acks b x)).0 n }))
       (tt {0}) refl (tt {0}) (let a = ap found up in omega (arith, a))
     where
       up : w.up ≡ x ∷ sent rest
       up = up_is x rest f e
 
   -- an ack comes back
-  module _ (x : Packet) (rest : List Packet) (f : back ≡ x ∷ rest) (e : is_sending x ≡ false) where
+  module _ (x : Packet) (rest : List Packet) (f : back ≡ x ∷ rest) (e : is_sending x ≡ false) (h : is_an_ack x ≡ true) where
     down : w.down ≡ x ∷ acks rest
-    down = ap (λ (v : World). v.down) i.reached ∙ (first_ack back x rest f e).0
+    down = ap (λ (v : World). v.down) i.reached ∙ (first_ack back x rest f e h).0
 
     comes_down : ComesDown Q x
     comes_down = let h : Every (ComesDown Q) (x ∷ acks rest) = subst (Every (ComesDown Q)) down i.holds.down in h.0
@@ -253,12 +315,12 @@ module _ (Q : Packet → Type 0) (closed : Closed Q) (limit lost : ℕ) (ends : 
     pub comes_back : Goes Q limit lost (flow_of ends) (flow (on_packet s x 0).1 b (forth ++ reply_in (on_packet s x 0).0) rest ps)
     comes_back =
         let a = ack_alike w.session s x is_ack same_part in
-        goes _ events.Down
+        goes _ refl events.Down
         (ap (λ ds. trim (returns w ds)) down
         ∙ ap trim (heard_is (record w { down = acks rest }) (on_packet w.session x 0).0 (on_packet w.session x 0).1 inv.none none)
         ∙ (λ n. record (trim w) { session = a.after n; up = w.up ++ reply_in (a.reply n); down = acks rest })
         ∙ ap (λ (v : World). record v { session = part (on_packet s x 0).1; up = v.up ++ reply_in (on_packet s x 0).0; down = acks rest }) i.reached
-        ∙ (λ n. record (flow_of ends) { session = part (on_packet s x 0).1; up = sym (behind_sends forth (reply_in (on_packet s x 0).0) sends_back).0 n; down = acks rest }))
+        ∙ (λ n. record (flow_of ends) { accepted = i.ids; session = part (on_packet s x 0).1; up = sym (behind_sends forth (reply_in (on_packet s x 0).0) sends_back).0 n; down = acks rest }))
         (tt {0}) refl (tt {0}) (let c = ap found down in omega (arith, c))
       where
         none : (returns w (x ∷ acks rest)).faults ≡ []
@@ -282,12 +344,12 @@ module _ (Q : Packet → Type 0) (closed : Closed Q) (limit lost : ℕ) (ends : 
 
     pub loses : (others : List Packet) → Sends others → IsFlow Q limit (lost + 1) (flow (again_of (connected m s)).1 b (again_of (connected m s)).0 others ps)
     loses others k =
-        on _ (events.Loss m) (lost + 1)
+        on _ i.ids i.like (events.Loss m) (lost + 1)
         (ap (λ r. trim (resumes (after_reply emptied r g))) (taken_reply w.session m)
         ∙ ap (λ r. trim (after_resume (after_reply emptied (Ok None) g) r)) (resumes_taken w m inv)
         ∙ (λ n. record (trim w) { session = same.1 n; up = same.0 n; down = [] })
         ∙ ap (λ (v : World). record v { session = part (again_of (connected m s)).1; up = (again_of (connected m s)).0; down = [] }) i.reached
-        ∙ (λ n. record (flow_of ends) { session = part (again_of (connected m s)).1; up = sym sends_on.all n; down = sym k.none n }))
+        ∙ (λ n. record (flow_of ends) { accepted = i.ids; session = part (again_of (connected m s)).1; up = sym sends_on.all n; down = sym k.none n }))
         (tt {0}) (omega arith)
       where
         g : Session

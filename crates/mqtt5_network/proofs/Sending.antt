@@ -1,5 +1,5 @@
 -- The part of a session that sends depends on itself alone, and a call of it keeps the part that receives.
-use Rattle.std.proofs.Common.{◌≡◌, ℕ, ◌+◌, ◌<◌, ◌≤◌, arith, nat_le, Err, Bool, true, false, cond, List, [], ◌∷◌, ◌++◌, Option, Some, None, Ok, refl, sym, ap, ◌∙◌, append-nil, ◌==◌}
+use Rattle.std.proofs.Common.{◌≡◌, ℕ, ◌+◌, ◌<◌, ◌≤◌, arith, nat_le, Err, Bool, true, false, cond, List, [], ◌∷◌, ◌++◌, Option, Some, None, Ok, refl, sym, ap, ◌∙◌, append-nil, ◌==◌, length, ne_eqb}
 use Rattle.std.specs.Prelude.{sum_by}
 use Rattle.std.specs.List.{filter_map}
 use Rattle.std.proofs.lemmas.Bool.{leb-false}
@@ -19,23 +19,28 @@ use Rattle.mqtt5_inflight.specs.declared.event.Event.TheVariants as events
 use Rattle.mqtt5_inflight.specs.declared.event.Request.TheVariants as requests
 use Rattle.mqtt5_inflight.specs.declared.event.Outgoing.TheVariants as outgoing
 use Rattle.mqtt5_inflight.specs.declared.error.StateError.{StateError}
+use Rattle.mqtt5_inflight.specs.declared.error.StateError.TheVariants as errors
+use Rattle.mqtt5_subscribe.specs.declared.subscribe.Subscribe.{Subscribe}
+use Rattle.mqtt5_subscribe.specs.declared.unsubscribe.Unsubscribe.{Unsubscribe}
+use Rattle.mqtt5_subscribe.specs.declared.suback.SubAck.{SubAck}
+use Rattle.mqtt5_subscribe.specs.declared.unsuback.UnsubAck.{UnsubAck}
 use Rattle.mqtt5_session.specs.Session.{Core, Session, Answer}
-use Rattle.mqtt5_session.specs.Requests.{on_request, unless, over_maximum, Verdict, Refuse, Wait, Store, verdict_of, out_acked, out_publish, id_for, next_id, last_given, last_after, with_event_at}
+use Rattle.mqtt5_session.specs.Requests.{on_request, unless, over_maximum, Verdict, Refuse, Wait, Store, verdict_of, out_acked, out_publish, id_for, next_id, last_given, last_after, with_event_at, gives_id}
 use Rattle.mqtt5_session.specs.Packets.{on_packet, answer_to, with_incoming, freed_for, on_puback, on_pubrec, on_pubcomp, puback_of, pubrec_of, pubcomp_of}
 use Rattle.mqtt5_session.specs.Again.{event_for}
 use Rattle.mqtt5_world.specs.World.{taken_back}
-use Rattle.mqtt5_progress.specs.Packets.{IsAck, OfPublish, OfFirst, OfRelease}
+use Rattle.mqtt5_progress.specs.Packets.{IsAck, OfPublish, OfFirst, OfRelease, numbered}
 use Rattle.mqtt5_progress.proofs.Closed.{again_of}
 use Rattle.mqtt5_network.specs.Receiver.{publish_in, shown, as_receiver}
 use Rattle.mqtt5_progress.specs.Progress.{work_of, work_up, work_waiting}
-use Rattle.mqtt5_network.specs.Client.{reply_in, connected}
+use Rattle.mqtt5_network.specs.Connection.{reply_in, connected}
 
 -- ---- the two parts
 
--- what sends: the ids in use and what they are given from
+-- what sends: the ids in use, but for the last id that was given, which requests for subscriptions move too
 abbrev pub part : Session → Session
 part s = record {
-  core = record s.core { aliases = map.empty; manual_acks = false; incoming = set.empty };
+  core = record s.core { last = 0; aliases = map.empty; manual_acks = false; incoming = set.empty };
   awaits_ping = false;
   collision_pings = 0;
   events = [];
@@ -105,7 +110,7 @@ last_range c id i = by (id == 0)
     by false = i.last
 
 -- a publish is asked for
-acked_apart : (v : Verdict) (s : Session) (p : Publish) (last : ℕ) → (InRange s.core → last < s.core.limit) → Apart s (out_acked v s p last 0) (out_acked v (part s) p last 0)
+acked_apart : (v : Verdict) (s : Session) (p : Publish) (last : ℕ) → (InRange s.core → last < s.core.limit) → Apart s (out_acked v s p last 0) (out_acked v (part s) p 0 0)
 acked_apart (Refuse e) s p last l = refused s e
 acked_apart Wait s p last l =
     record {
@@ -135,14 +140,41 @@ once_apart None s p =
     }
 once_apart (Some e) s p = refused s e
 
-publish_apart : (q : QoS) (s : Session) (p : Publish) → Apart s (out_publish q s p 0) (out_publish q (part s) p 0)
+-- a publish with its id, of a sending part
+abbrev with_id : QoS → Session → Publish → Answer
+with_id AtMostOnce r p = unless (over_maximum r.core p) r (Ok (Some (packets.Publish p)), with_event_at r (outgoing.Publish p.pkid) 0)
+with_id AtLeastOnce r p = out_acked (verdict_of r.core p) r p 0 0
+with_id ExactlyOnce r p = out_acked (verdict_of r.core p) r p 0 0
+
+publish_apart : (q : QoS) (s : Session) (p : Publish) → Apart s (out_publish q s p 0) (with_id q (part s) (numbered q s.core p))
 publish_apart AtMostOnce s p = once_apart (over_maximum s.core p) s p
 publish_apart AtLeastOnce s p = acked_apart (verdict_of s.core (record p { pkid = id_for s.core p.pkid })) s (record p { pkid = id_for s.core p.pkid }) (last_after s.core p.pkid) (last_range s.core p.pkid)
 publish_apart ExactlyOnce s p = acked_apart (verdict_of s.core (record p { pkid = id_for s.core p.pkid })) s (record p { pkid = id_for s.core p.pkid }) (last_after s.core p.pkid) (last_range s.core p.pkid)
 
-pub out_apart : (s : Session) (p : Publish) → Apart s (on_request s (requests.Publish p) 0) (on_request (part s) (requests.Publish p) 0)
+pub out_apart : (s : Session) (p : Publish) → Apart s (on_request s (requests.Publish p) 0) (with_id p.qos (part s) (numbered p.qos s.core p))
 unfolding on_request
 out_apart s p = publish_apart p.qos s p
+
+-- an id that was given is kept
+given_id : (c d : Core) (id : ℕ) → id_for d (id_for c id) ≡ id_for c id
+given_id c d id = by (id == 0) refl
+  where
+    by : (b : Bool) → (id == 0) ≡ b → id_for d (cond b (next_id c) id) ≡ cond b (next_id c) id
+    by true e = ap (λ b. cond b (next_id d) (next_id c)) (ne_eqb (next_id c) 0 (λ h. absurd (omega (arith, h))))
+    by false e = ap (λ b. cond b (next_id d) id) e
+
+numbered_qos : (q : QoS) (c : Core) (p : Publish) → (numbered q c p).qos ≡ p.qos
+numbered_qos AtMostOnce c p = refl
+numbered_qos AtLeastOnce c p = refl
+numbered_qos ExactlyOnce c p = refl
+
+numbered_twice : (q : QoS) (c d : Core) (p : Publish) → numbered q d (numbered q c p) ≡ numbered q c p
+numbered_twice AtMostOnce c d p = refl
+numbered_twice AtLeastOnce c d p = ap (λ i. record p { pkid = i }) (given_id c d p.pkid)
+numbered_twice ExactlyOnce c d p = ap (λ i. record p { pkid = i }) (given_id c d p.pkid)
+
+pub numbered_again : (c d : Core) (p : Publish) → numbered (numbered p.qos c p).qos d (numbered p.qos c p) ≡ numbered p.qos c p
+numbered_again c d p = ap (λ q. numbered q d (numbered p.qos c p)) (numbered_qos p.qos c p) ∙ numbered_twice p.qos c d p
 
 -- an ack comes
 alone_apart : (s : Session) (id : ℕ) → Apart s (freed_for None s id 0) (freed_for None (part s) id 0)
@@ -211,11 +243,49 @@ pub record Alike (a b : Answer) : Type 0 where
 alike_by : (f : Session → Answer) {u v : Session} (s t : Session) (a b : Answer) → Apart u a (f (part s)) → Apart v b (f (part t)) → part s ≡ part t → Alike a b
 alike_by f s t a b h k e = record { reply = h.reply ∙ ap (λ r. (f r).0) e ∙ sym k.reply; after = h.after ∙ ap (λ r. part (f r).1) e ∙ sym k.after }
 
-pub out_alike : (s t : Session) (p : Publish) → part s ≡ part t → Alike (on_request s (requests.Publish p) 0) (on_request t (requests.Publish p) 0)
-out_alike s t p e = alike_by (λ r. on_request r (requests.Publish p) 0) s t _ _ (out_apart s p) (out_apart t p) e
+-- one that asks with the id that the other gives
+pub out_alike : (w s : Session) (p : Publish) → part w ≡ part s → Alike (on_request w (requests.Publish (numbered p.qos s.core p)) 0) (on_request s (requests.Publish p) 0)
+out_alike w s p e =
+    let h = out_apart w (numbered p.qos s.core p) in
+    let k = out_apart s p in
+    let m : with_id (numbered p.qos s.core p).qos (part w) (numbered (numbered p.qos s.core p).qos w.core (numbered p.qos s.core p)) ≡ with_id p.qos (part s) (numbered p.qos s.core p) =
+    λ n. with_id (numbered_qos p.qos s.core p n) (e n) (numbered_again s.core w.core p n) in
+    record { reply = h.reply ∙ ap (λ (a : Answer). a.0) m ∙ sym k.reply; after = h.after ∙ ap (λ (a : Answer). part a.1) m ∙ sym k.after }
 
 pub ack_alike : (s t : Session) (x : Packet) → IsAck x → part s ≡ part t → Alike (on_packet s x 0) (on_packet t x 0)
 ack_alike s t x i e = alike_by (λ r. answer_to r x 0) s t _ _ (ack_apart s x i) (ack_apart t x i) e
+
+-- ---- what is about subscriptions
+
+-- it changes neither part, and sends what is neither an ack nor sent by a sender
+pub record Aside (s : Session) (a : Answer) : Type 0 where
+  pub kept : Kept s a.1
+  pub same : part a.1 ≡ part s
+
+aside : (s : Session) (e : StateError) → Aside s (Err e, s)
+aside s e = record { kept = record { seen = refl; own = refl }; same = refl }
+
+pub subscribe_aside : (s : Session) (p : Subscribe) → Aside s (on_request s (requests.Subscribe p) 0)
+unfolding on_request
+subscribe_aside s p = by (length p.filters == 0)
+  where
+    by : (b : Bool) → Aside s (cond b (Err errors.EmptySubscription, s) (Ok (Some (packets.Subscribe (record p { pkid = next_id s.core }))), with_event_at (gives_id s) (outgoing.Subscribe (next_id s.core)) 0))
+    by true = aside s errors.EmptySubscription
+    by false = record { kept = told_kept s _ (events.Outgoing (outgoing.Subscribe (next_id s.core))) refl refl refl refl; same = refl }
+
+pub unsubscribe_aside : (s : Session) (p : Unsubscribe) → Aside s (on_request s (requests.Unsubscribe p) 0)
+unfolding on_request
+unsubscribe_aside s p = record { kept = told_kept s _ (events.Outgoing (outgoing.Unsubscribe (next_id s.core))) refl refl refl refl; same = refl }
+
+-- what the broker answers to them
+pub data IsAnswer : Packet → Type 0 where
+  ToSubscribe : (p : SubAck) → IsAnswer (packets.SubAck p)
+  ToUnsubscribe : (p : UnsubAck) → IsAnswer (packets.UnsubAck p)
+
+pub answer_aside : (s : Session) (x : Packet) → IsAnswer x → ((on_packet s x 0).0 ≡ Ok None) × Aside s (on_packet s x 0)
+unfolding on_packet
+answer_aside s _ (ToSubscribe p) = (refl, record { kept = told_kept s _ (events.Incoming (packets.SubAck p)) refl refl refl refl; same = refl })
+answer_aside s _ (ToUnsubscribe p) = (refl, record { kept = told_kept s _ (events.Incoming (packets.UnsubAck p)) refl refl refl refl; same = refl })
 
 -- ---- a new connection
 

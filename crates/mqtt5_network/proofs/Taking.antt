@@ -15,7 +15,7 @@ use Rattle.mqtt5_session.specs.Requests.{on_request, unless, over_maximum, alias
 use Rattle.mqtt5_session.specs.Packets.{on_packet}
 use Rattle.mqtt5_progress.specs.Progress.{IsIdle}
 use Rattle.mqtt5_progress.proofs.Closed.{again_of}
-use Rattle.mqtt5_network.specs.Client.{connected}
+use Rattle.mqtt5_network.specs.Connection.{connected}
 use Rattle.mqtt5_network.proofs.Sending.{InRange}
 
 -- ---- the last id stays within the limit

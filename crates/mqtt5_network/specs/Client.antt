@@ -1,32 +1,32 @@
 -- A client that publishes and subscribes over one connection, and what a broker keeps for it (MQTT
--- 5.0 sections 3.3.4 and 4.1 to 4.4).
-use Rattle.std.specs.Prelude.{ℕ, ◌+◌, Bool, true, false, List, [], ◌∷◌, ◌++◌, drop, Option, Some}
-use Rattle.std.specs.Prelude.{None, Result, Ok, Err}
+-- 5.0 sections 3.3.4, 3.8 to 3.11, and 4.1 to 4.4).
+use Rattle.std.specs.Prelude.{ℕ, ◌+◌, Bool, true, false, List, [], ◌∷◌, ◌++◌, Option}
+use Rattle.std.specs.Prelude.{Result, Ok, Err}
 use Rattle.std.specs.Option.{option_to_list}
+use Rattle.std.specs.List.{filter_map}
 use Rattle.mqtt5_publish.specs.declared.publish.Publish.{Publish}
 use Rattle.mqtt5_codec.specs.declared.packet.Packet.{Packet}
-use Rattle.mqtt5_codec.specs.declared.packet.Packet.TheVariants as packets
+use Rattle.mqtt5_inflight.specs.declared.event.Request.{Request}
 use Rattle.mqtt5_inflight.specs.declared.event.Request.TheVariants as requests
 use Rattle.mqtt5_inflight.specs.declared.error.StateError.{StateError}
 use Rattle.mqtt5_session.specs.Session.{Session, fresh}
 use Rattle.mqtt5_session.specs.Requests.{on_request}
 use Rattle.mqtt5_session.specs.Packets.{on_packet}
-use Rattle.mqtt5_session.specs.Resuming.{Sendings, resume_of}
+use Rattle.mqtt5_session.specs.Resuming.{resume_of}
 use Rattle.mqtt5_session.specs.Ledger.{kept_by}
 use Rattle.mqtt5_world.specs.Broker.{Broker, idle, serve}
-use Rattle.mqtt5_world.specs.World.{taken_back}
-use Rattle.mqtt5_network.specs.declared.event.ClientEvent.{ClientEvent}
-use Rattle.mqtt5_network.specs.declared.event.ClientEvent.TheVariants as events
-use Rattle.mqtt5_base.specs.declared.quality.QoS.{QoS}
-use Rattle.mqtt5_network.specs.Forwarded.{Subscription, granted_for, forwarded}
+use Rattle.mqtt5_network.specs.Connection.{reply_in, is_sending, sent_in}
+use Rattle.mqtt5_network.specs.declared.subscription.Subscription.{Subscription}
+use Rattle.mqtt5_network.specs.Subscriptions.{forwarded_to}
+use Rattle.mqtt5_network.specs.Asking.{is_ack, subscriptions_after, answer_of}
 
 -- ---- a client
 
 -- The client's session; the broker as the receiver of what the client sends, and the broker's
 -- session as the sender of what goes to the client (4.3); the packets on their way up to the broker
--- and down to the client (4.2); the publishes that the client's session accepted; how many of those
--- that the broker handed on are passed for this client; the client's subscriptions; and how often
--- its connection was lost.
+-- and down to the client (4.2); the publishes that the client's session accepted; its subscriptions
+-- (3.8); the publishes that the broker has still to send to it, as they are forwarded, and those
+-- that the sender took on of them; and on how many new connections it came.
 pub record Client : Type 0 where
   pub session : Session
   pub receiver : Broker
@@ -34,12 +34,17 @@ pub record Client : Type 0 where
   pub up : List Packet
   pub down : List Packet
   pub accepted : List Publish
-  pub passed : ℕ
   pub subscriptions : List Subscription
+  pub queue : List Publish
+  pub taken : List Publish
   pub lost : ℕ
 
--- a client that has sent nothing, of which the broker has nothing; with the greatest id that the
--- client uses, the greatest that the broker uses to it (2.2.1), and its subscriptions
+-- all that was ever put into its queue, in order
+abbrev pub routed : Client → List Publish
+routed c = c.taken ++ c.queue
+
+-- a client that has sent nothing, of which the broker has its subscriptions alone; with the
+-- greatest id that the client uses, and the greatest that the broker uses to it (2.2.1)
 abbrev pub new_client : ℕ → ℕ → List Subscription → Client
 new_client limit sender_limit subscriptions = record {
   session = fresh limit false;
@@ -48,17 +53,13 @@ new_client limit sender_limit subscriptions = record {
   up = [];
   down = [];
   accepted = [];
-  passed = 0;
   subscriptions = subscriptions;
+  queue = [];
+  taken = [];
   lost = 0;
 }
 
 -- ---- requests and deliveries
-
--- the packets that a session replies
-abbrev pub reply_in : Result (Option Packet) StateError → List Packet
-reply_in (Ok reply) = option_to_list reply
-reply_in (Err e) = []
 
 -- the client asked for a publish: it is accepted, and the reply goes up, or it is refused
 abbrev pub asked_of : Client → Publish → Result (Option Packet) StateError → Session → Client
@@ -73,28 +74,35 @@ asked_of c p (Err e) s = c
 abbrev pub asks_for : Client → Publish → Client
 asks_for c p = let a = on_request c.session (requests.Publish p) 0 in asked_of c p a.0 a.1
 
--- whether a packet goes from a sender to a receiver, as a publish and its release do; an ack goes
--- back (4.3)
-abbrev pub is_sending : Packet → Bool
-is_sending (packets.Publish p) = true
-is_sending (packets.PubRel p) = true
-is_sending other = false
+-- the client asked for something else: the reply goes up, or it is refused
+abbrev pub sends_of : Client → Result (Option Packet) StateError → Session → Client
+sends_of c (Ok reply) s = record c { session = s; up = c.up ++ option_to_list reply }
+sends_of c (Err e) s = c
 
--- a packet comes to the broker, as the receiver or as the sender, and the reply goes down
-abbrev pub comes_to : Bool → Client → Packet → Client
-comes_to true c x = record c {
+-- it asks for it, at moment 0
+abbrev pub requests_for : Client → Request → Client
+requests_for c r = let a = on_request c.session r 0 in sends_of c a.0 a.1
+
+-- a packet comes to the broker, as the receiver, as the sender, or about subscriptions, and the
+-- reply goes down
+abbrev pub comes_to : Bool → Bool → Client → Packet → Client
+comes_to true b c x = record c {
   receiver = (serve c.receiver x).1;
   down = c.down ++ option_to_list (serve c.receiver x).0;
 }
-comes_to false c x = record c {
+comes_to false true c x = record c {
   sender = (on_packet c.sender x 0).1;
   down = c.down ++ reply_in (on_packet c.sender x 0).0;
+}
+comes_to false false c x = record c {
+  subscriptions = subscriptions_after c.subscriptions x;
+  down = c.down ++ option_to_list (answer_of c.subscriptions x);
 }
 
 -- the first packet on its way up arrives, if there is one
 abbrev pub goes_up : Client → List Packet → Client
 goes_up c [] = c
-goes_up c (x ∷ rest) = comes_to (is_sending x) (record c { up = rest }) x
+goes_up c (x ∷ rest) = comes_to (is_sending x) (is_ack x) (record c { up = rest }) x
 
 -- the client takes a packet, and the reply goes up
 abbrev pub takes_in : Client → Packet → Client
@@ -108,46 +116,34 @@ abbrev pub goes_down : Client → List Packet → Client
 goes_down c [] = c
 goes_down c (x ∷ rest) = takes_in (record c { down = rest }) x
 
--- ---- what is forwarded
+-- ---- the queue
 
--- the publishes that were handed on and aren't passed yet
-abbrev pub left_for : List Publish → Client → List Publish
-left_for handed c = drop c.passed handed
+-- of publishes that are handed on, the client's own or another's, what is forwarded under its
+-- subscriptions as they are now goes to the end of its queue (3.3.4)
+abbrev pub queues : Bool → List Publish → Client → Client
+queues own ps c = record c {
+  queue = c.queue ++ filter_map (forwarded_to own c.subscriptions) ps;
+}
 
--- the sender takes a publish on, and the reply goes down; or it refuses it for now, where another
--- one waits (2.2.1)
-abbrev pub taken_for : Client → Result (Option Packet) StateError → Session → Client
-taken_for c (Ok reply) s = record c {
-  passed = c.passed + 1;
+-- the sender takes the first of the queue on, and the reply goes down; or it refuses it for now,
+-- where another one waits (2.2.1)
+abbrev pub taken_for : Client → Publish → List Publish → Result (Option Packet) StateError → Session
+    → Client
+taken_for c p rest (Ok reply) s = record c {
   sender = s;
   down = c.down ++ option_to_list reply;
+  queue = rest;
+  taken = c.taken ++ p ∷ [];
 }
-taken_for c (Err e) s = c
+taken_for c p rest (Err e) s = c
 
--- it is asked to
-abbrev pub forwards_to : Client → Publish → Client
-forwards_to c p = let a = on_request c.sender (requests.Publish p) 0 in taken_for c a.0 a.1
-
--- a publish is passed: it is forwarded, if a QoS is granted for it (3.3.4)
-abbrev pub passes_under : Option QoS → Client → Publish → Client
-passes_under (Some q) c p = forwards_to c (forwarded q p)
-passes_under None c p = record c { passed = c.passed + 1 }
-
--- the next one is passed, if there is one
+-- it is asked to, if there is one
 abbrev pub passes_on : Client → List Publish → Client
 passes_on c [] = c
-passes_on c (p ∷ rest) = passes_under (granted_for c.subscriptions p) c p
+passes_on c (p ∷ rest) =
+    let a = on_request c.sender (requests.Publish p) 0 in taken_for c p rest a.0 a.1
 
 -- ---- a new connection
-
--- a session on a new connection: it learns the other side's receive maximum (3.1.2.11.3, 3.2.2.3.3)
-abbrev pub connected : Option ℕ → Session → Session
-connected m s = (on_packet s (taken_back m) 0).1
-
--- what it sends again (4.4)
-abbrev pub sent_in : Sendings → List Packet
-sent_in (Ok r) = r.0
-sent_in (Err e) = []
 
 -- both sides take up their session, and nothing of the old connection is on its way (4.4)
 abbrev pub reconnects : Client → Session → Session → Client
@@ -158,13 +154,3 @@ reconnects c session sender = record c {
   down = sent_in (resume_of sender 0);
   lost = c.lost + 1;
 }
-
--- ---- events
-
--- an event of a client, where the broker handed these publishes on
-abbrev pub happens_to : List Publish → Client → ClientEvent → Client
-happens_to handed c (events.Ask p) = asks_for c p
-happens_to handed c events.Up = goes_up c c.up
-happens_to handed c events.Down = goes_down c c.down
-happens_to handed c events.PassOn = passes_on c (left_for handed c)
-happens_to handed c (events.Loss m n) = reconnects c (connected m c.session) (connected n c.sender)

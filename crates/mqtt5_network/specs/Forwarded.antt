@@ -1,18 +1,9 @@
--- What a broker forwards to a subscriber of the publishes that it hands on (MQTT 5.0 sections 3.3.1
--- to 3.3.4 and 3.8.4).
-use Rattle.std.specs.Prelude.{Bool, false, List, [], ◌∷◌, Option, Some, None, option_map}
-use Rattle.std.specs.Prelude.{if◌then◌else◌}
-use Rattle.mqtt5_base.specs.Texts.{Utf8}
+-- A publish as a broker forwards it (MQTT 5.0 sections 3.3.1 to 3.3.4 and 3.8.4).
+use Rattle.std.specs.Prelude.{Bool, false, [], Option, Some, None, option_map}
 use Rattle.mqtt5_base.specs.declared.quality.QoS.{QoS}
 use Rattle.mqtt5_base.specs.declared.quality.QoS.TheVariants.{AtMostOnce, AtLeastOnce, ExactlyOnce}
 use Rattle.mqtt5_publish.specs.declared.publish.Publish.{Publish}
 use Rattle.mqtt5_publish.specs.declared.publish.PublishProperties.{PublishProperties}
-use Rattle.mqtt5_progress.specs.Subscribers.{hits}
-
--- a topic filter of a subscriber, and the QoS that was granted for it (3.8.3, 3.9.3)
-pub record Subscription : Type 0 where
-  pub topic_filter : Utf8
-  pub granted : QoS
 
 -- the lesser of two QoS
 abbrev pub lesser : QoS → QoS → QoS
@@ -29,13 +20,6 @@ greater AtMostOnce (Some r) = r
 greater AtLeastOnce (Some r) = r
 greater ExactlyOnce (Some r) = ExactlyOnce
 
--- the greatest QoS that was granted for a filter that matches, if one does (3.3.4)
-abbrev pub granted_for : List Subscription → Publish → Option QoS
-granted_for [] p = None
-granted_for (s ∷ ss) p =
-    if hits (s.topic_filter ∷ []) p then Some (greater s.granted (granted_for ss p))
-    else granted_for ss p
-
 -- without a topic alias (3.3.2.3.4) and the publisher's subscription identifiers (3.3.2.3.8)
 abbrev pub passed_on : PublishProperties → PublishProperties
 passed_on set = record set { topic_alias = None; subscription_identifiers = [] }
@@ -51,15 +35,7 @@ forwarded granted p = record p {
   properties = option_map passed_on p.properties;
 }
 
--- what is forwarded of a publish to a subscriber: once, however many of its filters match (3.3.4)
-abbrev pub forwarded_to : List Subscription → Publish → Option Publish
-forwarded_to subscriptions p = option_map (λ q. forwarded q p) (granted_for subscriptions p)
-
 -- whether there is one that passes a test
 abbrev pub passes : (Publish → Bool) → Option Publish → Bool
 passes test None = false
 passes test (Some p) = test p
-
--- whether a publish reaches a subscriber as one that passes a test
-abbrev pub reaching : List Subscription → (Publish → Bool) → Publish → Bool
-reaching subscriptions test p = passes test (forwarded_to subscriptions p)

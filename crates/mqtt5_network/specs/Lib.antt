@@ -1,5 +1,12 @@
+pub mod Connection
 pub mod Receiver
 pub mod Forwarded
+pub mod Subscriptions
+pub mod Asking
+pub mod Retained
 pub mod Client
+pub mod Place
 pub mod Network
+pub mod Granted
+pub mod Answered
 pub mod Steps

@@ -1,9 +1,14 @@
-//! A broker and its clients, each of which publishes and subscribes over one connection that may
-//! be lost.
+//! A broker that retains messages, and its clients, which subscribe and unsubscribe as they like, go away and come back, and whose
+//! sessions end.
 #![tactic(auto)]
 
 mod event;
 mod laws;
+mod subscription;
 
-pub use event::{ClientEvent, NetworkEvent};
-pub use laws::{clients_law, network_law, receiver_law, steps_law};
+pub use event::{ClientEvent, NetworkEvent, Will};
+pub use laws::{
+    answered_law, clients_law, copies_law, granted_law, receiver_law, retained_law, routing_law,
+    shown_law, standing_law, steps_law, subscribing_law,
+};
+pub use subscription::Subscription;

@@ -1,5 +1,4 @@
 pub mod Asked
-pub mod Passing
 pub mod Placed
 pub mod Stepped
 pub mod Told

@@ -1,7 +1,8 @@
 -- The next step of a network finds something to do, and steps come to rest.
-use Rattle.std.proofs.Common.{◌≡◌, ℕ, zero, suc, ◌+◌, ◌-◌, ◌<◌, ◌≤◌, ◌==◌, true, false, List, [], ◌∷◌, ◌++◌, length, take, drop, Option, Some, None, refl, sym, ap, ◌∙◌, subst, arith, slice_index_or, append-nil, length-append}
+use Rattle.std.proofs.Common.{◌≡◌, ℕ, zero, suc, ◌+◌, ◌-◌, ◌<◌, ◌≤◌, ◌==◌, true, false, List, [], ◌∷◌, ◌++◌, length, take, Some, None, refl, sym, ap, ◌∙◌, subst, arith, slice_index_or, length-append}
+use Rattle.std.specs.Prelude.{Bool}
 use Rattle.std.proofs.lemmas.Bool.{eqb-true}
-use Rattle.std.proofs.lemmas.List.{drop_all, take_all, nil_from_length}
+use Rattle.std.proofs.lemmas.List.{take_all, nil_from_length}
 use Rattle.std.specs.List.{All}
 use Rattle.std.proofs.lemmas.List.Elements.{All-more}
 use Rattle.mqtt5_publish.specs.declared.publish.Publish.{Publish}
@@ -10,23 +11,20 @@ use Rattle.mqtt5_progress.specs.Progress.{found}
 use Rattle.mqtt5_network.specs.declared.event.ClientEvent.{ClientEvent}
 use Rattle.mqtt5_network.specs.declared.event.ClientEvent.TheVariants as events
 use Rattle.mqtt5_network.specs.declared.event.NetworkEvent.{NetworkEvent}
-use Rattle.mqtt5_network.specs.Client.{Client, happens_to, left_for, passes_on}
-use Rattle.mqtt5_network.specs.Network.{Network, Profile, start_network, changed, newly, happens_in, run_network, IsReached, AtRest}
+use Rattle.mqtt5_network.specs.Client.{passes_on}
+use Rattle.mqtt5_network.specs.Place.{Place, becomes_with, passes, AtRest}
+use Rattle.mqtt5_network.specs.Network.{Network, Profile, start_network, changed, routes, handed_by, happens_in, run_network, IsReached}
 use Rattle.mqtt5_network.specs.Steps.{IsStep, Steps, work_left, client_moves, at_place, moves}
-use Rattle.mqtt5_network.proofs.Joined.{IsClient, joined, client_of}
+use Rattle.mqtt5_network.proofs.Joined.{joined, place_of}
+use Rattle.mqtt5_network.proofs.Places.{IsPlace, here_of}
 use Rattle.mqtt5_network.proofs.Stepping.{passes_moves, network_lowers}
-use Rattle.mqtt5_network_play.specs.Plays.{next_for, RestsBefore}
+use Rattle.mqtt5_network_play.specs.Plays.{next_for, next_at, next_of, RestsHere, RestsBefore}
 use Rattle.mqtt5_network_play.specs.Reports.{TakesSteps}
+use Rattle.mqtt5_network_play.proofs.Placed.{none_routed}
 
 -- ---- the next step of a client
 
-pub next_is_step : (us ds : List Packet) (ps : List Publish) (e : ClientEvent) → next_for us ds ps ≡ Some e → IsStep e
-next_is_step (x ∷ us) ds ps e h = let k : events.Up ≡ e = cc in subst IsStep k (tt {0})
-next_is_step [] (x ∷ ds) ps e h = let k : events.Down ≡ e = cc in subst IsStep k (tt {0})
-next_is_step [] [] (p ∷ ps) e h = let k : events.PassOn ≡ e = cc in subst IsStep k (tt {0})
-next_is_step [] [] [] e h = absurd cc
-
-not_none : (x : Packet) (xs : List Packet) → (length (x ∷ xs) == 0) ≡ true → ⊥
+not_none : {A : Type 0} (x : A) (xs : List A) → (length (x ∷ xs) == 0) ≡ true → ⊥
 not_none x xs h = let e = eqb-true (length (x ∷ xs)) 0 h in omega (arith, e)
 
 pub next_up : (us ds : List Packet) (ps : List Publish) → (length us == 0) ≡ false → next_for us ds ps ≡ Some events.Up
@@ -38,102 +36,134 @@ next_down (x ∷ us) ds ps h k = absurd (not_none x us h)
 next_down [] [] ps h k = absurd cc
 next_down [] (x ∷ ds) ps h k = refl
 
-pub next_pass : (us ds : List Packet) (n : ℕ) (ps : List Publish) → (length us == 0) ≡ true → (length ds == 0) ≡ true → n < length ps → next_for us ds (drop n ps) ≡ Some events.PassOn
-next_pass (x ∷ us) ds n ps h k below = absurd (not_none x us h)
-next_pass [] (x ∷ ds) n ps h k below = absurd (not_none x ds k)
-next_pass [] [] n [] h k below = absurd (omega arith)
-next_pass [] [] zero (p ∷ ps) h k below = refl
-next_pass [] [] (suc n) (p ∷ ps) h k below = next_pass [] [] n ps h k (omega arith)
+pub next_pass : (us ds : List Packet) (ps : List Publish) → (length us == 0) ≡ true → (length ds == 0) ≡ true → (length ps == 0) ≡ false → next_for us ds ps ≡ Some events.PassOn
+next_pass (x ∷ us) ds ps h k l = absurd (not_none x us h)
+next_pass [] (x ∷ ds) ps h k l = absurd (not_none x ds k)
+next_pass [] [] [] h k l = absurd cc
+next_pass [] [] (p ∷ ps) h k l = refl
 
-pub next_none : (us ds : List Packet) (n : ℕ) (ps : List Publish) → (length us == 0) ≡ true → (length ds == 0) ≡ true → length ps ≤ n → next_for us ds (drop n ps) ≡ None
-next_none (x ∷ us) ds n ps h k past = absurd (not_none x us h)
-next_none [] (x ∷ ds) n ps h k past = absurd (not_none x ds k)
-next_none [] [] n ps h k past = ap (next_for [] []) (drop_all n ps past)
+pub next_none : (us ds : List Packet) (ps : List Publish) → (length us == 0) ≡ true → (length ds == 0) ≡ true → (length ps == 0) ≡ true → next_for us ds ps ≡ None
+next_none (x ∷ us) ds ps h k l = absurd (not_none x us h)
+next_none [] (x ∷ ds) ps h k l = absurd (not_none x ds k)
+next_none [] [] (p ∷ ps) h k l = absurd (not_none p ps l)
+next_none [] [] [] h k l = refl
 
-pub none_next : (handed : List Publish) (c : Client) → next_for c.up c.down (left_for handed c) ≡ None → AtRest handed c
-none_next handed c h = by c.up c.down (left_for handed c) refl refl refl h
+pub away_none : (p : Place) → p.here ≡ false → next_of p ≡ None
+away_none p h = ap (λ b. next_at b p.client.up p.client.down p.client.queue) h
+
+pub here_next : (p : Place) → p.here ≡ true → next_of p ≡ next_for p.client.up p.client.down p.client.queue
+here_next p h = ap (λ b. next_at b p.client.up p.client.down p.client.queue) h
+
+none_next : (p : Place) → next_of p ≡ None → RestsHere p
+none_next p n here = by p.client.up p.client.down p.client.queue refl refl refl (sym (here_next p here) ∙ n)
   where
-    by : (us ds : List Packet) (ps : List Publish) → c.up ≡ us → c.down ≡ ds → left_for handed c ≡ ps → next_for us ds ps ≡ None → AtRest handed c
-    by (x ∷ us) ds ps u d l n = absurd cc
-    by [] (x ∷ ds) ps u d l n = absurd cc
-    by [] [] (p ∷ ps) u d l n = absurd cc
-    by [] [] [] u d l n = record { up = u; down = d; left = l }
+    by : (us ds : List Packet) (ps : List Publish) → p.client.up ≡ us → p.client.down ≡ ds → p.client.queue ≡ ps → next_for p.client.up p.client.down p.client.queue ≡ None → AtRest p
+    by (x ∷ us) ds ps u d l n = absurd (let z : next_for (x ∷ us) p.client.down p.client.queue ≡ None = subst (λ us. next_for us p.client.down p.client.queue ≡ None) u n in cc)
+    by [] (x ∷ ds) ps u d l n = absurd (let z : next_for [] (x ∷ ds) p.client.queue ≡ None = subst (λ ds. next_for [] ds p.client.queue ≡ None) d (subst (λ us. next_for us p.client.down p.client.queue ≡ None) u n) in cc)
+    by [] [] (x ∷ ps) u d l n = absurd (let z : next_for [] [] (x ∷ ps) ≡ None = subst (λ ps. next_for [] [] ps ≡ None) l (subst (λ ds. next_for [] ds p.client.queue ≡ None) d (subst (λ us. next_for us p.client.down p.client.queue ≡ None) u n)) in cc)
+    by [] [] [] u d l n = record { here = here; up = u; down = d; queue = l }
 
--- where there is one, all isn't at rest
-pub some_next : (handed : List Publish) (c : Client) (e : ClientEvent) → next_for c.up c.down (left_for handed c) ≡ Some e → AtRest handed c → ⊥
-some_next handed c e h r =
-    let a : next_for [] [] [] ≡ Some e = subst (λ ps. next_for [] [] ps ≡ Some e) r.left (subst (λ ds. next_for [] ds (left_for handed c) ≡ Some e) r.down (subst (λ us. next_for us c.down (left_for handed c) ≡ Some e) r.up h)) in
+-- where there is one, it is here, and not at rest
+is_here : (p : Place) (e : ClientEvent) → next_of p ≡ Some e → p.here ≡ true
+is_here p e h = by p.here refl
+  where
+    by : (b : Bool) → p.here ≡ b → p.here ≡ true
+    by true i = i
+    by false i = absurd (let z : None ≡ Some e = sym (away_none p i) ∙ h in cc)
+
+some_next : (p : Place) (e : ClientEvent) → next_of p ≡ Some e → RestsHere p → ⊥
+some_next p e h rest =
+    let here = is_here p e h in
+    let r = rest here in
+    let n : next_for p.client.up p.client.down p.client.queue ≡ Some e = sym (here_next p here) ∙ h in
+    let a : next_for [] [] [] ≡ Some e = subst (λ ps. next_for [] [] ps ≡ Some e) r.queue (subst (λ ds. next_for [] ds p.client.queue ≡ Some e) r.down (subst (λ us. next_for us p.client.down p.client.queue ≡ Some e) r.up n)) in
     cc
 
-module _ (handed : List Publish) (c : Client) (i : IsClient handed c) (can : 0 < c.sender.core.limit) where
-  next_found : (e : ClientEvent) → next_for c.up c.down (left_for handed c) ≡ Some e → client_moves handed e c ≡ 1
-  next_found e h = by c.up c.down (left_for handed c) refl refl refl h
+pub next_is_step : (p : Place) (e : ClientEvent) → next_of p ≡ Some e → IsStep e
+next_is_step p e h = by p.client.up p.client.down p.client.queue (sym (here_next p (is_here p e h)) ∙ h)
+  where
+    by : (us ds : List Packet) (ps : List Publish) → next_for us ds ps ≡ Some e → IsStep e
+    by (x ∷ us) ds ps h = let k : events.Up ≡ e = cc in subst IsStep k (tt {0})
+    by [] (x ∷ ds) ps h = let k : events.Down ≡ e = cc in subst IsStep k (tt {0})
+    by [] [] (p ∷ ps) h = let k : events.PassOn ≡ e = cc in subst IsStep k (tt {0})
+    by [] [] [] h = absurd cc
+
+module _ (handed : List Publish) (p : Place) (i : IsPlace handed p) (can : 0 < p.client.sender.core.limit) where
+  next_found : (e : ClientEvent) → next_of p ≡ Some e → client_moves e p ≡ 1
+  next_found e h = by p.client.up p.client.down p.client.queue refl refl refl (sym (here_next p here) ∙ h)
     where
-      by : (us ds : List Packet) (ps : List Publish) → c.up ≡ us → c.down ≡ ds → left_for handed c ≡ ps → next_for us ds ps ≡ Some e → client_moves handed e c ≡ 1
-      by (x ∷ us) ds ps u d l n = let k : events.Up ≡ e = cc in subst (λ e. client_moves handed e c ≡ 1) k (ap found u)
-      by [] (x ∷ ds) ps u d l n = let k : events.Down ≡ e = cc in subst (λ e. client_moves handed e c ≡ 1) k (ap found d)
-      by [] [] (p ∷ ps) u d l n =
+      here : p.here ≡ true
+      here = is_here p e h
+
+      by : (us ds : List Packet) (ps : List Publish) → p.client.up ≡ us → p.client.down ≡ ds → p.client.queue ≡ ps → next_for p.client.up p.client.down p.client.queue ≡ Some e → client_moves e p ≡ 1
+      by (x ∷ us) ds ps u d l n =
+          let z : next_for (x ∷ us) p.client.down p.client.queue ≡ Some e = subst (λ us. next_for us p.client.down p.client.queue ≡ Some e) u n in
+          let k : events.Up ≡ e = cc in
+          subst (λ e. client_moves e p ≡ 1) k (ap found u)
+      by [] (x ∷ ds) ps u d l n =
+          let z : next_for [] (x ∷ ds) p.client.queue ≡ Some e = subst (λ ds. next_for [] ds p.client.queue ≡ Some e) d (subst (λ us. next_for us p.client.down p.client.queue ≡ Some e) u n) in
+          let k : events.Down ≡ e = cc in
+          subst (λ e. client_moves e p ≡ 1) k (ap found d)
+      by [] [] (x ∷ rest) u d l n =
+          let z : next_for [] [] (x ∷ rest) ≡ Some e = subst (λ ps. next_for [] [] ps ≡ Some e) l (subst (λ ds. next_for [] ds p.client.queue ≡ Some e) d (subst (λ us. next_for us p.client.down p.client.queue ≡ Some e) u n)) in
           let k : events.PassOn ≡ e = cc in
-          subst (λ e. client_moves handed e c ≡ 1) k (ap (λ ps. (passes_on c ps).passed - c.passed) l ∙ passes_moves handed c i can u d p ps)
-      by [] [] [] u d l n = absurd cc
+          subst (λ e. client_moves e p ≡ 1) k
+          (ap (λ b. length p.client.queue - length (passes b p.client).queue) here
+          ∙ ap (λ xs. length p.client.queue - length (passes_on p.client xs).queue) l
+          ∙ passes_moves handed p.client (here_of handed p i here) can x rest l u d)
+      by [] [] [] u d l n = absurd (let z : next_for [] [] [] ≡ Some e = subst (λ ps. next_for [] [] ps ≡ Some e) l (subst (λ ds. next_for [] ds p.client.queue ≡ Some e) d (subst (λ us. next_for us p.client.down p.client.queue ≡ Some e) u n)) in cc)
 
 -- ---- the next step of a network
 
-at_place_of : (i : ℕ) (f : Client → ℕ) (cs : List Client) (c : Client) → i < length cs → at_place i f cs ≡ f (slice_index_or cs i c)
-at_place_of i f [] c below = absurd (omega arith)
-at_place_of zero f (d ∷ cs) c below = refl
-at_place_of (suc i) f (d ∷ cs) c below = at_place_of i f cs c (omega arith)
-
-pub next_moves : (n : Network) (i : ℕ) (what : ClientEvent) (c : Client) → i < length n.clients → c ≡ slice_index_or n.clients i c → 0 < c.sender.core.limit → next_for c.up c.down (left_for n.handed c) ≡ Some what
-    → IsReached n → moves n (record { client = i; what = what }) ≡ 1
-next_moves n i what c below is can next r =
-    at_place_of i (client_moves n.handed what) n.clients c below
-    ∙ ap (client_moves n.handed what) (sym is)
-    ∙ next_found n.handed c (client_of n c (joined n r) (i, below, sym is)) can what next
+at_place_of : (i : ℕ) (f : Place → ℕ) (ps : List Place) (p : Place) → i < length ps → at_place i f ps ≡ f (slice_index_or ps i p)
+at_place_of i f [] p below = absurd (omega arith)
+at_place_of zero f (q ∷ ps) p below = refl
+at_place_of (suc i) f (q ∷ ps) p below = at_place_of i f ps p (omega arith)
 
 -- by what the code sees of the client at a place
-module _ (n : Network) (i : ℕ) (x : Client) (cs : List Client) (handed : List Publish) (clients : cs ≡ n.clients) (same : handed ≡ n.handed) (below : i < length cs) (is : x ≡ slice_index_or cs i x) where
-  there : i < length n.clients
-  there = subst (λ cs. i < length cs) clients below
+module _ (n : Network) (i : ℕ) (x : Place) (ps : List Place) (places : ps ≡ n.places) (below : i < length ps) (is : x ≡ slice_index_or ps i x) where
+  there : i < length n.places
+  there = subst (λ ps. i < length ps) places below
 
-  at : x ≡ slice_index_or n.clients i x
-  at = is ∙ ap (λ cs. slice_index_or cs i x) clients
+  at : x ≡ slice_index_or n.places i x
+  at = is ∙ ap (λ ps. slice_index_or ps i x) places
 
-  next_by : (o : Option ClientEvent) → o ≡ next_for x.up x.down (left_for handed x) → next_for x.up x.down (left_for n.handed x) ≡ o
-  next_by o h = ap (λ ps. next_for x.up x.down (left_for ps x)) (sym same) ∙ sym h
+  pub moves_at : (what : ClientEvent) → 0 < x.client.sender.core.limit → Some what ≡ next_of x → IsReached n → moves n (record { client = i; what = what }) ≡ 1
+  moves_at what can h r =
+      at_place_of i (client_moves what) n.places x there
+      ∙ ap (client_moves what) (sym at)
+      ∙ next_found n.handed x (place_of n x (joined n r) (i, there, sym at)) can what (sym h)
 
-  pub moves_at : (what : ClientEvent) → 0 < x.sender.core.limit → Some what ≡ next_for x.up x.down (left_for handed x) → IsReached n → moves n (record { client = i; what = what }) ≡ 1
-  moves_at what can h r = next_moves n i what x there at can (next_by (Some what) h) r
+  pub busy_at : (what : ClientEvent) → Some what ≡ next_of x → All RestsHere n.places → ⊥
+  busy_at what h rest = some_next x what (sym h) (subst RestsHere (sym at) (rest i x there))
 
-  pub busy_at : (what : ClientEvent) → Some what ≡ next_for x.up x.down (left_for handed x) → All (AtRest n.handed) n.clients → ⊥
-  busy_at what h rest = some_next n.handed x what (next_by (Some what) h) (subst (AtRest n.handed) (sym at) (rest i x there))
+  pub rest_at : None ≡ next_of x → All RestsHere (take i n.places) → All RestsHere (take (i + 1) n.places)
+  rest_at h rest = All-more RestsHere n.places i x there rest (subst RestsHere at (none_next x (sym h)))
 
-  pub rest_at : None ≡ next_for x.up x.down (left_for handed x) → All (AtRest n.handed) (take i n.clients) → All (AtRest n.handed) (take (i + 1) n.clients)
-  rest_at h rest = All-more (AtRest n.handed) n.clients i x there rest (subst (AtRest n.handed) at (none_next n.handed x (next_by None h)))
-
-pub rest_all : (n : Network) (i : ℕ) (cs : List Client) → cs ≡ n.clients → length cs ≤ i → All (AtRest n.handed) (take i n.clients) → All (AtRest n.handed) n.clients
-rest_all n i cs clients past rest = subst (All (AtRest n.handed)) (take_all i n.clients (subst (λ cs. length cs ≤ i) clients past)) rest
+pub rest_all : (n : Network) (i : ℕ) (ps : List Place) → ps ≡ n.places → length ps ≤ i → All RestsHere (take i n.places) → All RestsHere n.places
+rest_all n i ps places past rest = subst (All RestsHere) (take_all i n.places (subst (λ ps. length ps ≤ i) places past)) rest
 
 -- ---- the clients before a place
 
-take_before : (i k : ℕ) (f : Client → Client) (cs : List Client) → k ≤ i → take k (changed i f cs) ≡ take k cs
-take_before i zero f cs le = refl
+take_before : (i k : ℕ) (f : Place → Place) (ps : List Place) → k ≤ i → take k (changed i f ps) ≡ take k ps
+take_before i zero f ps le = refl
 take_before i (suc k) f [] le = refl
-take_before zero (suc k) f (c ∷ cs) le = absurd (omega arith)
-take_before (suc i) (suc k) f (c ∷ cs) le = ap (λ xs. c ∷ xs) (take_before i k f cs (omega arith))
+take_before zero (suc k) f (p ∷ ps) le = absurd (omega arith)
+take_before (suc i) (suc k) f (p ∷ ps) le = ap (λ xs. p ∷ xs) (take_before i k f ps (omega arith))
 
-none_more : (ps qs : List Publish) → length (ps ++ qs) ≡ length ps → ps ++ qs ≡ ps
-none_more ps qs h = ap (λ xs. ps ++ xs) (nil_from_length qs (let l = length-append ps qs in omega (arith, l, h))) ∙ append-nil ps
+none_more : (ps qs : List Publish) → length (ps ++ qs) ≡ length ps → qs ≡ []
+none_more ps qs h = nil_from_length qs (let l = length-append ps qs in omega (arith, l, h))
 
 -- they stay at rest where nothing is handed on
 pub rest_kept : (n m : Network) (e : NetworkEvent) → m ≡ happens_in n e → length m.handed ≡ length n.handed → RestsBefore e.client n → RestsBefore e.client m
 rest_kept n m e same long rest =
-    let f : Client → Client = λ c. happens_to n.handed c e.what in
-    let handed : (happens_in n e).handed ≡ n.handed = none_more n.handed (newly e.client f n.clients) (ap (λ (x : Network). length x.handed) (sym same) ∙ long) in
-    let clients : take e.client (happens_in n e).clients ≡ take e.client n.clients = take_before e.client e.client f n.clients (omega arith) in
-    subst (RestsBefore e.client) (sym same)
-    (subst (λ ps. All (AtRest ps) (take e.client (happens_in n e).clients)) (sym handed)
-    (subst (All (AtRest n.handed)) (sym clients) rest))
+    let f : Place → Place = becomes_with n.handed e.what in
+    let handed : handed_by n e ≡ [] = none_more n.handed (handed_by n e) (ap (λ (x : Network). length x.handed) (sym same) ∙ long) in
+    let places : take e.client (happens_in n e).places ≡ take e.client n.places =
+    ap (λ xs. take e.client (routes e.client xs (changed e.client f n.places))) handed
+    ∙ ap (take e.client) (none_routed e.client (changed e.client f n.places))
+    ∙ take_before e.client e.client f n.places (omega arith) in
+    subst (RestsBefore e.client) (sym same) (subst (All RestsHere) (sym places) rest)
 
 -- ---- runs
 
@@ -144,18 +174,14 @@ run_append (e ∷ es) fs n = run_append es fs (happens_in n e)
 pub reached_by : (ps : List Profile) (es : List NetworkEvent) (n : Network) → n ≡ run_network es (start_network ps) → IsReached n
 reached_by ps es n same = record { profiles = ps; events = es; reached = same }
 
+pub run_on : (ps : List Profile) (es : List NetworkEvent) (m : Network) → (t : TakesSteps (run_network es (start_network ps)) m) → m ≡ run_network (es ++ t.more) (start_network ps)
+run_on ps es m t = t.same ∙ sym (run_append es t.more (start_network ps))
+
 pub reached_next : (n m : Network) (e : NetworkEvent) → IsReached n → m ≡ happens_in n e → IsReached m
 reached_next n m e r same = record {
   profiles = r.profiles;
   events = r.events ++ e ∷ [];
   reached = same ∙ ap (λ n. happens_in n e) r.reached ∙ sym (run_append r.events (e ∷ []) (start_network r.profiles));
-}
-
-pub reached_on : (n m : Network) → IsReached n → TakesSteps n m → IsReached m
-reached_on n m r t = record {
-  profiles = r.profiles;
-  events = r.events ++ t.more;
-  reached = t.same ∙ ap (run_network t.more) r.reached ∙ sym (run_append r.events t.more (start_network r.profiles));
 }
 
 steps_more : (es : List NetworkEvent) (e : NetworkEvent) → Steps es → IsStep e.what → Steps (es ++ e ∷ [])

@@ -3,15 +3,14 @@
 #![tactic(auto)]
 
 mod client;
-mod forwarding;
 mod network;
+mod place;
 mod player;
 mod profile;
 mod report;
-mod sessions;
+mod shown;
 
-pub use forwarding::{forward, granted_for};
 pub use network::Network;
 pub use player::{play_network, play_network_out};
-pub use profile::{Profile, Subscription};
+pub use profile::Profile;
 pub use report::{ClientReport, NetworkReport};

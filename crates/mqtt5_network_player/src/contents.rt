@@ -1,10 +1,11 @@
-//! The lines that tell of a network: how often each content was shown to each client, and accepted for it. A content is a
+//! The lines that tell of a network: how often each content was shown to each client, and accepted by all sessions. A content is a
 //! publish but for its id and dup.
 
 use bytes::Bytes;
 use mqtt5_network::{ClientEvent, NetworkEvent};
-use mqtt5_network_play::{ClientReport, NetworkReport, granted_for};
+use mqtt5_network_play::{ClientReport, NetworkReport};
 use mqtt5_publish::Publish;
+use mqtt5_router::granted_for;
 use mqtt5_scripts::write_message;
 use std::alloc::{AllocError, Global};
 use std::collections::BTreeMap;
@@ -175,14 +176,14 @@ impl Counts {
     }
 }
 
-/// How many packets are on their way, and passes are to come.
-fn on_way(clients: &[ClientReport]) -> usize {
+/// How many packets are on their way, and how many publishes are in the queues.
+pub fn on_way(clients: &[ClientReport]) -> usize {
     let mut sum = 0usize;
     for client in clients {
         sum = sum
             .saturating_add(client.up)
             .saturating_add(client.down)
-            .saturating_add(client.left);
+            .saturating_add(client.queued);
     }
     sum
 }
@@ -233,7 +234,7 @@ fn add_line(
     report: &ClientReport,
     lines: &mut Vec<Line>,
 ) -> Result<(), AllocError> {
-    let matches = granted_for(report.subscriptions.as_slice(), &content.publish).is_some();
+    let matches = granted_for(false, report.subscriptions.as_slice(), &content.publish).is_some();
     if matches || shown > 0 {
         lines.push(Line {
             client,

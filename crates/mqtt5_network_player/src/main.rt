@@ -3,6 +3,7 @@
 #![tactic(auto)]
 
 mod contents;
+mod routed;
 pub mod run;
 mod script;
 #[cfg(test)]

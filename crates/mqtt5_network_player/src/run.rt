@@ -3,6 +3,7 @@
 ghost use Rattle.std.specs.Prelude.{◌≡◌, ◌<◌, length, true};
 
 use crate::contents::{Counts, write_counts};
+use crate::routed::{Routes, write_routes};
 use crate::script::NetworkScript;
 use mqtt5_network_play::{NetworkReport, play_network, play_network_out};
 use mqtt5_scripts::{
@@ -69,9 +70,28 @@ fn write_report<W: Write>(
     report: &NetworkReport,
     output: &mut W,
 ) -> io::Result<Status> {
+    if script.changes {
+        return write_routed(alloc, script, report, output);
+    }
     match Counts::of(alloc, script.events.as_slice(), report) {
         Ok(counts) => {
             write_counts(output, &counts)?;
+            Ok(Status::Done)
+        }
+        Err(_refused) => write_memory_fault(output),
+    }
+}
+
+/// The same of a network whose subscriptions or sessions change.
+fn write_routed<W: Write>(
+    alloc: Global,
+    script: &NetworkScript,
+    report: &NetworkReport,
+    output: &mut W,
+) -> io::Result<Status> {
+    match Routes::of(alloc, script.events.as_slice(), report) {
+        Ok(routes) => {
+            write_routes(output, &routes)?;
             Ok(Status::Done)
         }
         Err(_refused) => write_memory_fault(output),

@@ -1,21 +1,24 @@
 //! Scripts of a broker and its clients: the clients, and then what happens, a line each.
 
 use mqtt5_base::{QoS, Sequence, Text};
-use mqtt5_network::{ClientEvent, NetworkEvent};
-use mqtt5_network_play::{Profile, Subscription};
+use mqtt5_network::{ClientEvent, NetworkEvent, Subscription, Will};
+use mqtt5_network_play::Profile;
 use mqtt5_publish::Publish;
 use mqtt5_scripts::{Field, LineError, Script, split_word};
+use mqtt5_subscribe::{Filter, RetainForwardRule, Subscribe, Unsubscribe};
 use std::alloc::Global;
 use std::num::NonZeroU16;
 
 /// How many clients a script may have.
 const MOST_CLIENTS: usize = 100;
 
-/// The clients, what happens, and whether all then comes to rest.
+/// The clients, what happens, whether a client's subscriptions change, one is away or its session ends, and whether all then
+/// comes to rest.
 #[derive(Debug, Drop)]
 pub struct NetworkScript {
     pub profiles: Vec<Profile>,
     pub events: Vec<NetworkEvent>,
+    pub changes: bool,
     pub settles: bool,
 }
 
@@ -24,6 +27,7 @@ impl Script for NetworkScript {
         NetworkScript {
             profiles: Vec::new(alloc),
             events: Vec::new(alloc),
+            changes: false,
             settles: false,
         }
     }
@@ -65,7 +69,13 @@ impl NetworkScript {
         if client >= self.profiles.len() {
             return Err(LineError::Bad);
         }
-        let what = parse_event(alloc, word, rest)?;
+        let what = match parse_event(alloc, word, rest)? {
+            Some(what) => what,
+            None => {
+                self.changes = true;
+                parse_change(alloc, word, rest)?
+            }
+        };
         self.events.push(NetworkEvent { client, what })?;
         Ok(())
     }
@@ -102,6 +112,7 @@ fn parse_filter(alloc: Global, filter: &str) -> Result<Subscription, LineError> 
     Ok(Subscription {
         topic_filter,
         granted: QoS::ExactlyOnce,
+        no_local: false,
     })
 }
 
@@ -114,26 +125,148 @@ fn parse_client(alloc: Global, field: &str) -> Result<usize, LineError> {
     Ok(number as usize)
 }
 
-/// What a word and the fields behind the client say.
-fn parse_event(alloc: Global, word: &str, rest: Option<&str>) -> Result<ClientEvent, LineError> {
+/// What a word and the fields behind the client say, if it is one of an event that changes neither subscriptions nor sessions.
+fn parse_event(
+    alloc: Global,
+    word: &str,
+    rest: Option<&str>,
+) -> Result<Option<ClientEvent>, LineError> {
     match (word, rest) {
         ("pub", Some(fields)) => {
             let publish = <Publish as Field>::parse(alloc, fields)?;
+            Ok(Some(ClientEvent::Ask(publish)))
+        }
+        ("loss", Some(fields)) => {
+            let (broker_max, client_max) = parse_maxima(alloc, fields)?;
+            Ok(Some(ClientEvent::Back(broker_max, client_max, None)))
+        }
+        ("loss", None) => Ok(Some(ClientEvent::Back(None, None, None))),
+        ("up", None) => Ok(Some(ClientEvent::Up)),
+        ("down", None) => Ok(Some(ClientEvent::Down)),
+        ("pass", None) => Ok(Some(ClientEvent::PassOn)),
+        _ => Ok(None),
+    }
+}
+
+/// What the word and the fields of another event say.
+fn parse_change(alloc: Global, word: &str, rest: Option<&str>) -> Result<ClientEvent, LineError> {
+    match (word, rest) {
+        ("retain", Some(fields)) => {
+            let mut publish = <Publish as Field>::parse(alloc, fields)?;
+            publish.retain = true;
             Ok(ClientEvent::Ask(publish))
         }
-        ("loss", Some(fields)) => parse_loss(alloc, fields),
-        ("loss", None) => Ok(ClientEvent::Loss(None, None)),
-        ("up", None) => Ok(ClientEvent::Up),
-        ("down", None) => Ok(ClientEvent::Down),
-        ("pass", None) => Ok(ClientEvent::PassOn),
+        ("sub", Some(fields)) => parse_subscribe(alloc, fields),
+        ("unsub", Some(fields)) => parse_unsubscribe(alloc, fields),
+        ("lost", None) => Ok(ClientEvent::Lost),
+        ("due", None) => Ok(ClientEvent::Due),
+        ("left", None) => Ok(ClientEvent::Left),
+        ("back", fields) => parse_back(alloc, fields),
+        ("ends", None) => Ok(ClientEvent::Ends),
         _ => Err(LineError::Bad),
     }
 }
 
 /// The receive maximum that the broker says, and the one that the client says.
-fn parse_loss(alloc: Global, fields: &str) -> Result<ClientEvent, LineError> {
+fn parse_maxima(alloc: Global, fields: &str) -> Result<(Option<u16>, Option<u16>), LineError> {
     let (broker_max, client_max) = fields.split_once(' ').ok_or(LineError::Bad)?;
     let broker_max = <u16 as Field>::parse(alloc, broker_max)?;
     let client_max = <u16 as Field>::parse(alloc, client_max)?;
-    Ok(ClientEvent::Loss(Some(broker_max), Some(client_max)))
+    Ok((Some(broker_max), Some(client_max)))
+}
+
+/// Nothing, both receive maxima, or the will.
+fn parse_back(alloc: Global, fields: Option<&str>) -> Result<ClientEvent, LineError> {
+    let Some(fields) = fields else {
+        return Ok(ClientEvent::Back(None, None, None));
+    };
+    match split_word(fields) {
+        ("will", Some(will)) => parse_will(alloc, will, false),
+        ("delayed-will", Some(will)) => parse_will(alloc, will, true),
+        _maxima => {
+            let (broker_max, client_max) = parse_maxima(alloc, fields)?;
+            Ok(ClientEvent::Back(broker_max, client_max, None))
+        }
+    }
+}
+
+/// The will of a new connection.
+fn parse_will(alloc: Global, fields: &str, delayed: bool) -> Result<ClientEvent, LineError> {
+    let publish = <Publish as Field>::parse(alloc, fields)?;
+    let will = Will { publish, delayed };
+    Ok(ClientEvent::Back(None, None, Some(will)))
+}
+
+/// The QoS, the options, and the filters, one at least.
+fn parse_subscribe(alloc: Global, fields: &str) -> Result<ClientEvent, LineError> {
+    let (qos, rest) = fields.split_once(' ').ok_or(LineError::Bad)?;
+    let qos = <QoS as Field>::parse(alloc, qos)?;
+    let mut filters = Sequence::new(alloc);
+    let mut options = Options::of(qos);
+    for word in rest.split(' ') {
+        options.take_word(alloc, word, &mut filters)?;
+    }
+    if filters.is_empty() {
+        return Err(LineError::Bad);
+    }
+    Ok(ClientEvent::Subscribe(Subscribe {
+        pkid: 0,
+        filters,
+        properties: None,
+    }))
+}
+
+/// The options of the filters behind them (MQTT 5.0 section 3.8.3.1).
+#[derive(Drop)]
+struct Options {
+    qos: QoS,
+    nolocal: bool,
+    retain_forward_rule: RetainForwardRule,
+}
+
+impl Options {
+    fn of(qos: QoS) -> Options {
+        Options {
+            qos,
+            nolocal: false,
+            retain_forward_rule: RetainForwardRule::OnEverySubscribe,
+        }
+    }
+
+    /// An option, or a filter with those before it.
+    fn take_word(
+        &mut self,
+        alloc: Global,
+        word: &str,
+        filters: &mut Sequence<Filter>,
+    ) -> Result<(), LineError> {
+        match word {
+            "no-local" => self.nolocal = true,
+            "if-new" => self.retain_forward_rule = RetainForwardRule::OnNewSubscribe,
+            "no-copies" => self.retain_forward_rule = RetainForwardRule::Never,
+            _ => filters.push(self.filter(alloc, word)?)?,
+        }
+        Ok(())
+    }
+
+    fn filter(&self, alloc: Global, word: &str) -> Result<Filter, LineError> {
+        let path = <String as Field>::parse(alloc, word)?;
+        let mut filter = Filter::new(alloc, path.as_str(), self.qos)?;
+        filter.nolocal = self.nolocal;
+        filter.retain_forward_rule = self.retain_forward_rule;
+        Ok(filter)
+    }
+}
+
+/// The filters.
+fn parse_unsubscribe(alloc: Global, fields: &str) -> Result<ClientEvent, LineError> {
+    let mut filters = Sequence::new(alloc);
+    for word in fields.split(' ') {
+        filters.push(Text::from(<String as Field>::parse(alloc, word)?))?;
+    }
+    Ok(ClientEvent::Unsubscribe(Unsubscribe {
+        pkid: 0,
+        filters,
+        properties: None,
+    }))
 }

@@ -2,8 +2,8 @@
 
 use bytes::Bytes;
 use mqtt5_base::{QoS, Sequence, Text};
-use mqtt5_network::{ClientEvent, NetworkEvent};
-use mqtt5_network_play::{Network, Profile, Subscription};
+use mqtt5_network::{ClientEvent, NetworkEvent, Subscription};
+use mqtt5_network_play::{Network, Profile};
 use mqtt5_publish::Publish;
 use mqtt5_session::StateError;
 use std::alloc::Global;
@@ -16,6 +16,7 @@ fn profile(alloc: Global, filter: &str) -> Result<Profile, StateError> {
     subscriptions.push(Subscription {
         topic_filter: Text::from_str(alloc, filter)?,
         granted: QoS::AtLeastOnce,
+        no_local: false,
     })?;
     Ok(Profile {
         limit: NonZeroU16::MIN,
@@ -24,7 +25,7 @@ fn profile(alloc: Global, filter: &str) -> Result<Profile, StateError> {
     })
 }
 
-/// The publish comes to the broker, is passed for the second client, and comes to it.
+/// The publish comes to the broker, is passed on to the second client, and comes to it.
 fn events(alloc: Global) -> Result<[NetworkEvent; 4], StateError> {
     let payload = Bytes::copy_from_slice(alloc, b"x")?;
     let publish = Publish::new(alloc, "a/b", QoS::ExactlyOnce, payload, None)?;

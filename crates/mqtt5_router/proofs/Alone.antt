@@ -13,9 +13,9 @@ use Rattle.mqtt5_inflight.specs.declared.error.StateError.{StateError}
 use Rattle.mqtt5_session.specs.Session.{Session}
 use Rattle.mqtt5_session.specs.Requests.{on_request}
 use Rattle.mqtt5_world.specs.Broker.{Broker, serve, serve_publish}
-use Rattle.mqtt5_network.specs.Client.{is_sending}
-use Rattle.mqtt5_clients.specs.Asking.{is_ack}
-use Rattle.mqtt5_clients.specs.Client.{Client, comes_to, taken_for, passes_on}
+use Rattle.mqtt5_network.specs.Connection.{is_sending}
+use Rattle.mqtt5_network.specs.Asking.{is_ack}
+use Rattle.mqtt5_network.specs.Client.{Client, comes_to, taken_for, passes_on}
 use Rattle.mqtt5_router.specs.Kept.{kept_of, alone, after_packet, after_pass}
 
 -- ---- the receiver

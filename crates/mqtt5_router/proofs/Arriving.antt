@@ -12,11 +12,11 @@ use Rattle.mqtt5_inflight.specs.declared.event.Request.TheVariants as requests
 use Rattle.mqtt5_inflight.specs.declared.error.StateError.{StateError}
 use Rattle.mqtt5_session.specs.Session.{Session, Answer}
 use Rattle.mqtt5_session.specs.Requests.{on_request}
-use Rattle.mqtt5_network.specs.Client.{is_sending, reply_in}
-use Rattle.mqtt5_clients.specs.declared.subscription.Subscription.{Subscription}
-use Rattle.mqtt5_clients.specs.Subscriptions.{forwarded_to}
-use Rattle.mqtt5_clients.specs.Asking.{is_ack}
-use Rattle.mqtt5_clients.specs.Client.{Client, comes_to, taken_for, passes_on}
+use Rattle.mqtt5_network.specs.Connection.{is_sending, reply_in}
+use Rattle.mqtt5_network.specs.declared.subscription.Subscription.{Subscription}
+use Rattle.mqtt5_network.specs.Subscriptions.{forwarded_to}
+use Rattle.mqtt5_network.specs.Asking.{is_ack}
+use Rattle.mqtt5_network.specs.Client.{Client, comes_to, taken_for, passes_on}
 use Rattle.mqtt5_router.specs.Kept.{Kept, kept_of, alone, after_packet, after_pass}
 use Rattle.mqtt5_router.proofs.Copying.{found_next}
 use Rattle.mqtt5_router.proofs.Refused.{IsKept, refused_kept}

@@ -6,8 +6,8 @@ use Rattle.std.proofs.lemmas.List.{take_more}
 use Rattle.std.proofs.lemmas.List.Elements.{filter_map-append}
 use Rattle.mqtt5_publish.specs.declared.publish.Publish.{Publish}
 use Rattle.mqtt5_subscribe.specs.declared.filter.Filter.{Filter}
-use Rattle.mqtt5_clients.specs.declared.subscription.Subscription.{Subscription}
-use Rattle.mqtt5_clients.specs.Retained.{copy_for, copies_all}
+use Rattle.mqtt5_network.specs.declared.subscription.Subscription.{Subscription}
+use Rattle.mqtt5_network.specs.Retained.{copy_for, copies_all}
 
 -- of one alone
 one_more : (f : Publish → Option Publish) (x : Publish) → filter_map f (x ∷ []) ≡ option_to_list (f x)

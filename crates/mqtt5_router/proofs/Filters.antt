@@ -4,8 +4,8 @@ use Rattle.std.proofs.Common.{◌≡◌, ℕ, List, ◌++◌, drop}
 use Rattle.mqtt5_base.specs.Texts.{Utf8}
 use Rattle.mqtt5_subscribe.specs.declared.filter.Filter.{Filter}
 use Rattle.mqtt5_subscribe.specs.declared.unsuback.UnsubAckReason.{UnsubAckReason}
-use Rattle.mqtt5_clients.specs.declared.subscription.Subscription.{Subscription}
-use Rattle.mqtt5_clients.specs.Asking.{subscribed_all, unsubscribed_all, reasons_of}
+use Rattle.mqtt5_network.specs.declared.subscription.Subscription.{Subscription}
+use Rattle.mqtt5_network.specs.Asking.{subscribed_all, unsubscribed_all, reasons_of}
 
 -- those that are taken in
 abbrev pub TakenIn : List Filter → ℕ → List Subscription → List Subscription → Type 0

@@ -7,8 +7,8 @@ use Rattle.std.specs.Str.{is_utf8}
 use Rattle.mqtt5_base.specs.Topics.{topic_matches}
 use Rattle.mqtt5_publish.specs.declared.publish.Publish.{Publish}
 use Rattle.mqtt5_network.specs.Forwarded.{greater}
-use Rattle.mqtt5_clients.specs.declared.subscription.Subscription.{Subscription}
-use Rattle.mqtt5_clients.specs.Subscriptions.{holds_for, granted_for}
+use Rattle.mqtt5_network.specs.declared.subscription.Subscription.{Subscription}
+use Rattle.mqtt5_network.specs.Subscriptions.{holds_for, granted_for}
 use Rattle.mqtt5_router.specs.Topics.{holds_to, granted_to}
 
 pub granted_none : (own : Bool) (ss : List Subscription) (n : ℕ) (t : List ℕ) → length ss ≤ n → granted_to own (drop n ss) t ≡ granted_to own [] t

@@ -6,10 +6,10 @@ use Rattle.std.specs.FinSet as set
 use Rattle.mqtt5_publish.specs.declared.publish.Publish.{Publish}
 use Rattle.mqtt5_codec.specs.declared.packet.Packet.{Packet}
 use Rattle.mqtt5_session.specs.Session.{Session, fresh}
-use Rattle.mqtt5_network.specs.Client.{is_sending}
-use Rattle.mqtt5_clients.specs.declared.subscription.Subscription.{Subscription}
-use Rattle.mqtt5_clients.specs.Asking.{is_ack}
-use Rattle.mqtt5_clients.specs.Client.{Client, comes_to, passes_on}
+use Rattle.mqtt5_network.specs.Connection.{is_sending}
+use Rattle.mqtt5_network.specs.declared.subscription.Subscription.{Subscription}
+use Rattle.mqtt5_network.specs.Asking.{is_ack}
+use Rattle.mqtt5_network.specs.Client.{Client, comes_to, passes_on}
 
 -- the ids of its publishes of QoS 2 that aren't released (4.3.3), the session by which the broker
 -- sends to it, its subscriptions, and the publishes that are still to be sent to it, as they are

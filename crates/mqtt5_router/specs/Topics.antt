@@ -5,7 +5,7 @@ use Rattle.std.specs.Prelude.{if◌then◌else◌}
 use Rattle.mqtt5_base.specs.declared.quality.QoS.{QoS}
 use Rattle.mqtt5_base.specs.Topics.{topic_matches}
 use Rattle.mqtt5_network.specs.Forwarded.{greater}
-use Rattle.mqtt5_clients.specs.declared.subscription.Subscription.{Subscription}
+use Rattle.mqtt5_network.specs.declared.subscription.Subscription.{Subscription}
 
 -- whether a subscription holds for one
 abbrev pub holds_to : Bool → Subscription → List ℕ → Bool

@@ -2,13 +2,13 @@
 
 ghost use Rattle.std.specs.Prelude.{◌≡◌, map, IfOk, OnOk, OnErr};
 ghost use Rattle.std.specs.List.{list_any};
-ghost use Rattle.mqtt5_clients.specs.Subscriptions.{is_of, unsubscribed};
-ghost use Rattle.mqtt5_clients.specs.Asking.{subscription_of, subscribed_all, code_of};
-ghost use Rattle.mqtt5_clients.specs.Asking.{unsubscribed_all, reason_of, reasons_of};
+ghost use Rattle.mqtt5_network.specs.Subscriptions.{is_of, unsubscribed};
+ghost use Rattle.mqtt5_network.specs.Asking.{subscription_of, subscribed_all, code_of};
+ghost use Rattle.mqtt5_network.specs.Asking.{unsubscribed_all, reason_of, reasons_of};
 
 use crate::subscriptions::{subscribe, unsubscribe};
 use mqtt5_base::{Sequence, Text, copied};
-use mqtt5_clients::Subscription;
+use mqtt5_network::Subscription;
 use mqtt5_subscribe::{Filter, SubscribeReasonCode, UnsubAckReason};
 use std::alloc::{AllocError, Global};
 

@@ -11,11 +11,11 @@ ghost use Rattle.mqtt5_session.specs.Packets.{pubcomp_of};
 ghost use Rattle.mqtt5_session.specs.Resuming.{resume_of};
 ghost use Rattle.mqtt5_session.specs.Ledger.{kept_by};
 ghost use Rattle.mqtt5_world.specs.Broker.{serve_publish, reason_for};
-ghost use Rattle.mqtt5_network.specs.Client.{is_sending, connected, sent_in};
-ghost use Rattle.mqtt5_clients.specs.Subscriptions.{forwarded_to};
-ghost use Rattle.mqtt5_clients.specs.Asking.{is_ack, subscribed_all, unsubscribed_all, answer_of};
-ghost use Rattle.mqtt5_clients.specs.Retained.{copies_for};
-ghost use Rattle.mqtt5_clients.specs.Client.{comes_to};
+ghost use Rattle.mqtt5_network.specs.Connection.{is_sending, connected, sent_in};
+ghost use Rattle.mqtt5_network.specs.Subscriptions.{forwarded_to};
+ghost use Rattle.mqtt5_network.specs.Asking.{is_ack, subscribed_all, unsubscribed_all, answer_of};
+ghost use Rattle.mqtt5_network.specs.Retained.{copies_for};
+ghost use Rattle.mqtt5_network.specs.Client.{comes_to};
 ghost use Rattle.mqtt5_router.specs.Kept.{new_kept, kept_of, alone, after_packet, after_pass};
 
 use crate::asking::{subscribe_all, unsubscribe_all};
@@ -23,8 +23,8 @@ use crate::queue::forwarded;
 use crate::retained::copies_all;
 use crate::sessions::{connect, request, take_up};
 use mqtt5_base::{QoS, copied};
-use mqtt5_clients::Subscription;
 use mqtt5_codec::Packet;
+use mqtt5_network::Subscription;
 use mqtt5_publish::Publish;
 use mqtt5_session::{Ids, MqttState, Request, StateError};
 use mqtt5_subscribe::{SubAck, Subscribe, UnsubAck, Unsubscribe};
@@ -52,7 +52,7 @@ impl Model for Kept {
     ghost use Rattle.mqtt5_codec.specs.contracts.packet.Packet as packet;
     ghost use Rattle.mqtt5_inflight.specs.Codes.{coded_in_use, coded_aliases, coded_incoming};
     ghost use Rattle.mqtt5_inflight.specs.contracts.event.Event as event;
-    ghost use Rattle.mqtt5_clients.specs.contracts.subscription.Subscription as subscription;
+    ghost use Rattle.mqtt5_network.specs.contracts.subscription.Subscription as subscription;
     ghost use Rattle.mqtt5_router.specs.Kept as model;
 
     ghost Value = { model.Kept };

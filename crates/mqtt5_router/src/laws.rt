@@ -2,9 +2,9 @@
 
 ghost use Rattle.std.specs.Prelude.{◌≡◌, ◌++◌};
 ghost use Rattle.mqtt5_codec.specs.declared.packet.Packet.{Packet};
-ghost use Rattle.mqtt5_network.specs.Client.{is_sending};
-ghost use Rattle.mqtt5_clients.specs.Asking.{is_ack};
-ghost use Rattle.mqtt5_clients.specs.Client.{Client, comes_to, passes_on};
+ghost use Rattle.mqtt5_network.specs.Connection.{is_sending};
+ghost use Rattle.mqtt5_network.specs.Asking.{is_ack};
+ghost use Rattle.mqtt5_network.specs.Client.{Client, comes_to, passes_on};
 ghost use Rattle.mqtt5_router.specs.Kept.{kept_of, after_packet, after_pass};
 
 /// A law, which does nothing when it is called: the calls of `Kept` do what happens to each client of a network, whatever is on

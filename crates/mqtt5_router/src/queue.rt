@@ -2,11 +2,11 @@
 
 ghost use Rattle.std.specs.Prelude.{◌≡◌, ◌++◌, IfOk, OnOk, OnErr};
 ghost use Rattle.std.specs.Option.{option_to_list};
-ghost use Rattle.mqtt5_clients.specs.Subscriptions.{forwarded_to};
+ghost use Rattle.mqtt5_network.specs.Subscriptions.{forwarded_to};
 
 use crate::forwarding::forward;
 use crate::subscriptions::granted_for;
-use mqtt5_clients::Subscription;
+use mqtt5_network::Subscription;
 use mqtt5_publish::Publish;
 use std::alloc::{AllocError, Global};
 use std::collections::VecDeque;

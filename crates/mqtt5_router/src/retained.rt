@@ -3,16 +3,16 @@
 ghost use Rattle.std.specs.Prelude.{◌≡◌, ◌++◌, not, IfOk, OnOk, filter};
 ghost use Rattle.std.specs.Option.{option_to_list};
 ghost use Rattle.std.specs.List.{filter_map};
-ghost use Rattle.mqtt5_clients.specs.Subscriptions.{subscribed};
-ghost use Rattle.mqtt5_clients.specs.Asking.{subscription_of};
-ghost use Rattle.mqtt5_clients.specs.Retained.{is_to, retains, copy_for, gets_copies};
-ghost use Rattle.mqtt5_clients.specs.Retained.{copies_of, copies_all};
+ghost use Rattle.mqtt5_network.specs.Subscriptions.{subscribed};
+ghost use Rattle.mqtt5_network.specs.Asking.{subscription_of};
+ghost use Rattle.mqtt5_network.specs.Retained.{is_to, retains, copy_for, gets_copies};
+ghost use Rattle.mqtt5_network.specs.Retained.{copies_of, copies_all};
 
 use crate::asking::{is_among, subscription_of, subscriptions_of};
 use crate::forwarding::forward;
 use crate::subscriptions::subscribe;
 use mqtt5_base::copied;
-use mqtt5_clients::Subscription;
+use mqtt5_network::Subscription;
 use mqtt5_progress::reaches;
 use mqtt5_publish::Publish;
 use mqtt5_subscribe::{Filter, RetainForwardRule};

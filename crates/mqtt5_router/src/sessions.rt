@@ -8,7 +8,7 @@ ghost use Rattle.mqtt5_session.specs.Packets.{on_packet};
 ghost use Rattle.mqtt5_session.specs.Replies.{packet_of};
 ghost use Rattle.mqtt5_session.specs.Resuming.{resume_of};
 ghost use Rattle.mqtt5_session.specs.Ledger.{kept_by};
-ghost use Rattle.mqtt5_network.specs.Client.{reply_in, connected, sent_in};
+ghost use Rattle.mqtt5_network.specs.Connection.{reply_in, connected, sent_in};
 
 use mqtt5_base::copied;
 use mqtt5_codec::Packet;

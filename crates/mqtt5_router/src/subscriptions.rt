@@ -2,11 +2,11 @@
 
 ghost use Rattle.std.specs.Prelude.{◌≡◌, Some, OnOk, if◌then◌else◌};
 ghost use Rattle.mqtt5_network.specs.Forwarded.{greater};
-ghost use Rattle.mqtt5_clients.specs.Subscriptions.{subscribed, unsubscribed, granted_for};
+ghost use Rattle.mqtt5_network.specs.Subscriptions.{subscribed, unsubscribed, granted_for};
 ghost use Rattle.mqtt5_router.specs.Topics.{holds_to, granted_to};
 
 use mqtt5_base::{QoS, Text, matches};
-use mqtt5_clients::Subscription;
+use mqtt5_network::Subscription;
 use mqtt5_publish::Publish;
 use std::alloc::AllocError;
 

@@ -3,7 +3,7 @@
 use crate::{granted_for, route, subscribe_all, unsubscribe_all};
 use bytes::Bytes;
 use mqtt5_base::{Error, QoS, Sequence, Text};
-use mqtt5_clients::Subscription;
+use mqtt5_network::Subscription;
 use mqtt5_publish::Publish;
 use mqtt5_subscribe::{Filter, SubscribeReasonCode, UnsubAckReason};
 use std::alloc::Global;

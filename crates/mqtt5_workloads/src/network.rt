@@ -7,8 +7,8 @@ use crate::random::Random;
 use bytes::Bytes;
 use mqtt5_base::{QoS, Sequence, Text};
 use mqtt5_client::{Publish, StateError};
-use mqtt5_network::{ClientEvent, NetworkEvent};
-use mqtt5_network_play::{NetworkReport, Profile, Subscription, play_network_out};
+use mqtt5_network::{ClientEvent, NetworkEvent, Subscription};
+use mqtt5_network_play::{NetworkReport, Profile, play_network_out};
 use std::alloc::Global;
 use std::num::NonZeroU16;
 
@@ -48,6 +48,7 @@ fn make_profile(alloc: Global, random: &mut Random) -> Result<Profile, StateErro
         subscriptions.push(Subscription {
             topic_filter: Text::from_str(alloc, FILTERS[random.below(8)])?,
             granted: qos_of(random.below(3)),
+            no_local: false,
         })?;
     }
     let limit = random.short() % 100 + 1;
@@ -81,7 +82,7 @@ fn make_event(
         8..=17 => ClientEvent::Up,
         18..=27 => ClientEvent::Down,
         28..=38 => ClientEvent::PassOn,
-        _ => ClientEvent::Loss(None, None),
+        _ => ClientEvent::Back(None, None, None),
     })
 }
 
@@ -94,7 +95,7 @@ fn add_report(report: &NetworkReport, digest: &mut Digest) {
             digest.add_publish(publish);
         }
         digest.add(client.lost as u64);
-        digest.add(client.left as u64);
+        digest.add(client.queued as u64);
     }
 }
 
@@ -124,7 +125,7 @@ fn run_network(
     Ok(())
 }
 
-/// In each round two networks of 10 and one of 100 clients come to rest, the second after publishes alone, with losses
+/// In each round two networks of 10 and one of 100 clients come to rest, the second after publishes alone, with new connections
 /// else. Answers a digest of their reports.
 pub fn network(alloc: Global, seed: u64, rounds: usize) -> Result<u64, StateError> {
     let mut random = Random::new(seed);

@@ -1,7 +1,7 @@
 use Rattle.std.proofs.Common.{List, ◌++◌, ap, ◌∙◌, arith}
 use Rattle.std.specs.Option.{option_to_list}
 use Rattle.mqtt5_publish.specs.declared.publish.Publish.{Publish}
-use Rattle.mqtt5_clients.specs.Retained.{copy_for}
+use Rattle.mqtt5_network.specs.Retained.{copy_for}
 use Rattle.mqtt5_router.proofs.Copying.{copies_next}
 use Rattle.mqtt5_router.proofs.retained.push_copies.Goals as goal
 

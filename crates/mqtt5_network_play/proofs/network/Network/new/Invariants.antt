@@ -3,4 +3,4 @@ use Rattle.mqtt5_network.specs.Network.{begins}
 use Rattle.mqtt5_network_play.proofs.network.Network.new.Given as goal
 
 abbrev pub invariant-loop-profile : goal.invariant-loop-profile
-invariant-loop-profile l = l.clients.items ≡ map begins (take l.profile-index l.profiles)
+invariant-loop-profile l = l.places.items ≡ map begins (take l.profile-index l.profiles)

@@ -1,6 +1,6 @@
 use Rattle.std.proofs.Common.{◌≡◌, take}
 use Rattle.std.specs.List.{filter_map}
-use Rattle.mqtt5_clients.specs.Subscriptions.{forwarded_to}
+use Rattle.mqtt5_network.specs.Subscriptions.{forwarded_to}
 use Rattle.mqtt5_router.proofs.kept.Kept.forwarded.Given as goal
 
 abbrev pub invariant-loop-i : goal.invariant-loop-i

@@ -1,5 +1,0 @@
-use Rattle.mqtt5_clients.proofs.Copied.{copies_shown}
-use Rattle.mqtt5_clients.proofs.laws.copies_law.Goals as goal
-
-pub returns : goal.returns
-returns c = record { exactly_once = copies_shown }

@@ -1,5 +1,0 @@
-use Rattle.mqtt5_clients.proofs.Copies.{retained_last}
-use Rattle.mqtt5_clients.proofs.laws.retained_law.Goals as goal
-
-pub returns : goal.returns
-returns c = retained_last
