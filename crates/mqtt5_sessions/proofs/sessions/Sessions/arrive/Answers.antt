@@ -1,0 +1,84 @@
+use Rattle.std.proofs.Common.{List, sym, ap, ◌∙◌, arith}
+use Rattle.std.specs.Option.{option_to_list}
+use Rattle.mqtt5_publish.specs.declared.publish.Publish.{Publish}
+use Rattle.mqtt5_network.specs.Retained.{retained_after, copies_for}
+use Rattle.mqtt5_router.specs.Kept.{kept_of, after_packet}
+use Rattle.mqtt5_sessions.specs.Sessions.{ClientState, gets, arrives, replies}
+use Rattle.mqtt5_sessions.specs.Coming.{coming_for}
+use Rattle.mqtt5_sessions.proofs.Delivered.{settled, seen_past, seen_publish, seen_other, sent_to, sent_past}
+use Rattle.mqtt5_sessions.proofs.sessions.Sessions.arrive.Goals as goal
+
+pub returns-then-client-len-clause-ok : goal.returns-then-client-len-clause-ok
+returns-then-client-len-clause-ok c =
+    let i = c.args.client in
+    let cs : List ClientState = c.deliver_all.new.clients.items in
+    let kept : List Publish = c.self.inside.retained.items in
+    let none = c.in_ok-deliver_all.ensures.none in
+    let seen = settled c.self.inside.coming.items c.deliver_all.new.coming.items c.self.inside.clients.items cs kept c.args.self.now none c.in_ok-deliver_all.ensures.same c.self.view_is in
+    let y = c.args.packet in
+    seen_past i (λ (x : ClientState). gets (copies_for kept x.kept.subscriptions y) (record x { kept = kept_of (after_packet x.kept y) })) (λ (x : ClientState). (after_packet x.kept y).receiver.handed) cs kept c.deliver_all.new.coming.items none (omega (arith, c.if-client-len.true, c.len.ensures)) ∙ ap (λ s. arrives i y s) seen
+
+pub returns-then-client-len-clause-reply : goal.returns-then-client-len-clause-reply
+returns-then-client-len-clause-reply c =
+    let i = c.args.client in
+    let cs : List ClientState = c.deliver_all.new.clients.items in
+    let kept : List Publish = c.self.inside.retained.items in
+    let none = c.in_ok-deliver_all.ensures.none in
+    let seen = settled c.self.inside.coming.items c.deliver_all.new.coming.items c.self.inside.clients.items cs kept c.args.self.now none c.in_ok-deliver_all.ensures.same c.self.view_is in
+    sent_past i (λ (x : ClientState). (after_packet x.kept c.args.packet).down) cs (omega (arith, c.if-client-len.true, c.len.ensures)) ∙ ap (λ s. replies i c.args.packet s) seen
+
+pub returns-then-publishes-clause-ok : goal.returns-then-publishes-clause-ok
+returns-then-publishes-clause-ok c =
+    let i = c.args.client in
+    let cs : List ClientState = c.deliver_all.new.clients.items in
+    let kept : List Publish = c.self.inside.retained.items in
+    let none = c.in_ok-deliver_all.ensures.none in
+    let seen = settled c.self.inside.coming.items c.deliver_all.new.coming.items c.self.inside.clients.items cs kept c.args.self.now none c.in_ok-deliver_all.ensures.same c.self.view_is in
+    let y = c.args.packet in
+    let x : ClientState = c.index_mut.result.now in
+    let o = c.in_ok-arrived.arrived.handed in
+    let made = c.in_ok-made.made.items in
+    seen_publish i cs kept x c.arrive.new.self y o made c.hand_on.new.coming.items c.hand_on.new.retained.items (sym c.is_publish-publishes.ensures ∙ c.if-publishes.true)
+    (omega (arith, c.if-client-len.false, c.len.ensures)) c.index_mut.ensures.value c.in_ok-arrived.ensures.kept c.in_ok-arrived.ensures.handed
+    (c.in_ok-made.ensures ∙ (λ j. coming_for i (c.as_slice-2.ensures.value j) (c.as_slice.ensures.value j) y))
+    c.hand_on.ensures.coming
+    (c.hand_on.ensures.retained ∙ ap (λ ps. retained_after ps (option_to_list o)) c.reserve.ensures.items)
+    ∙ ap (λ s. arrives i y s) seen
+
+pub returns-then-publishes-clause-reply : goal.returns-then-publishes-clause-reply
+returns-then-publishes-clause-reply c =
+    let i = c.args.client in
+    let cs : List ClientState = c.deliver_all.new.clients.items in
+    let kept : List Publish = c.self.inside.retained.items in
+    let none = c.in_ok-deliver_all.ensures.none in
+    let seen = settled c.self.inside.coming.items c.deliver_all.new.coming.items c.self.inside.clients.items cs kept c.args.self.now none c.in_ok-deliver_all.ensures.same c.self.view_is in
+    c.in_ok-arrived.ensures.reply
+    ∙ sent_to i (λ (x : ClientState). (after_packet x.kept c.args.packet).down) cs c.index_mut.result.now (omega (arith, c.if-client-len.false, c.len.ensures)) c.index_mut.ensures.value
+    ∙ ap (λ s. replies i c.args.packet s) seen
+
+pub returns-clause-ok : goal.returns-clause-ok
+returns-clause-ok c =
+    let i = c.args.client in
+    let cs : List ClientState = c.deliver_all.new.clients.items in
+    let kept : List Publish = c.self.inside.retained.items in
+    let none = c.in_ok-deliver_all.ensures.none in
+    let seen = settled c.self.inside.coming.items c.deliver_all.new.coming.items c.self.inside.clients.items cs kept c.args.self.now none c.in_ok-deliver_all.ensures.same c.self.view_is in
+    let y = c.args.packet in
+    let x : ClientState = c.index_mut.result.now in
+    let made = c.in_ok-made.made.items in
+    seen_other i cs kept x c.arrive.new.self y made c.reserve.new.self.items (sym c.is_publish-publishes.ensures ∙ c.if-publishes.false)
+    (omega (arith, c.if-client-len.false, c.len.ensures)) c.index_mut.ensures.value c.in_ok-arrived.ensures.kept
+    (c.in_ok-made.ensures ∙ (λ j. coming_for i (c.as_slice-2.ensures.value j) (c.as_slice.ensures.value j) y))
+    c.reserve.ensures.items
+    ∙ ap (λ s. arrives i y s) seen
+
+pub returns-clause-reply : goal.returns-clause-reply
+returns-clause-reply c =
+    let i = c.args.client in
+    let cs : List ClientState = c.deliver_all.new.clients.items in
+    let kept : List Publish = c.self.inside.retained.items in
+    let none = c.in_ok-deliver_all.ensures.none in
+    let seen = settled c.self.inside.coming.items c.deliver_all.new.coming.items c.self.inside.clients.items cs kept c.args.self.now none c.in_ok-deliver_all.ensures.same c.self.view_is in
+    c.in_ok-arrived.ensures.reply
+    ∙ sent_to i (λ (x : ClientState). (after_packet x.kept c.args.packet).down) cs c.index_mut.result.now (omega (arith, c.if-client-len.false, c.len.ensures)) c.index_mut.ensures.value
+    ∙ ap (λ s. replies i c.args.packet s) seen

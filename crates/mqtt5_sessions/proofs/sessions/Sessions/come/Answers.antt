@@ -1,0 +1,56 @@
+use Rattle.std.proofs.Common.{List, true, refl, ap, ◌∙◌, arith}
+use Rattle.std.specs.Option.{option_to_list}
+use Rattle.mqtt5_session.specs.Resuming.{resume_of}
+use Rattle.mqtt5_network.specs.Connection.{connected, sent_in}
+use Rattle.mqtt5_publish.specs.declared.publish.Publish.{Publish}
+use Rattle.mqtt5_network.specs.Retained.{retained_after}
+use Rattle.mqtt5_network.specs.Place.{message_of, replaced_message}
+use Rattle.mqtt5_sessions.specs.Sessions.{ClientState, of_client, taken_up, comes, sent_again}
+use Rattle.mqtt5_sessions.specs.Coming.{coming_of_will}
+use Rattle.mqtt5_sessions.proofs.Delivered.{settled, seen_past, seen_will, replaced_of, sent_to, sent_past}
+use Rattle.mqtt5_sessions.proofs.sessions.Sessions.come.Goals as goal
+
+pub returns-then-client-len-clause-ok : goal.returns-then-client-len-clause-ok
+returns-then-client-len-clause-ok c =
+    let i = c.args.client in
+    let cs : List ClientState = c.deliver_all.new.clients.items in
+    let kept : List Publish = c.self.inside.retained.items in
+    let none = c.in_ok-deliver_all.ensures.none in
+    let seen = settled c.self.inside.coming.items c.deliver_all.new.coming.items c.self.inside.clients.items cs kept c.args.self.now none c.in_ok-deliver_all.ensures.same c.self.view_is in
+    seen_past i (λ (x : ClientState). record { kept = taken_up c.args.receive_max x.kept; here = true; will = c.args.will }) (λ (x : ClientState). replaced_message x.here x.will) cs kept c.deliver_all.new.coming.items none (omega (arith, c.if-client-len.true, c.len.ensures)) ∙ ap (λ s. comes i c.args.receive_max c.args.will s) seen
+
+pub returns-then-client-len-clause-sent : goal.returns-then-client-len-clause-sent
+returns-then-client-len-clause-sent c =
+    let i = c.args.client in
+    let cs : List ClientState = c.deliver_all.new.clients.items in
+    let kept : List Publish = c.self.inside.retained.items in
+    let none = c.in_ok-deliver_all.ensures.none in
+    let seen = settled c.self.inside.coming.items c.deliver_all.new.coming.items c.self.inside.clients.items cs kept c.args.self.now none c.in_ok-deliver_all.ensures.same c.self.view_is in
+    c.new.ensures.items ∙ sent_past i (λ (x : ClientState). sent_in (resume_of (connected c.args.receive_max x.kept.sender) 0)) cs (omega (arith, c.if-client-len.true, c.len.ensures)) ∙ ap (λ s. sent_again i c.args.receive_max s) seen
+
+pub returns-clause-ok : goal.returns-clause-ok
+returns-clause-ok c =
+    let i = c.args.client in
+    let cs : List ClientState = c.deliver_all.new.clients.items in
+    let kept : List Publish = c.self.inside.retained.items in
+    let none = c.in_ok-deliver_all.ensures.none in
+    let seen = settled c.self.inside.coming.items c.deliver_all.new.coming.items c.self.inside.clients.items cs kept c.args.self.now none c.in_ok-deliver_all.ensures.same c.self.view_is in
+    let x : ClientState = c.index_mut.result.now in
+    seen_will i (λ (x : ClientState). record { kept = taken_up c.args.receive_max x.kept; here = true; will = c.args.will }) (λ (x : ClientState). replaced_message x.here x.will) cs kept x c.come.new.self c.in_ok-way.handed c.in_ok-made.made.items c.hand_on.new.coming.items c.hand_on.new.retained.items
+    (omega (arith, c.if-client-len.false, c.len.ensures)) c.index_mut.ensures.value c.in_ok-way.ensures.kept c.in_ok-way.ensures.published (λ x. refl)
+    (c.in_ok-made.ensures ∙ ap (λ cs. coming_of_will i cs (of_client i (λ (x : ClientState). message_of x.will) cs)) c.as_slice.ensures.value)
+    (λ p e. replaced_of x.here x.will p e)
+    c.hand_on.ensures.coming
+    (c.hand_on.ensures.retained ∙ ap (λ ps. retained_after ps (option_to_list c.in_ok-way.handed)) c.reserve.ensures.items)
+    ∙ ap (λ s. comes i c.args.receive_max c.args.will s) seen
+
+pub returns-clause-sent : goal.returns-clause-sent
+returns-clause-sent c =
+    let i = c.args.client in
+    let cs : List ClientState = c.deliver_all.new.clients.items in
+    let kept : List Publish = c.self.inside.retained.items in
+    let none = c.in_ok-deliver_all.ensures.none in
+    let seen = settled c.self.inside.coming.items c.deliver_all.new.coming.items c.self.inside.clients.items cs kept c.args.self.now none c.in_ok-deliver_all.ensures.same c.self.view_is in
+    c.in_ok-way.ensures.sent
+    ∙ sent_to i (λ (x : ClientState). sent_in (resume_of (connected c.args.receive_max x.kept.sender) 0)) cs c.index_mut.result.now (omega (arith, c.if-client-len.false, c.len.ensures)) c.index_mut.ensures.value
+    ∙ ap (λ s. sent_again i c.args.receive_max s) seen

@@ -1,0 +1,34 @@
+use Rattle.std.proofs.Common.{List, true, false, refl, ap, ◌∙◌, arith}
+use Rattle.std.specs.Option.{option_to_list}
+use Rattle.mqtt5_publish.specs.declared.publish.Publish.{Publish}
+use Rattle.mqtt5_network.specs.Retained.{retained_after}
+use Rattle.mqtt5_network.specs.Place.{message_of, lost_message, waiting}
+use Rattle.mqtt5_sessions.specs.Sessions.{ClientState, of_client, loses}
+use Rattle.mqtt5_sessions.specs.Coming.{coming_of_will}
+use Rattle.mqtt5_sessions.proofs.Delivered.{settled, seen_past, seen_will, lost_of}
+use Rattle.mqtt5_sessions.proofs.sessions.Sessions.lose.Goals as goal
+
+pub returns-then-client-len-clause-ok : goal.returns-then-client-len-clause-ok
+returns-then-client-len-clause-ok c =
+    let i = c.args.client in
+    let cs : List ClientState = c.deliver_all.new.clients.items in
+    let kept : List Publish = c.self.inside.retained.items in
+    let none = c.in_ok-deliver_all.ensures.none in
+    let seen = settled c.self.inside.coming.items c.deliver_all.new.coming.items c.self.inside.clients.items cs kept c.args.self.now none c.in_ok-deliver_all.ensures.same c.self.view_is in
+    seen_past i (λ (x : ClientState). record x { here = false; will = waiting x.will }) (λ (x : ClientState). lost_message x.will) cs kept c.deliver_all.new.coming.items none (omega (arith, c.if-client-len.true, c.len.ensures)) ∙ ap (λ s. loses i s) seen
+
+pub returns-clause-ok : goal.returns-clause-ok
+returns-clause-ok c =
+    let i = c.args.client in
+    let cs : List ClientState = c.deliver_all.new.clients.items in
+    let kept : List Publish = c.self.inside.retained.items in
+    let none = c.in_ok-deliver_all.ensures.none in
+    let seen = settled c.self.inside.coming.items c.deliver_all.new.coming.items c.self.inside.clients.items cs kept c.args.self.now none c.in_ok-deliver_all.ensures.same c.self.view_is in
+    let x : ClientState = c.index_mut.result.now in
+    seen_will i (λ (x : ClientState). record x { here = false; will = waiting x.will }) (λ (x : ClientState). lost_message x.will) cs kept x c.lose-handed.new.self c.lose-handed.result c.in_ok-made.made.items c.hand_on.new.coming.items c.hand_on.new.retained.items
+    (omega (arith, c.if-client-len.false, c.len.ensures)) c.index_mut.ensures.value c.lose-handed.ensures.left c.lose-handed.ensures.published (λ x. refl)
+    (c.in_ok-made.ensures ∙ ap (λ cs. coming_of_will i cs (of_client i (λ (x : ClientState). message_of x.will) cs)) c.as_slice.ensures.value)
+    (λ p e. lost_of x.will p e)
+    c.hand_on.ensures.coming
+    (c.hand_on.ensures.retained ∙ ap (λ ps. retained_after ps (option_to_list c.lose-handed.result)) c.reserve.ensures.items)
+    ∙ ap (λ s. loses i s) seen

@@ -1,0 +1,48 @@
+use Rattle.std.proofs.Common.{List, [], refl, ap, ◌∙◌, arith}
+use Rattle.mqtt5_publish.specs.declared.publish.Publish.{Publish}
+use Rattle.mqtt5_sessions.specs.Sessions.{ClientState, passes, passes_here, sent_here, passed}
+use Rattle.mqtt5_sessions.proofs.Delivered.{settled, seen_past, seen_none, sent_to, sent_past}
+use Rattle.mqtt5_sessions.proofs.sessions.Sessions.pass.Goals as goal
+
+abbrev changed : ClientState → ClientState
+changed x = record x { kept = passes_here x.here x.kept }
+
+pub returns-then-client-len-clause-ok : goal.returns-then-client-len-clause-ok
+returns-then-client-len-clause-ok c =
+    let i = c.args.client in
+    let cs : List ClientState = c.deliver_all.new.clients.items in
+    let kept : List Publish = c.self.inside.retained.items in
+    let none = c.in_ok-deliver_all.ensures.none in
+    let seen = settled c.self.inside.coming.items c.deliver_all.new.coming.items c.self.inside.clients.items cs kept c.args.self.now none c.in_ok-deliver_all.ensures.same c.self.view_is in
+    seen_past i changed (λ x. []) cs kept c.deliver_all.new.coming.items none (omega (arith, c.if-client-len.true, c.len.ensures)) ∙ ap (λ s. passes i s) seen
+
+pub returns-then-client-len-clause-sent : goal.returns-then-client-len-clause-sent
+returns-then-client-len-clause-sent c =
+    let i = c.args.client in
+    let cs : List ClientState = c.deliver_all.new.clients.items in
+    let kept : List Publish = c.self.inside.retained.items in
+    let none = c.in_ok-deliver_all.ensures.none in
+    let seen = settled c.self.inside.coming.items c.deliver_all.new.coming.items c.self.inside.clients.items cs kept c.args.self.now none c.in_ok-deliver_all.ensures.same c.self.view_is in
+    sent_past i (λ (x : ClientState). sent_here x.here x.kept) cs (omega (arith, c.if-client-len.true, c.len.ensures)) ∙ ap (λ s. passed i s) seen
+
+pub returns-clause-ok : goal.returns-clause-ok
+returns-clause-ok c =
+    let i = c.args.client in
+    let cs : List ClientState = c.deliver_all.new.clients.items in
+    let kept : List Publish = c.self.inside.retained.items in
+    let none = c.in_ok-deliver_all.ensures.none in
+    let seen = settled c.self.inside.coming.items c.deliver_all.new.coming.items c.self.inside.clients.items cs kept c.args.self.now none c.in_ok-deliver_all.ensures.same c.self.view_is in
+    seen_none i changed (λ x. []) cs kept c.index_mut.result.now c.pass.new.self c.deliver_all.new.coming.items none
+    (omega (arith, c.if-client-len.false, c.len.ensures)) c.index_mut.ensures.value c.in_ok-sent.ensures.kept refl
+    ∙ ap (λ s. passes i s) seen
+
+pub returns-clause-sent : goal.returns-clause-sent
+returns-clause-sent c =
+    let i = c.args.client in
+    let cs : List ClientState = c.deliver_all.new.clients.items in
+    let kept : List Publish = c.self.inside.retained.items in
+    let none = c.in_ok-deliver_all.ensures.none in
+    let seen = settled c.self.inside.coming.items c.deliver_all.new.coming.items c.self.inside.clients.items cs kept c.args.self.now none c.in_ok-deliver_all.ensures.same c.self.view_is in
+    c.in_ok-sent.ensures.sent
+    ∙ sent_to i (λ (x : ClientState). sent_here x.here x.kept) cs c.index_mut.result.now (omega (arith, c.if-client-len.false, c.len.ensures)) c.index_mut.ensures.value
+    ∙ ap (λ s. passed i s) seen

@@ -1,0 +1,240 @@
+//! What a broker keeps of one client.
+
+ghost use Rattle.std.specs.Prelude.{◌≡◌, [], ◌∷◌, true, false, None, IfOk, IfErr, OnOk, OnErr, MatchOption};
+ghost use Rattle.std.specs.Option.{option_to_list};
+ghost use Rattle.std.specs.NonZero.{non_zero_u16_get};
+ghost use Rattle.mqtt5_session.specs.Resuming.{resume_of};
+ghost use Rattle.mqtt5_network.specs.Connection.{connected, sent_in};
+ghost use Rattle.mqtt5_network.specs.Subscriptions.{forwarded_to};
+ghost use Rattle.mqtt5_network.specs.Retained.{copies_for};
+ghost use Rattle.mqtt5_network.specs.Place.{lost_message, waiting, replaced_message, due_message};
+ghost use Rattle.mqtt5_network.specs.Place.{not_due, left_will, message_of};
+ghost use Rattle.mqtt5_router.specs.Kept.{new_kept, kept_of, after_packet};
+ghost use Rattle.mqtt5_sessions.specs.Sessions.{new_state, gets, passes_here, sent_here, taken_up};
+
+use mqtt5_codec::Packet;
+use mqtt5_network::Will;
+use mqtt5_publish::Publish;
+use mqtt5_router::{Arrived, Kept, forward, granted_for};
+use mqtt5_session::StateError;
+use std::alloc::{AllocError, Global};
+use std::collections::VecDeque;
+use std::marker::Model;
+use std::mem;
+use std::num::NonZeroU16;
+
+/// What a broker keeps of a client: what is kept for it, whether it is connected, and the will of its connection, or the one that
+/// waits, if there is one (MQTT 5.0 sections 3.1.2.5, 3.1.3.2.2 and 4.1).
+#[derive(Debug, Drop)]
+pub struct ClientState {
+    kept: Kept,
+    here: bool,
+    will: Option<Will>,
+}
+
+impl Model for ClientState {
+    ghost use Rattle.std.specs.Coded.{codes};
+    ghost use Rattle.mqtt5_base.specs.Codes.{utf8_code};
+    ghost use Rattle.mqtt5_base.specs.contracts.quality.QoS as quality;
+    ghost use Rattle.mqtt5_publish.specs.contracts.publish.Publish as publish;
+    ghost use Rattle.mqtt5_codec.specs.contracts.packet.Packet as packet;
+    ghost use Rattle.mqtt5_inflight.specs.Codes.{coded_in_use, coded_aliases, coded_incoming};
+    ghost use Rattle.mqtt5_inflight.specs.contracts.event.Event as event;
+    ghost use Rattle.mqtt5_network.specs.contracts.subscription.Subscription as subscription;
+    ghost use Rattle.mqtt5_sessions.specs.Sessions as model;
+
+    ghost Value = { model.ClientState };
+
+    ghost coded = { Prim.hlevel (codes, coded_in_use, coded_aliases, coded_incoming, utf8_code, quality.the_row.coded, event.the_row.coded, packet.the_row.coded, publish.the_row.coded, subscription.the_row.coded) };
+
+    ghost view = { λ a. record { kept = a.kept; here = a.here; will = a.will } };
+}
+
+impl ClientState {
+    /// Of a client that never came; `limit` is the greatest packet identifier that the broker uses to it (2.2.1).
+    pub(super) fn new(alloc: Global, limit: NonZeroU16) -> Result<ClientState, StateError>
+        ensures ok { IfOk result (λ c. c ≡ new_state (non_zero_u16_get limit)) }
+        ensures memory { IfErr result (λ e. e ≡ StateError.OutOfMemory) }
+    {
+        Ok(ClientState {
+            kept: Kept::new(alloc, limit, Vec::new(alloc))?,
+            here: false,
+            will: None,
+        })
+    }
+
+    /// What is kept for it once its session has ended: the same limit, and nothing else (3.1.2.4).
+    pub(super) fn renewed(&self, alloc: Global) -> Result<Kept, StateError>
+        ensures ok { IfOk result (λ k. k ≡ new_kept self.now.kept.sender.core.limit []) }
+        ensures memory { IfErr result (λ e. e ≡ StateError.OutOfMemory) }
+    {
+        self.kept.renewed(alloc)
+    }
+
+    /// A packet comes from it: what is sent back, and what is handed on.
+    pub(super) fn arrive(&mut self, alloc: Global, packet: Packet) -> Result<Arrived, StateError>
+        ensures kept { OnOk result (self.new
+            ≡ record self.old { kept = kept_of (after_packet self.old.kept packet) }) }
+        ensures reply { IfOk result
+            (λ a. option_to_list a.reply ≡ (after_packet self.old.kept packet).down) }
+        ensures handed { IfOk result (λ a. option_to_list a.handed
+            ≡ (after_packet self.old.kept packet).receiver.handed) }
+        ensures memory { IfErr result (λ e. e ≡ StateError.OutOfMemory) }
+        ensures left { OnErr result (self.new ≡ self.old) }
+    {
+        self.kept.arrive(alloc, packet)
+    }
+
+    /// What is forwarded of a publish, `own` where it is the client's, or None (3.3.4).
+    pub(super) fn forwarded(
+        &self,
+        alloc: Global,
+        own: bool,
+        publish: &Publish,
+    ) -> Result<Option<Publish>, AllocError>
+        ensures { IfOk result
+            (λ p. p ≡ forwarded_to own self.now.kept.subscriptions publish.now) }
+    {
+        match granted_for(own, self.kept.subscriptions(), publish) {
+            Some(granted) => Ok(Some(forward(alloc, granted, publish)?)),
+            None => Ok(None),
+        }
+    }
+
+    /// The copies of retained messages that a packet of it brings (3.3.1.3).
+    pub(super) fn copies(
+        &self,
+        alloc: Global,
+        retained: &[Publish],
+        packet: &Packet,
+    ) -> Result<Vec<Publish>, AllocError>
+        ensures { IfOk result (λ ps. ps.items
+            ≡ copies_for retained.now self.now.kept.subscriptions packet.now) }
+    {
+        self.kept.copies(alloc, retained, packet)
+    }
+
+    /// Publishes go to the end of its queue.
+    pub(super) fn put(&mut self, publishes: Vec<Publish>) -> Result<(), AllocError>
+        ensures ok { OnOk result (self.new ≡ gets publishes.items self.old) }
+        ensures left { OnErr result (self.new ≡ self.old) }
+    {
+        self.kept.put(publishes)
+    }
+
+    /// The first of its queue is passed on, if it is connected: what is sent to it.
+    pub(super) fn pass(&mut self) -> Result<Option<Packet>, StateError>
+        ensures kept { OnOk result
+            (self.new ≡ record self.old { kept = passes_here self.old.here self.old.kept }) }
+        ensures sent { IfOk result
+            (λ a. option_to_list a ≡ sent_here self.old.here self.old.kept) }
+        ensures memory { IfErr result (λ e. e ≡ StateError.OutOfMemory) }
+        ensures left { OnErr result (self.new ≡ self.old) }
+    {
+        if !self.here {
+            return Ok(None);
+        }
+        let passed = self.kept.pass()?;
+        Ok(passed.sent)
+    }
+
+    /// The message of its will, if there is one.
+    pub(super) fn will(&self) -> Option<&Publish>
+        ensures { MatchOption result (message_of self.now.will ≡ [])
+            (λ p. message_of self.now.will ≡ p.now ∷ []) }
+    {
+        match &self.will {
+            Some(will) => Some(&will.publish),
+            None => None,
+        }
+    }
+
+    /// Its connection is lost: what is published of its will (3.1.2.5, 3.1.3.2.2).
+    pub(super) fn lose(&mut self) -> Option<Publish>
+        ensures left { self.new ≡ record self.old { here = false; will = waiting self.old.will } }
+        ensures published { option_to_list result ≡ lost_message self.old.will }
+    {
+        self.here = false;
+        match self.will.take() {
+            Some(will) => {
+                if will.delayed {
+                    self.will = Some(will);
+                    return None;
+                }
+                Some(will.publish)
+            }
+            None => None,
+        }
+    }
+
+    /// The delay of the will that waits has passed: what is published of it (3.1.3.2.2).
+    pub(super) fn publish_waiting(&mut self) -> Option<Publish>
+        ensures left { self.new ≡ record self.old { will = not_due self.old.here self.old.will } }
+        ensures published { option_to_list result ≡ due_message self.old.here self.old.will }
+    {
+        if self.here {
+            return None;
+        }
+        match self.will.take() {
+            Some(will) => Some(will.publish),
+            None => None,
+        }
+    }
+
+    /// It leaves: its will is dropped; nothing changes of one that isn't connected (3.14.4).
+    pub(super) fn leave(&mut self)
+        ensures { self.new
+            ≡ record self.old { here = false; will = left_will self.old.here self.old.will } }
+    {
+        if self.here {
+            self.will = None;
+        }
+        self.here = false;
+    }
+
+    /// It comes on a new connection, with this will: what its sender sends again (4.4), and what is published of the will of the
+    /// connection that this one replaces; one that waits is dropped (3.1.3.2.2, 3.1.4).
+    pub(super) fn come(
+        &mut self,
+        alloc: Global,
+        receive_max: Option<u16>,
+        will: Option<Will>,
+    ) -> Result<(VecDeque<Packet>, Option<Publish>), StateError>
+        ensures kept { OnOk result (self.new ≡ record {
+          kept = taken_up receive_max self.old.kept;
+          here = true;
+          will = will;
+        }) }
+        ensures sent { IfOk result (λ a. a.0.items
+            ≡ sent_in (resume_of (connected receive_max self.old.kept.sender) 0)) }
+        ensures published { IfOk result (λ a. option_to_list a.1
+            ≡ replaced_message self.old.here self.old.will) }
+        ensures memory { IfErr result (λ e. e ≡ StateError.OutOfMemory) }
+    {
+        let way = self.kept.take_up(alloc, receive_max)?;
+        let published = if self.here { self.lose() } else { None };
+        self.here = true;
+        self.will = will;
+        Ok((way, published))
+    }
+
+    /// This is kept for it, and not what was kept, which is answered.
+    pub(super) fn swap(&mut self, kept: Kept) -> Kept
+        ensures now { self.new ≡ record self.old { kept = kept } }
+        ensures before { result ≡ self.old.kept }
+    {
+        mem::replace(&mut self.kept, kept)
+    }
+
+    /// Its session ends, for which nothing is kept any more: what is published of its will (3.1.2.4, 3.1.3.2.2).
+    pub(super) fn end(&mut self) -> Option<Publish>
+        ensures left { self.new ≡ record self.old { here = false; will = None } }
+        ensures published { option_to_list result ≡ message_of self.old.will }
+    {
+        self.here = false;
+        match self.will.take() {
+            Some(will) => Some(will.publish),
+            None => None,
+        }
+    }
+}

@@ -1,0 +1,43 @@
+//! What a broker keeps follows each event of a network.
+
+ghost use Rattle.std.specs.Prelude.{◌≡◌, ◌∷◌, ◌++◌, ℕ, List, Option, Some, slice_get};
+ghost use Rattle.mqtt5_codec.specs.declared.packet.Packet.{Packet};
+ghost use Rattle.mqtt5_network.specs.declared.event.ClientEvent.TheVariants as events;
+ghost use Rattle.mqtt5_network.specs.declared.event.Will.{Will};
+ghost use Rattle.mqtt5_network.specs.Place.{Place};
+ghost use Rattle.mqtt5_network.specs.Network.{Network, happens_in};
+ghost use Rattle.mqtt5_sessions.specs.Sessions.{sessions_of, arrives, passes, loses, is_due, leaves, comes, ends};
+
+/// A law, which does nothing when it is called: what a broker keeps of a network, after each event of the client at a place, is
+/// what its own definitions make of it (MQTT 5.0 sections 3.1.2.4, 3.1.2.5, 3.1.3.2.2, 3.3.4, 3.8, 4.1, 4.3 and 4.4).
+pub fn sessions_law()
+    // A packet on its way up arrives.
+    ensures up { (n : Network) (i : ℕ) (p : Place) (x : Packet) (way : List Packet)
+        → slice_get n.places i ≡ Some p → p.client.up ≡ x ∷ way
+        → sessions_of (happens_in n (record { client = i; what = events.Up }))
+        ≡ arrives i x (sessions_of n) }
+    // The first of its queue is passed on.
+    ensures pass { (n : Network) (i : ℕ)
+        → sessions_of (happens_in n (record { client = i; what = events.PassOn }))
+        ≡ passes i (sessions_of n) }
+    // Its connection is lost.
+    ensures lost { (n : Network) (i : ℕ)
+        → sessions_of (happens_in n (record { client = i; what = events.Lost }))
+        ≡ loses i (sessions_of n) }
+    // The delay of its will has passed.
+    ensures due { (n : Network) (i : ℕ)
+        → sessions_of (happens_in n (record { client = i; what = events.Due }))
+        ≡ is_due i (sessions_of n) }
+    // It leaves.
+    ensures left { (n : Network) (i : ℕ)
+        → sessions_of (happens_in n (record { client = i; what = events.Left }))
+        ≡ leaves i (sessions_of n) }
+    // It comes on a new connection.
+    ensures back { (n : Network) (i : ℕ) (a b : Option ℕ) (will : Option Will)
+        → sessions_of (happens_in n (record { client = i; what = events.Back a b will }))
+        ≡ comes i b will (sessions_of n) }
+    // Its session ends.
+    ensures ended { (n : Network) (i : ℕ)
+        → sessions_of (happens_in n (record { client = i; what = events.Ends }))
+        ≡ ends i (sessions_of n) }
+{}

@@ -1,0 +1,13 @@
+//! What a broker keeps of all its clients, with calls over packets: what comes of one is handed on to those that subscribed to it,
+//! and messages are retained.
+#![tactic(auto)]
+
+mod client;
+mod coming;
+mod laws;
+mod sessions;
+#[cfg(test)]
+mod tests;
+
+pub use laws::sessions_law;
+pub use sessions::Sessions;

@@ -1,0 +1,235 @@
+//! What a broker keeps of all its clients.
+
+ghost use Rattle.std.specs.Prelude.{◌≡◌, [], IfOk, IfErr, OnOk, OnErr, length};
+ghost use Rattle.std.specs.Option.{option_to_list};
+ghost use Rattle.std.specs.NonZero.{non_zero_u16_get};
+ghost use Rattle.mqtt5_sessions.specs.Sessions.{joins, arrives, replies, passes, passed, loses};
+ghost use Rattle.mqtt5_sessions.specs.Sessions.{is_due, leaves, comes, sent_again, ends};
+
+use crate::client::ClientState;
+use crate::coming::{Coming, deliver_all, hand_on, is_publish, of_packet, of_will};
+use mqtt5_codec::Packet;
+use mqtt5_network::Will;
+use mqtt5_publish::Publish;
+use mqtt5_session::StateError;
+use std::alloc::Global;
+use std::collections::VecDeque;
+use std::marker::Model;
+use std::num::NonZeroU16;
+
+/// What a broker keeps of all its clients, which are numbered from 0, and the messages that it retains (MQTT 5.0 sections 3.3.1.3
+/// and 4.1). What happens to a client that isn't there is nothing.
+#[derive(Debug, Drop)]
+pub struct Sessions {
+    clients: Vec<ClientState>,
+    retained: Vec<Publish>,
+    coming: VecDeque<Coming>,
+}
+
+impl Model for Sessions {
+    ghost use Rattle.std.specs.Coded.{codes};
+    ghost use Rattle.mqtt5_base.specs.Codes.{utf8_code};
+    ghost use Rattle.mqtt5_base.specs.contracts.quality.QoS as quality;
+    ghost use Rattle.mqtt5_publish.specs.contracts.publish.Publish as publish;
+    ghost use Rattle.mqtt5_codec.specs.contracts.packet.Packet as packet;
+    ghost use Rattle.mqtt5_inflight.specs.Codes.{coded_in_use, coded_aliases, coded_incoming};
+    ghost use Rattle.mqtt5_inflight.specs.contracts.event.Event as event;
+    ghost use Rattle.mqtt5_network.specs.contracts.subscription.Subscription as subscription;
+    ghost use Rattle.mqtt5_sessions.specs.Sessions as model;
+    ghost use Rattle.mqtt5_sessions.specs.Coming.{delivered};
+
+    ghost Value = { model.Sessions };
+
+    ghost coded = { Prim.hlevel (codes, coded_in_use, coded_aliases, coded_incoming, utf8_code, quality.the_row.coded, event.the_row.coded, packet.the_row.coded, publish.the_row.coded, subscription.the_row.coded) };
+
+    ghost view = { λ a. record {
+      clients = delivered a.coming.items a.clients.items;
+      retained = a.retained.items;
+    } };
+}
+
+impl Sessions {
+    /// Of no client, and nothing is retained. Takes no memory.
+    pub fn new(alloc: Global) -> Sessions
+        ensures { result ≡ record { clients = []; retained = [] } }
+    {
+        Sessions {
+            clients: Vec::new(alloc),
+            retained: Vec::new(alloc),
+            coming: VecDeque::new(alloc),
+        }
+    }
+
+    /// One more client comes to be known, which isn't connected: its number. `limit` is the greatest packet identifier that the
+    /// broker uses to it (2.2.1). S12, which leaves all as it was.
+    pub fn join(&mut self, alloc: Global, limit: NonZeroU16) -> Result<usize, StateError>
+        ensures ok { OnOk result (self.new ≡ joins (non_zero_u16_get limit) self.old) }
+        ensures number { IfOk result (λ i. i ≡ length self.old.clients) }
+        ensures memory { IfErr result (λ e. e ≡ StateError.OutOfMemory) }
+        ensures left { OnErr result (self.new ≡ self.old) }
+    {
+        deliver_all(alloc, &mut self.coming, &mut self.clients)?;
+        let client = ClientState::new(alloc, limit)?;
+        let number = self.clients.len();
+        self.clients.push(client)?;
+        Ok(number)
+    }
+
+    /// A packet comes from a client: what is sent back, if anything is. A publish is handed on at once to each client of which a
+    /// subscription holds for it, into its queue, and is retained, if it asks for that (3.3.1.3, 3.3.4, 3.8.4, 3.10.4 and 4.3). S12,
+    /// which leaves all as it was.
+    pub fn arrive(
+        &mut self,
+        alloc: Global,
+        client: usize,
+        packet: Packet,
+    ) -> Result<Option<Packet>, StateError>
+        ensures ok { OnOk result (self.new ≡ arrives client packet self.old) }
+        ensures reply { IfOk result (λ r. option_to_list r ≡ replies client packet self.old) }
+        ensures memory { IfErr result (λ e. e ≡ StateError.OutOfMemory) }
+        ensures left { OnErr result (self.new ≡ self.old) }
+    {
+        deliver_all(alloc, &mut self.coming, &mut self.clients)?;
+        if client >= self.clients.len() {
+            return Ok(None);
+        }
+        let made = of_packet(
+            alloc,
+            client,
+            &packet,
+            self.clients.as_slice(),
+            self.retained.as_slice(),
+        )?;
+        self.retained.reserve(1)?;
+        let publishes = is_publish(&packet);
+        let arrived = self.clients[client].arrive(alloc, packet)?;
+        let reply = arrived.reply;
+        let handed = arrived.handed;
+        if publishes {
+            hand_on(handed, made, &mut self.coming, &mut self.retained);
+            return Ok(reply);
+        }
+        self.coming = made;
+        Ok(reply)
+    }
+
+    /// The first publish of a client's queue is passed on, if there is one, and the client is connected: what is sent to it. One
+    /// whose identifier another one waits for stays the first, and nothing is sent (2.2.1). S12, which leaves all as it was.
+    pub fn pass(&mut self, alloc: Global, client: usize) -> Result<Option<Packet>, StateError>
+        ensures ok { OnOk result (self.new ≡ passes client self.old) }
+        ensures sent { IfOk result (λ r. option_to_list r ≡ passed client self.old) }
+        ensures memory { IfErr result (λ e. e ≡ StateError.OutOfMemory) }
+        ensures left { OnErr result (self.new ≡ self.old) }
+    {
+        deliver_all(alloc, &mut self.coming, &mut self.clients)?;
+        if client >= self.clients.len() {
+            return Ok(None);
+        }
+        let sent = self.clients[client].pass()?;
+        Ok(sent)
+    }
+
+    /// A client's connection is lost: its will is published, or waits, if it has a delay (3.1.2.5, 3.1.3.2.2). S12, which leaves
+    /// all as it was.
+    pub fn lose(&mut self, alloc: Global, client: usize) -> Result<(), StateError>
+        ensures ok { OnOk result (self.new ≡ loses client self.old) }
+        ensures memory { IfErr result (λ e. e ≡ StateError.OutOfMemory) }
+        ensures left { OnErr result (self.new ≡ self.old) }
+    {
+        deliver_all(alloc, &mut self.coming, &mut self.clients)?;
+        if client >= self.clients.len() {
+            return Ok(());
+        }
+        let made = of_will(alloc, client, self.clients.as_slice())?;
+        self.retained.reserve(1)?;
+        let handed = self.clients[client].lose();
+        hand_on(handed, made, &mut self.coming, &mut self.retained);
+        Ok(())
+    }
+
+    /// The delay of a will has passed: of a client that isn't connected the one that waits is published, if there is one
+    /// (3.1.3.2.2). S12, which leaves all as it was.
+    pub fn due(&mut self, alloc: Global, client: usize) -> Result<(), StateError>
+        ensures ok { OnOk result (self.new ≡ is_due client self.old) }
+        ensures memory { IfErr result (λ e. e ≡ StateError.OutOfMemory) }
+        ensures left { OnErr result (self.new ≡ self.old) }
+    {
+        deliver_all(alloc, &mut self.coming, &mut self.clients)?;
+        if client >= self.clients.len() {
+            return Ok(());
+        }
+        let made = of_will(alloc, client, self.clients.as_slice())?;
+        self.retained.reserve(1)?;
+        let handed = self.clients[client].publish_waiting();
+        hand_on(handed, made, &mut self.coming, &mut self.retained);
+        Ok(())
+    }
+
+    /// A client leaves, with a Disconnect of reason 0: its will is dropped (3.14.4). S12, which leaves all as it was.
+    pub fn leave(&mut self, alloc: Global, client: usize) -> Result<(), StateError>
+        ensures ok { OnOk result (self.new ≡ leaves client self.old) }
+        ensures memory { IfErr result (λ e. e ≡ StateError.OutOfMemory) }
+        ensures left { OnErr result (self.new ≡ self.old) }
+    {
+        deliver_all(alloc, &mut self.coming, &mut self.clients)?;
+        if client >= self.clients.len() {
+            return Ok(());
+        }
+        self.clients[client].leave();
+        Ok(())
+    }
+
+    /// A client comes on a new connection, with the receive maximum that it says, if it says one, and its will: what is sent again
+    /// (4.4). One that is connected takes its own session over (3.1.4): the will of the old connection is published, or dropped, if it
+    /// has a delay. A will that waits is dropped. S12.
+    pub fn come(
+        &mut self,
+        alloc: Global,
+        client: usize,
+        receive_max: Option<u16>,
+        will: Option<Will>,
+    ) -> Result<VecDeque<Packet>, StateError>
+        ensures ok { OnOk result (self.new ≡ comes client receive_max will self.old) }
+        ensures sent { IfOk result (λ way. way.items ≡ sent_again client receive_max self.old) }
+        ensures memory { IfErr result (λ e. e ≡ StateError.OutOfMemory) }
+    {
+        deliver_all(alloc, &mut self.coming, &mut self.clients)?;
+        if client >= self.clients.len() {
+            return Ok(VecDeque::new(alloc));
+        }
+        let made = of_will(alloc, client, self.clients.as_slice())?;
+        self.retained.reserve(1)?;
+        let (way, handed) = self.clients[client].come(alloc, receive_max, will)?;
+        hand_on(handed, made, &mut self.coming, &mut self.retained);
+        Ok(way)
+    }
+
+    /// A client's session ends, by a clean start or since it expired, with all that was kept for it, and its will is published, also
+    /// one that waits (3.1.2.4, 3.1.3.2.2). S12, which leaves all as it was.
+    pub fn end(&mut self, alloc: Global, client: usize) -> Result<(), StateError>
+        ensures ok { OnOk result (self.new ≡ ends client self.old) }
+        ensures memory { IfErr result (λ e. e ≡ StateError.OutOfMemory) }
+        ensures left { OnErr result (self.new ≡ self.old) }
+    {
+        deliver_all(alloc, &mut self.coming, &mut self.clients)?;
+        if client >= self.clients.len() {
+            return Ok(());
+        }
+        self.retained.reserve(1)?;
+        let renewed = self.clients[client].renewed(alloc)?;
+        // (its own subscriptions have ended when its will is published)
+        let kept = self.clients[client].swap(renewed);
+        match of_will(alloc, client, self.clients.as_slice()) {
+            Ok(made) => {
+                drop(kept);
+                let handed = self.clients[client].end();
+                hand_on(handed, made, &mut self.coming, &mut self.retained);
+                Ok(())
+            }
+            Err(refused) => {
+                drop(self.clients[client].swap(kept));
+                Err(StateError::from(refused))
+            }
+        }
+    }
+}
