@@ -1,0 +1,166 @@
+-- What packets leave as it is: the limit, and that no bytes are held on a connection of which none are.
+use Rattle.std.proofs.Common.{◌≡◌, ◌≢◌, ℕ, zero, suc, Bool, true, false, List, [], ◌∷◌, Option, Some, None, refl, subst, ap, ◌∙◌, get_or, set, if◌then◌else◌, Result, Ok, Err}
+use Rattle.mqtt5_base.specs.declared.error.Error.{Error}
+use Rattle.mqtt5_codec.specs.declared.packet.Packet.{Packet}
+use Rattle.mqtt5_codec.specs.declared.packet.Packet.TheVariants as packets
+use Rattle.mqtt5_codec.specs.Packets.{writing_under}
+use Rattle.mqtt5_connect.specs.declared.connect.Connect.{Connect}
+use Rattle.mqtt5_connect.specs.declared.will.LastWill.{LastWill}
+use Rattle.mqtt5_control.specs.declared.connack.ConnectReturnCode.{ConnectReturnCode}
+use Rattle.mqtt5_control.specs.declared.disconnect.DisconnectReasonCode.{DisconnectReasonCode}
+use Rattle.mqtt5_control.specs.declared.disconnect.DisconnectReasonCode.TheVariants as reasons
+use Rattle.mqtt5_sessions.specs.Sessions.{replies, sent_again}
+use Rattle.mqtt5_broker.specs.declared.member.Member.{Member}
+use Rattle.mqtt5_broker.specs.declared.serving.Kind.{Kind}
+use Rattle.mqtt5_broker.specs.declared.serving.Kind.TheVariants as kinds
+use Rattle.mqtt5_broker.specs.Connection.{Connection, closed, shut, told, with_bytes, written, written_all, connection_at, connection_of}
+use Rattle.mqtt5_broker.specs.Broker.{Broker, on_connection, forgets, loses_client, leaves_client, stays_at, refuses, numbers, number_in, free_number, number_of}
+use Rattle.mqtt5_broker.specs.Judging.{packet_fault, connect_fault}
+use Rattle.mqtt5_broker.specs.Serving.{kind_of, arrives_from, goes, disconnects, serves_as, serves_by, serves, connack, refusal, receive_max_of, member_of, taken_by, comes_in, displaced, displaces, begins, enters, admits_as, admits, connects_by, connects, begins_with, takes_of, takes_at, takes}
+use Rattle.mqtt5_broker.specs.Receiving.{takes_all}
+
+-- ---- connections
+
+-- of the connection at a place, after another was put at some place
+pub at_changed : (Q : Connection → Type 0) (c d : ℕ) (ls : List Connection) (new : Connection) → Q (get_or ls c closed) → (c ≡ d → Q new) → Q (get_or (set ls d new) c closed)
+at_changed Q c d [] new q h = q
+at_changed Q zero zero (x ∷ xs) new q h = h refl
+at_changed Q zero (suc d) (x ∷ xs) new q h = q
+at_changed Q (suc c) zero (x ∷ xs) new q h = q
+at_changed Q (suc c) (suc d) (x ∷ xs) new q h = at_changed Q c d xs new q (λ e. h (ap suc e))
+
+-- what is written leaves what is held, and whether more is taken
+with_bytes_held : (r : Result (List ℕ) Error) (l : Connection) → (with_bytes r l).held ≡ l.held
+with_bytes_held (Ok bytes) l = refl
+with_bytes_held (Err e) l = refl
+
+pub written_held : (p : Packet) (l : Connection) → (written p l).held ≡ l.held
+unfolding written
+written_held p l = with_bytes_held (writing_under l.longest p) l
+
+pub all_held : (ps : List Packet) (l : Connection) → (written_all ps l).held ≡ l.held
+all_held [] l = refl
+all_held (p ∷ ps) l = all_held ps (written p l) ∙ written_held p l
+
+-- ---- a broker
+
+-- no bytes are held on a connection, and the limit is this
+pub record Keeps (c n : ℕ) (b : Broker) : Type 0 where
+  pub held : (connection_at c b.connections).held ≡ []
+  pub longest : b.longest ≡ n
+
+module _ (c n : ℕ) where
+  pub on_keeps : (d : ℕ) (f : Connection → Connection) (b : Broker) → ((l : Connection) → l.held ≡ [] → (f l).held ≡ []) → Keeps c n b → Keeps c n (on_connection d f b)
+  on_keeps d f b h k = record {
+    held = at_changed (λ (l : Connection). l.held ≡ []) c d b.connections (f (connection_at d b.connections)) k.held (λ e. h (connection_at d b.connections) (subst (λ (j : ℕ). (connection_at j b.connections).held ≡ []) e k.held));
+    longest = k.longest;
+  }
+
+  if_keeps : (v : Bool) (x y : Broker) → Keeps c n x → Keeps c n y → Keeps c n (if v then x else y)
+  if_keeps true x y k m = k
+  if_keeps false x y k m = m
+
+  forgets_keeps : (i : ℕ) (b : Broker) → Keeps c n b → Keeps c n (forgets i b)
+  unfolding forgets
+  forgets_keeps i b k = record { held = k.held; longest = k.longest }
+
+  loses_keeps : (i : ℕ) (b : Broker) → Keeps c n b → Keeps c n (loses_client i b)
+  unfolding loses_client
+  loses_keeps i b k = if_keeps (stays_at i b.members) _ _ (record { held = k.held; longest = k.longest }) (forgets_keeps i b k)
+
+  leaves_keeps : (i : ℕ) (b : Broker) → Keeps c n b → Keeps c n (leaves_client i b)
+  unfolding leaves_client
+  leaves_keeps i b k = if_keeps (stays_at i b.members) _ _ (record { held = k.held; longest = k.longest }) (forgets_keeps i _ (record { held = k.held; longest = k.longest }))
+
+  refuses_keeps : (d i : ℕ) (reason : DisconnectReasonCode) (b : Broker) → Keeps c n b → Keeps c n (refuses d i reason b)
+  unfolding refuses
+  refuses_keeps d i reason b k = on_keeps d (told reason) (loses_client i b) (λ l h. refl) (loses_keeps i b k)
+
+  -- ---- a client that is connected
+
+  arrives_keeps : (d i : ℕ) (x : Packet) (b : Broker) → Keeps c n b → Keeps c n (arrives_from d i x b)
+  unfolding arrives_from
+  arrives_keeps d i x b k = on_keeps d (written_all (replies i x b.sessions)) _ (λ l h. all_held (replies i x b.sessions) l ∙ h) (record { held = k.held; longest = k.longest })
+
+  goes_keeps : (reason : DisconnectReasonCode) (i : ℕ) (b : Broker) → Keeps c n b → Keeps c n (goes reason i b)
+  goes_keeps reasons.NormalDisconnection i b k = leaves_keeps i b k
+  goes_keeps other i b k = loses_keeps i b k
+
+  disconnects_keeps : (d i : ℕ) (reason : DisconnectReasonCode) (b : Broker) → Keeps c n b → Keeps c n (disconnects d i reason b)
+  unfolding disconnects
+  disconnects_keeps d i reason b k = on_keeps d shut (goes reason i b) (λ l h. refl) (goes_keeps reason i b k)
+
+  as_keeps : (kind : Kind) (d i : ℕ) (x : Packet) (b : Broker) → Keeps c n b → Keeps c n (serves_as kind d i x b)
+  as_keeps kinds.Ping d i x b k = on_keeps d (written (packets.PingResp (record {}))) b (λ l h. written_held (packets.PingResp (record {})) l ∙ h) k
+  as_keeps (kinds.Goodbye reason) d i x b k = disconnects_keeps d i reason b k
+  as_keeps kinds.Message d i x b k = arrives_keeps d i x b k
+
+  by_keeps : (fault : Option DisconnectReasonCode) (d i : ℕ) (x : Packet) (b : Broker) → Keeps c n b → Keeps c n (serves_by fault d i x b)
+  by_keeps (Some reason) d i x b k = refuses_keeps d i reason b k
+  by_keeps None d i x b k = as_keeps (kind_of x) d i x b k
+
+  serves_keeps : (d i : ℕ) (x : Packet) (b : Broker) → Keeps c n b → Keeps c n (serves d i x b)
+  unfolding serves
+  serves_keeps d i x b k = by_keeps (packet_fault x) d i x b k
+
+  -- ---- a Connect
+
+  comes_keeps : (d i : ℕ) (present : Bool) (q : Connect) (b : Broker) → Keeps c n b → Keeps c n (comes_in d i present q b)
+  unfolding comes_in
+  comes_keeps d i present q b k =
+      on_keeps d (λ (l : Connection). written_all (connack present ∷ sent_again i (Some (receive_max_of q.properties)) b.sessions) (taken_by i q l)) _
+      (λ l h. all_held (connack present ∷ sent_again i (Some (receive_max_of q.properties)) b.sessions) (taken_by i q l) ∙ h) (record { held = k.held; longest = k.longest })
+
+  displaced_keeps : (o : Option ℕ) (b : Broker) → Keeps c n b → Keeps c n (displaced o b)
+  displaced_keeps None b k = k
+  displaced_keeps (Some d) b k = on_keeps d (told reasons.SessionTakenOver) b (λ l h. refl) k
+
+  displaces_keeps : (i : ℕ) (b : Broker) → Keeps c n b → Keeps c n (displaces i b)
+  unfolding displaces
+  displaces_keeps i b k = displaced_keeps (connection_of i b.connections) b k
+
+  begins_keeps : (i : ℕ) (q : Connect) (b : Broker) → Keeps c n b → Keeps c n (begins i q b)
+  unfolding begins
+  begins_keeps i q b k = record { held = k.held; longest = k.longest }
+
+  numbers_keeps : (m : Member) (o : Option ℕ) (b : Broker) → Keeps c n b → Keeps c n (numbers m o b)
+  numbers_keeps m None b k = record { held = k.held; longest = k.longest }
+  numbers_keeps m (Some i) b k = record { held = k.held; longest = k.longest }
+
+  enters_keeps : (d : ℕ) (q : Connect) (b : Broker) → Keeps c n b → Keeps c n (enters d q b)
+  unfolding enters
+  enters_keeps d q b k = comes_keeps d (number_in (free_number b.members) b) false q _ (numbers_keeps (member_of q) (free_number b.members) b k)
+
+  admits_as_keeps : (o : Option ℕ) (d : ℕ) (q : Connect) (b : Broker) → Keeps c n b → Keeps c n (admits_as o d q b)
+  admits_as_keeps (Some i) d q b k = comes_keeps d i _ q _ (begins_keeps i q (displaces i b) (displaces_keeps i b k))
+  admits_as_keeps None d q b k = enters_keeps d q b k
+
+  admits_keeps : (d : ℕ) (q : Connect) (b : Broker) → Keeps c n b → Keeps c n (admits d q b)
+  unfolding admits
+  admits_keeps d q b k = admits_as_keeps (number_of q.client_id b.members) d q b k
+
+  connects_by_keeps : (o : Option ConnectReturnCode) (d : ℕ) (q : Connect) (b : Broker) → Keeps c n b → Keeps c n (connects_by o d q b)
+  connects_by_keeps (Some code) d q b k = on_keeps d (λ (l : Connection). shut (written (refusal code) l)) b (λ l h. refl) k
+  connects_by_keeps None d q b k = admits_keeps d q b k
+
+  connects_keeps : (d : ℕ) (q : Connect) (will : Option LastWill) (b : Broker) → Keeps c n b → Keeps c n (connects d q will b)
+  unfolding connects
+  connects_keeps d q will b k = connects_by_keeps (connect_fault q will) d q b k
+
+  -- ---- any packet
+
+  begins_with_keeps : (d : ℕ) (x : Packet) (b : Broker) → Keeps c n b → Keeps c n (begins_with d x b)
+  begins_with_keeps d (packets.Connect q will login) b k = connects_keeps d q will b k
+  begins_with_keeps d other b k = on_keeps d shut b (λ l h. refl) k
+
+  of_keeps : (o : Option ℕ) (d : ℕ) (x : Packet) (b : Broker) → Keeps c n b → Keeps c n (takes_of o d x b)
+  of_keeps None d x b k = begins_with_keeps d x b k
+  of_keeps (Some i) d x b k = serves_keeps d i x b k
+
+  pub takes_keeps : (d : ℕ) (x : Packet) (b : Broker) → Keeps c n b → Keeps c n (takes d x b)
+  unfolding takes
+  takes_keeps d x b k = if_keeps (connection_at d b.connections).is_open _ _ (of_keeps (connection_at d b.connections).client d x b k) k
+
+  pub all_keeps : (d : ℕ) (xs : List Packet) (b : Broker) → Keeps c n b → Keeps c n (takes_all d xs b)
+  all_keeps d [] b k = k
+  all_keeps d (x ∷ xs) b k = all_keeps d xs (takes d x b) (takes_keeps d x b k)

@@ -1,0 +1,5 @@
+pub mod Cutting
+pub mod Written
+pub mod Taking
+pub mod Keeping
+pub mod Pieces

@@ -1,0 +1,16 @@
+use Rattle.std.proofs.Common.{sym, subst, ap, ◌∙◌, ◌&&◌}
+use Rattle.std.specs.Str.{IsUtf8, is_utf8}
+use Rattle.std.proofs.lemmas.Bool.{false_from_ne_true}
+use Rattle.std.proofs.lemmas.Str.{is_utf8-from_IsUtf8, IsUtf8-from_is_utf8}
+use Rattle.mqtt5_broker.specs.Judging.{is_topic_text}
+use Rattle.mqtt5_broker.proofs.judging.is_topic.Goals as goal
+
+pub returns-in-Ok : goal.returns-in-Ok
+returns-in-Ok c =
+    let t = c.args.bytes.now in
+    c.is_topic_text.ensures ∙ ap is_topic_text c.in-Ok.ensures.cases.0 ∙ sym (ap (λ u. u && is_topic_text t) (is_utf8-from_IsUtf8 t c.in-Ok.ensures.cases.1))
+
+pub returns-in-Err : goal.returns-in-Err
+returns-in-Err c =
+    let t = c.args.bytes.now in
+    sym (ap (λ u. u && is_topic_text t) (false_from_ne_true (is_utf8 t) (λ h. c.in-Err.ensures.cases.0 (IsUtf8-from_is_utf8 t h))))

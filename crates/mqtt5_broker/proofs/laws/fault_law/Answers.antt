@@ -1,0 +1,8 @@
+use Rattle.mqtt5_broker.proofs.Pieces.{broken_closed, others_stay}
+use Rattle.mqtt5_broker.proofs.laws.fault_law.Goals as goal
+
+pub returns-clause-ends : goal.returns-clause-ends
+returns-clause-ends c = λ i e b. broken_closed i e b
+
+pub returns-clause-others : goal.returns-clause-others
+returns-clause-others c = λ i d e b ne. others_stay i d e b ne

@@ -1,0 +1,86 @@
+-- What a broker keeps of a connection (MQTT 5.0 sections 3.1.2.11.4 and 4.2).
+use Rattle.std.specs.Prelude.{ℕ, ◌==◌, Bool, true, false, List, [], ◌∷◌, ◌++◌, drop, Option, Some}
+use Rattle.std.specs.Prelude.{None, Result, Ok, Err, slice_index_or, slice_set, if◌then◌else◌}
+use Rattle.std.specs.List.{position}
+use Rattle.mqtt5_base.specs.declared.error.Error.{Error}
+use Rattle.mqtt5_control.specs.declared.disconnect.DisconnectReasonCode.{DisconnectReasonCode}
+use Rattle.mqtt5_codec.specs.declared.packet.Packet.{Packet}
+use Rattle.mqtt5_codec.specs.declared.packet.Packet.TheVariants as packets
+use Rattle.mqtt5_codec.specs.Packets.{writing_under}
+
+-- whether bytes of it are taken; the number of the client that connected on it; the longest packet
+-- that this client takes; the bytes that came in and are no whole frame yet; and those to be sent
+pub record Connection : Type 0 where
+  pub is_open : Bool
+  pub client : Option ℕ
+  pub longest : Option ℕ
+  pub held : List ℕ
+  pub output : List ℕ
+
+-- none
+abbrev pub closed : Connection
+closed = record { is_open = false; client = None; longest = None; held = []; output = [] }
+
+-- one of which nothing came
+abbrev pub opened : Connection
+opened = record { is_open = true; client = None; longest = None; held = []; output = [] }
+
+-- nothing more is taken of it; what was written is still to be sent
+abbrev pub shut : Connection → Connection
+shut l = record l { is_open = false; client = None; held = [] }
+
+-- a packet is written to it; one that can't be written, or is longer than the client takes, isn't
+-- (3.1.2.11.4)
+abbrev pub with_bytes : Result (List ℕ) Error → Connection → Connection
+with_bytes (Ok bytes) l = record l { output = l.output ++ bytes }
+with_bytes (Err e) l = l
+
+unfoldable pub written : Packet → Connection → Connection
+written p l = with_bytes (writing_under l.longest p) l
+
+-- so of many, in order
+abbrev pub written_all : List Packet → Connection → Connection
+written_all [] l = l
+written_all (p ∷ ps) l = written_all ps (written p l)
+
+-- a Disconnect (3.14)
+abbrev pub disconnect : DisconnectReasonCode → Packet
+disconnect reason = packets.Disconnect (record { reason_code = reason; properties = None })
+
+-- its client is told why it ends, and nothing more is taken of it (4.13)
+abbrev pub told : DisconnectReasonCode → Connection → Connection
+told reason l = shut (written (disconnect reason) l)
+
+-- none are held
+abbrev pub emptied : Connection → Connection
+emptied l = record l { held = [] }
+
+-- bytes are held, where more are taken
+abbrev pub holding : List ℕ → Connection → Connection
+holding bytes l = if l.is_open then record l { held = bytes } else l
+
+-- so many bytes were sent
+abbrev pub sent_of : ℕ → Connection → Connection
+sent_of n l = record l { output = drop n l.output }
+
+-- ---- of many
+
+-- the one of a number
+abbrev pub connection_at : ℕ → List Connection → Connection
+connection_at c ls = slice_index_or ls c closed
+
+-- it changes
+abbrev pub with_connection : ℕ → (Connection → Connection) → List Connection → List Connection
+with_connection c f ls = slice_set ls c (f (connection_at c ls))
+
+-- whether one is that of a client
+abbrev pub is_client : ℕ → Option ℕ → Bool
+is_client i None = false
+is_client i (Some n) = n == i
+
+abbrev pub is_of : ℕ → Connection → Bool
+is_of i l = is_client i l.client
+
+-- the one of a client
+abbrev pub connection_of : ℕ → List Connection → Option ℕ
+connection_of i ls = position (is_of i) ls

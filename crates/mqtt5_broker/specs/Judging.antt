@@ -1,0 +1,108 @@
+-- Which packets a broker refuses, and why (MQTT 5.0 sections 3.1.4, 3.14.2.1 and 4.13).
+use Rattle.std.specs.Prelude.{ℕ, ◌==◌, Bool, true, false, not, ◌||◌, ◌&&◌, List, length}
+use Rattle.std.specs.Prelude.{Option, Some, None, is_some, if◌then◌else◌, nat_eq, codes}
+use Rattle.std.specs.List.{list_any, starts_with}
+use Rattle.std.specs.Str.{is_utf8}
+use Rattle.mqtt5_base.specs.Topics.{is_valid_filter, is_valid_topic}
+use Rattle.mqtt5_publish.specs.declared.publish.Publish.{Publish}
+use Rattle.mqtt5_publish.specs.declared.publish.PublishProperties.{PublishProperties}
+use Rattle.mqtt5_subscribe.specs.declared.filter.Filter.{Filter}
+use Rattle.mqtt5_subscribe.specs.declared.subscribe.Subscribe.{Subscribe}
+use Rattle.mqtt5_subscribe.specs.declared.subscribe.SubscribeProperties.{SubscribeProperties}
+use Rattle.mqtt5_connect.specs.declared.connect.Connect.{Connect}
+use Rattle.mqtt5_connect.specs.declared.connect.ConnectProperties.{ConnectProperties}
+use Rattle.mqtt5_connect.specs.declared.will.LastWill.{LastWill}
+use Rattle.mqtt5_control.specs.declared.connack.ConnectReturnCode.{ConnectReturnCode}
+use Rattle.mqtt5_control.specs.declared.connack.ConnectReturnCode.TheVariants as return_codes
+use Rattle.mqtt5_control.specs.declared.disconnect.DisconnectReasonCode.{DisconnectReasonCode}
+use Rattle.mqtt5_control.specs.declared.disconnect.DisconnectReasonCode.TheVariants as reasons
+use Rattle.mqtt5_codec.specs.declared.packet.Packet.{Packet}
+use Rattle.mqtt5_codec.specs.declared.packet.Packet.TheVariants as packets
+
+-- ---- publishes
+
+-- text of a byte at least (4.7.3), without a wildcard (4.7.1)
+abbrev pub is_topic_text : List ℕ → Bool
+is_topic_text t = not (length t == 0) && is_valid_topic t
+
+-- a topic (3.3.2.1)
+abbrev pub is_topic : List ℕ → Bool
+is_topic t = is_utf8 t && is_topic_text t
+
+-- its properties: no topic alias, since the broker says that it takes none (3.3.2.3.4), and no
+-- subscription identifier, which no client sends (3.3.4)
+abbrev pub properties_fault : Option PublishProperties → Option DisconnectReasonCode
+properties_fault None = None
+properties_fault (Some set) =
+    if is_some set.topic_alias then Some reasons.TopicAliasInvalid
+    else if length set.subscription_identifiers == 0 then None else Some reasons.ProtocolError
+
+-- the one, if there is one, and otherwise the other
+abbrev pub first_of : Option DisconnectReasonCode → Option DisconnectReasonCode
+    → Option DisconnectReasonCode
+first_of (Some reason) other = Some reason
+first_of None other = other
+
+abbrev pub topic_fault : List ℕ → Option DisconnectReasonCode
+topic_fault t = if is_topic t then None else Some reasons.TopicNameInvalid
+
+abbrev pub publish_fault : Publish → Option DisconnectReasonCode
+publish_fault p = first_of (properties_fault p.properties) (topic_fault p.topic)
+
+-- ---- subscriptions
+
+-- that of a shared subscription, which the broker says that it hasn't (4.8.2)
+abbrev pub is_shared : Filter → Bool
+is_shared f = starts_with nat_eq f.path.bytes (codes "$share/")
+
+-- no filter (4.7)
+abbrev pub is_malformed : Filter → Bool
+is_malformed f = not (is_valid_filter f.path.bytes)
+
+-- a subscription identifier, which the broker says that it doesn't take (3.8.2.1.2)
+abbrev pub identifier_fault : Option SubscribeProperties → Option DisconnectReasonCode
+identifier_fault None = None
+identifier_fault (Some set) =
+    if is_some set.id then Some reasons.SubscriptionIdentifiersNotSupported else None
+
+abbrev pub filters_fault : List Filter → Option DisconnectReasonCode
+filters_fault fs =
+    if list_any is_shared fs then Some reasons.SharedSubscriptionNotSupported
+    else if list_any is_malformed fs then Some reasons.TopicFilterInvalid else None
+
+abbrev pub subscribe_fault : Subscribe → Option DisconnectReasonCode
+subscribe_fault s = first_of (identifier_fault s.properties) (filters_fault s.filters)
+
+-- ---- any packet of a client that is connected (3.1.0, 4.12, 4.13.1)
+
+abbrev pub packet_fault : Packet → Option DisconnectReasonCode
+packet_fault (packets.Publish p) = publish_fault p
+packet_fault (packets.Subscribe s) = subscribe_fault s
+packet_fault (packets.Unsubscribe u) = None
+packet_fault (packets.PubAck a) = None
+packet_fault (packets.PubRec a) = None
+packet_fault (packets.PubRel a) = None
+packet_fault (packets.PubComp a) = None
+packet_fault (packets.PingReq r) = None
+packet_fault (packets.Disconnect d) = None
+packet_fault other = Some reasons.ProtocolError
+
+-- ---- a Connect (3.1.2.11.3, 3.1.2.11.4, 3.1.3.1, 4.12)
+
+-- a number that may be left out, and isn't 0
+abbrev pub is_zero : Option ℕ → Bool
+is_zero None = false
+is_zero (Some n) = n == 0
+
+abbrev pub settings_fault : Option ConnectProperties → Option ConnectReturnCode
+settings_fault None = None
+settings_fault (Some set) =
+    if is_zero set.receive_maximum || is_zero set.max_packet_size then Some return_codes.ProtocolError
+    else if is_some set.authentication_method then Some return_codes.BadAuthenticationMethod else None
+
+-- this broker takes no client without a name, and no will
+abbrev pub connect_fault : Connect → Option LastWill → Option ConnectReturnCode
+connect_fault k will =
+    if length k.client_id.bytes == 0 then Some return_codes.ClientIdentifierNotValid
+    else if is_some will then Some return_codes.ImplementationSpecificError
+    else settings_fault k.properties

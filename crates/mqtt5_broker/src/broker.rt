@@ -1,0 +1,291 @@
+//! A broker: bytes of connections in, bytes for connections out.
+
+ghost use Rattle.std.specs.Prelude.{◌≡◌, [], Some, not, nat_lt, ◌&&◌, ◌⊎◌, length, replicate, OnOk, OnErr, IfOk, IfErr};
+ghost use Rattle.std.specs.NonZero.{non_zero_u16_get};
+ghost use Rattle.mqtt5_broker.specs.Cut.{cut_up, Holds, Breaks};
+ghost use Rattle.mqtt5_broker.specs.Connection.{closed, sent_of, connection_at};
+ghost use Rattle.mqtt5_broker.specs.Broker.{on_connection};
+ghost use Rattle.mqtt5_broker.specs.Serving.{passes_on};
+ghost use Rattle.mqtt5_broker.specs.Receiving.{comes_of, receives, opens, closes, ends_with, reason_for};
+
+use crate::connection::Connection;
+use crate::connections::{client_at, hold_at, is_open_at, shut_at, write_some_at};
+use crate::member::Member;
+use bytes::BytesMut;
+use mqtt5_base::{Error, front_laws};
+use mqtt5_codec::{Codec, frame_laws};
+use mqtt5_control::DisconnectReasonCode;
+use mqtt5_session::StateError;
+use mqtt5_sessions::Sessions;
+use std::alloc::{AllocError, Global};
+use std::marker::Model;
+use std::num::NonZeroU16;
+
+/// What an operator sets.
+#[derive(Debug, Clone, Copy)]
+pub struct Limits {
+    /// How many connections there are: their numbers are below it.
+    pub connections: usize,
+    /// The greatest remaining length of a packet that a client may send, in bytes (2.1.4).
+    pub longest: u32,
+    /// The greatest packet identifier that is used to a client, and so how many publishes of QoS 1 and 2 it is sent ahead of
+    /// their acks at most (2.2.1).
+    pub ids: NonZeroU16,
+}
+
+/// A broker: the sessions of its clients, who has them, and its connections, which are numbers of the caller's (MQTT 5.0 section 4).
+#[derive(Debug, Drop)]
+pub struct Broker {
+    pub(super) sessions: Sessions,
+    pub(super) members: Vec<Option<Member>>,
+    pub(super) connections: Vec<Connection>,
+    pub(super) limit: NonZeroU16,
+    pub(super) longest: u32,
+}
+
+impl Model for Broker {
+    ghost use Rattle.std.specs.Coded.{codes};
+    ghost use Rattle.std.specs.NonZero.{non_zero_u16_get};
+    ghost use Rattle.mqtt5_base.specs.Codes.{utf8_code};
+    ghost use Rattle.mqtt5_base.specs.contracts.quality.QoS as quality;
+    ghost use Rattle.mqtt5_publish.specs.contracts.publish.Publish as publish;
+    ghost use Rattle.mqtt5_codec.specs.contracts.packet.Packet as packet;
+    ghost use Rattle.mqtt5_inflight.specs.Codes.{coded_in_use, coded_aliases, coded_incoming};
+    ghost use Rattle.mqtt5_inflight.specs.contracts.event.Event as event;
+    ghost use Rattle.mqtt5_network.specs.contracts.subscription.Subscription as subscription;
+    ghost use Rattle.mqtt5_broker.specs.contracts.member.Member as member;
+    ghost use Rattle.mqtt5_broker.specs.Broker as model;
+
+    ghost Value = { model.Broker };
+
+    ghost coded = { Prim.hlevel (codes, coded_in_use, coded_aliases, coded_incoming, utf8_code, quality.the_row.coded, event.the_row.coded, packet.the_row.coded, publish.the_row.coded, subscription.the_row.coded, member.the_row.coded) };
+
+    ghost view = { λ a. record {
+      sessions = a.sessions;
+      members = a.members.items;
+      connections = a.connections.items;
+      limit = non_zero_u16_get a.limit;
+      longest = a.longest;
+    } };
+}
+
+/// So many connections, none of which is there.
+fn none_of(alloc: Global, count: usize) -> Result<Vec<Connection>, AllocError>
+    ensures { IfOk result (λ all. all.items ≡ replicate count closed) }
+{
+    let mut all = Vec::new(alloc);
+    for i in 0..count {
+        all.push(Connection::closed(alloc))?;
+    }
+    Ok(all)
+}
+
+/// Why a connection ends at a fault of its bytes (4.13.1).
+fn reason_for(error: &Error) -> DisconnectReasonCode
+    ensures { result ≡ reason_for error.now }
+{
+    match error {
+        Error::PayloadSizeLimitExceeded { .. } => DisconnectReasonCode::PacketTooLarge,
+        _other => DisconnectReasonCode::MalformedPacket,
+    }
+}
+
+impl Broker {
+    /// A broker without a client. Err where memory is refused.
+    pub fn new(alloc: Global, limits: &Limits) -> Result<Broker, AllocError>
+        ensures { IfOk result (λ b. b ≡ record {
+          sessions = record { clients = []; retained = [] };
+          members = [];
+          connections = replicate limits.now.connections closed;
+          limit = non_zero_u16_get limits.now.ids;
+          longest = limits.now.longest;
+        }) }
+    {
+        Ok(Broker {
+            sessions: Sessions::new(alloc),
+            members: Vec::new(alloc),
+            connections: none_of(alloc, limits.connections)?,
+            limit: limits.ids,
+            longest: limits.longest,
+        })
+    }
+
+    /// A connection begins. Whether it does: not where one of that number is there, or there is no such number. Takes no memory.
+    pub fn open(&mut self, alloc: Global, connection: usize) -> bool
+        ensures opened { self.new ≡ opens connection self.old }
+        ensures begins { result
+            ≡ (nat_lt connection (length self.old.connections)
+            && not (connection_at connection self.old.connections).is_open) }
+    {
+        if connection >= self.connections.len() {
+            return false;
+        }
+        if self.connections[connection].is_open() {
+            return false;
+        }
+        self.connections[connection] = Connection::opened(alloc);
+        true
+    }
+
+    /// Whether bytes of a connection are taken. Where none are, the caller sends its output, and closes it.
+    pub fn is_open(&self, connection: usize) -> bool
+        ensures { result ≡ (connection_at connection self.now.connections).is_open }
+    {
+        is_open_at(self.connections.as_slice(), connection)
+    }
+
+    /// The bytes that are to be sent on a connection.
+    pub fn output(&self, connection: usize) -> &[u8]
+        ensures { result.now ≡ (connection_at connection self.now.connections).output }
+    {
+        if connection >= self.connections.len() {
+            return &[];
+        }
+        self.connections[connection].output()
+    }
+
+    /// So many of them were sent, or all, if there are fewer.
+    pub fn sent(&mut self, connection: usize, count: usize)
+        ensures { self.new ≡ on_connection connection (sent_of count) self.old }
+    {
+        if connection < self.connections.len() {
+            self.connections[connection].sent(count);
+        }
+    }
+
+    /// A connection has ended: its client's connection is lost, whose session stays or ends, and its number is free (3.1.2.11.2).
+    /// S12, which leaves all as it was.
+    #[tactic(auto, unfolding(crate::specs::Receiving::closes))]
+    pub fn close(&mut self, alloc: Global, connection: usize) -> Result<(), StateError>
+        ensures ok { OnOk result (self.new ≡ closes connection self.old) }
+        ensures memory { IfErr result (λ e. e ≡ StateError.OutOfMemory) }
+        ensures left { OnErr result (self.new ≡ self.old) }
+    {
+        if let Some(client) = client_at(self.connections.as_slice(), connection) {
+            self.lose(alloc, client)?;
+        }
+        if connection < self.connections.len() {
+            self.connections[connection] = Connection::closed(alloc);
+        }
+        Ok(())
+    }
+
+    /// The first publish of the queue of a connection's client is passed on, if there is one and it may be sent: whether
+    /// something is written (3.3.4). S12: the connection is to be closed then.
+    #[tactic(auto, unfolding(crate::specs::Serving::passes_on))]
+    pub fn pass(&mut self, alloc: Global, connection: usize) -> Result<bool, StateError>
+        ensures ok { OnOk result (self.new ≡ passes_on connection self.old) }
+        ensures memory { IfErr result (λ e. e ≡ StateError.OutOfMemory) }
+    {
+        let Some(client) = client_at(self.connections.as_slice(), connection) else {
+            return Ok(false);
+        };
+        let sent = self.sessions.pass(alloc, client)?;
+        let some = sent.is_some();
+        let written = write_some_at(&mut self.connections, connection, &sent);
+        drop(sent);
+        written?;
+        Ok(some)
+    }
+
+    /// Bytes come on a connection, in any pieces: each packet that is whole with them is taken, up to the first fault, which
+    /// ends the connection, and no other. Where bytes of it aren't taken it does nothing. S12: the connection is to be closed
+    /// then.
+    #[tactic(auto, unfolding(crate::specs::Receiving::receives))]
+    pub fn receive(
+        &mut self,
+        alloc: Global,
+        connection: usize,
+        bytes: &[u8],
+    ) -> Result<(), StateError>
+        ensures ok { OnOk result (self.new ≡ receives connection bytes.now self.old) }
+        ensures memory { IfErr result (λ e. e ≡ StateError.OutOfMemory) }
+    {
+        let connections = self.connections.as_slice();
+        if connection >= connections.len() || !is_open_at(connections, connection) {
+            return Ok(());
+        }
+        let stream = self.connections[connection].take_held(alloc, bytes)?;
+        self.take_stream(alloc, connection, stream)?;
+        Ok(())
+    }
+
+    /// The packets of a stream come, and what is left is held, or its fault ends the connection. S12.
+    fn take_stream(
+        &mut self,
+        alloc: Global,
+        connection: usize,
+        stream: BytesMut,
+    ) -> Result<(), StateError>
+        ensures ok { OnOk result (self.new
+            ≡ comes_of connection (cut_up (Some self.old.longest) stream.items []) self.old) }
+        ensures memory { IfErr result (λ e. e ≡ StateError.OutOfMemory) }
+    {
+        let mut stream = stream;
+        match self.take_frames(alloc, connection, self.longest, &mut stream) {
+            Ok(()) => {
+                hold_at(&mut self.connections, connection, stream);
+                Ok(())
+            }
+            Err(Error::OutOfMemory) => Err(StateError::OutOfMemory),
+            Err(error) => {
+                self.break_off(alloc, connection, error)?;
+                Ok(())
+            }
+        }
+    }
+
+    /// Takes each whole frame at the front of a stream.
+    fn take_frames(
+        &mut self,
+        alloc: Global,
+        connection: usize,
+        longest: u32,
+        stream: &mut BytesMut,
+    ) -> Result<(), Error>
+        ensures more { OnOk result
+            (comes_of connection (cut_up (Some longest) stream.old.items []) self.old
+            ≡ ends_with connection (Holds stream.new.items) self.new) }
+        ensures fault { IfErr result (λ e. (e ≡ Error.OutOfMemory)
+            ⊎ (comes_of connection (cut_up (Some longest) stream.old.items []) self.old
+            ≡ ends_with connection (Breaks e) self.new)) }
+    {
+        front_laws();
+        frame_laws();
+        let codec = Codec {
+            max_incoming_size: Some(longest),
+            max_outgoing_size: None,
+        };
+        while let Some(packet) = codec.decode(alloc, stream)? {
+            let Ok(()) = self.take(alloc, connection, packet) else {
+                return Err(Error::OutOfMemory);
+            };
+        }
+        Ok(())
+    }
+
+    /// A fault of its bytes ends a connection: a client that is connected is told why. S12.
+    fn break_off(
+        &mut self,
+        alloc: Global,
+        connection: usize,
+        error: Error,
+    ) -> Result<(), StateError>
+        ensures ok { OnOk result (self.new ≡ ends_with connection (Breaks error) self.old) }
+        ensures memory { IfErr result (λ e. e ≡ StateError.OutOfMemory) }
+    {
+        if !is_open_at(self.connections.as_slice(), connection) {
+            return Ok(());
+        }
+        match client_at(self.connections.as_slice(), connection) {
+            Some(client) => {
+                self.refuse(alloc, connection, client, reason_for(&error))?;
+                Ok(())
+            }
+            None => {
+                shut_at(&mut self.connections, connection);
+                Ok(())
+            }
+        }
+    }
+}

@@ -1,0 +1,219 @@
+//! What a broker keeps of a connection.
+
+ghost use Rattle.std.specs.Prelude.{◌≡◌, ◌≢◌, ◌∷◌, ◌++◌, Some, OnOk, OnErr, IfOk};
+ghost use Rattle.std.specs.Option.{option_to_list};
+ghost use Rattle.mqtt5_broker.specs.Connection.{closed, opened, shut, written, written_all, told, emptied, holding, sent_of};
+
+use bytes::BytesMut;
+use mqtt5_base::Error;
+use mqtt5_codec::Packet;
+use mqtt5_control::{Disconnect, DisconnectReasonCode};
+use std::alloc::{AllocError, Global};
+use std::collections::VecDeque;
+use std::marker::Model;
+use std::mem;
+
+/// A connection of a broker: whether bytes of it are taken, which client connected on it, the longest packet that this client
+/// takes, the bytes that came in and are no whole frame yet, and those to be sent (MQTT 5.0 sections 3.1.2.11.4 and 4.2).
+#[derive(Debug, Drop)]
+pub struct Connection {
+    is_open: bool,
+    client: Option<usize>,
+    longest: Option<u32>,
+    held: BytesMut,
+    output: BytesMut,
+}
+
+impl Model for Connection {
+    ghost use Rattle.mqtt5_broker.specs.Connection as model;
+
+    ghost Value = { model.Connection };
+
+    ghost view = { λ a. record {
+      is_open = a.is_open;
+      client = a.client;
+      longest = a.longest;
+      held = a.held.items;
+      output = a.output.items;
+    } };
+}
+
+/// Err where an error is the want of memory.
+fn unless_memory(error: &Error) -> Result<(), AllocError>
+    ensures { OnOk result (error.now ≢ Error.OutOfMemory) }
+{
+    match error {
+        Error::OutOfMemory => Err(AllocError),
+        _other => Ok(()),
+    }
+}
+
+impl Connection {
+    /// None. Takes no memory.
+    pub(super) fn closed(alloc: Global) -> Connection
+        ensures { result ≡ closed }
+    {
+        Connection {
+            is_open: false,
+            client: None,
+            longest: None,
+            held: BytesMut::new(alloc),
+            output: BytesMut::new(alloc),
+        }
+    }
+
+    /// One of which nothing came. Takes no memory.
+    pub(super) fn opened(alloc: Global) -> Connection
+        ensures { result ≡ opened }
+    {
+        Connection {
+            is_open: true,
+            client: None,
+            longest: None,
+            held: BytesMut::new(alloc),
+            output: BytesMut::new(alloc),
+        }
+    }
+
+    /// Whether bytes of it are taken.
+    pub(super) fn is_open(&self) -> bool
+        ensures { result ≡ self.now.is_open }
+    {
+        self.is_open
+    }
+
+    /// The number of the client that connected on it.
+    pub(super) fn client(&self) -> Option<usize>
+        ensures { result ≡ self.now.client }
+    {
+        self.client
+    }
+
+    /// The bytes to be sent.
+    pub(super) fn output(&self) -> &[u8]
+        ensures { result.now ≡ self.now.output }
+    {
+        self.output.as_slice()
+    }
+
+    /// So many of them were sent, or all, if there are fewer.
+    pub(super) fn sent(&mut self, count: usize)
+        ensures { self.new ≡ sent_of count self.old }
+    {
+        if count < self.output.len() {
+            self.output.advance(count);
+        } else {
+            self.output.clear();
+        }
+    }
+
+    /// Nothing more is taken of it; what was written is still to be sent.
+    pub(super) fn shut(&mut self)
+        ensures { self.new ≡ shut self.old }
+    {
+        self.is_open = false;
+        self.client = None;
+        self.held.clear();
+    }
+
+    /// It is that of a client, which takes packets of this length at most.
+    pub(super) fn take(&mut self, client: usize, longest: Option<u32>)
+        ensures { self.new ≡ record self.old { client = Some client; longest = longest } }
+    {
+        self.client = Some(client);
+        self.longest = longest;
+    }
+
+    /// Takes the bytes out that are held, with these behind them. Err where memory is refused, with the same held.
+    pub(super) fn take_held(&mut self, alloc: Global, bytes: &[u8]) -> Result<BytesMut, AllocError>
+        ensures all { IfOk result (λ all. all.items ≡ self.old.held ++ bytes.now) }
+        ensures ok { OnOk result (self.new ≡ emptied self.old) }
+        ensures left { OnErr result (self.new ≡ self.old) }
+    {
+        self.held.extend_from_slice(bytes)?;
+        Ok(mem::replace(&mut self.held, BytesMut::new(alloc)))
+    }
+
+    /// Bytes are held, where more are taken.
+    pub(super) fn hold(&mut self, bytes: BytesMut)
+        ensures { self.new ≡ holding bytes.items self.old }
+    {
+        if self.is_open {
+            self.held = bytes;
+        }
+    }
+
+    /// A packet is written to it; one that can't be written, or is longer than its client takes, isn't (3.1.2.11.4). Err where
+    /// memory is refused.
+    pub(super) fn write(&mut self, packet: &Packet) -> Result<(), AllocError>
+        ensures ok { OnOk result (self.new ≡ written packet.now self.old) }
+        ensures left { OnErr result (self.new ≡ self.old) }
+    {
+        let Err(error) = packet.write(&mut self.output, self.longest) else {
+            return Ok(());
+        };
+        unless_memory(&error)?;
+        Ok(())
+    }
+
+    /// So is a packet, if there is one.
+    pub(super) fn write_some(&mut self, packet: &Option<Packet>) -> Result<(), AllocError>
+        ensures ok { OnOk result (self.new ≡ written_all (option_to_list packet.now) self.old) }
+        ensures left { OnErr result (self.new ≡ self.old) }
+    {
+        match packet {
+            Some(packet) => self.write(packet),
+            None => Ok(()),
+        }
+    }
+
+    /// So are packets, in order. Err where memory is refused: the first of them may be written.
+    pub(super) fn write_all(&mut self, packets: &VecDeque<Packet>) -> Result<(), AllocError>
+        ensures { OnOk result (self.new ≡ written_all packets.now.items self.old) }
+    {
+        for i in 0..packets.len() {
+            self.write(&packets[i])?;
+        }
+        Ok(())
+    }
+
+    /// Its client is told why it ends, and nothing more is taken of it. Err where memory is refused.
+    pub(super) fn tell(&mut self, reason: DisconnectReasonCode) -> Result<(), AllocError>
+        ensures ok { OnOk result (self.new ≡ told reason self.old) }
+        ensures left { OnErr result (self.new ≡ self.old) }
+    {
+        let disconnect = Packet::Disconnect(Disconnect::new(reason));
+        let written = self.write(&disconnect);
+        drop(disconnect);
+        written?;
+        self.shut();
+        Ok(())
+    }
+
+    /// Its first packet is refused by this, and nothing more is taken of it. Err where memory is refused.
+    pub(super) fn turn_away(&mut self, refusal: &Packet) -> Result<(), AllocError>
+        ensures ok { OnOk result (self.new ≡ shut (written refusal.now self.old)) }
+        ensures left { OnErr result (self.new ≡ self.old) }
+    {
+        self.write(refusal)?;
+        self.shut();
+        Ok(())
+    }
+
+    /// It is that of a client, which takes packets of this length at most, and is sent these. Err where memory is refused.
+    pub(super) fn welcome(
+        &mut self,
+        client: usize,
+        longest: Option<u32>,
+        welcome: &Packet,
+        packets: &VecDeque<Packet>,
+    ) -> Result<(), AllocError>
+        ensures { OnOk result (self.new ≡ written_all (welcome.now ∷ packets.now.items)
+            (record self.old { client = Some client; longest = longest })) }
+    {
+        self.take(client, longest);
+        self.write(welcome)?;
+        self.write_all(packets)?;
+        Ok(())
+    }
+}

@@ -1,0 +1,196 @@
+//! Which packets a broker refuses, and why.
+
+ghost use Rattle.std.specs.Prelude.{◌≡◌};
+ghost use Rattle.std.specs.List.{list_any};
+ghost use Rattle.mqtt5_broker.specs.Judging.{is_topic_text, is_topic, properties_fault, topic_fault, publish_fault, is_shared, is_malformed, identifier_fault, filters_fault, subscribe_fault, packet_fault, is_zero, settings_fault, connect_fault};
+
+use mqtt5_base::{valid_filter, valid_topic};
+use mqtt5_codec::Packet;
+use mqtt5_connect::{Connect, ConnectProperties, LastWill};
+use mqtt5_control::{ConnectReturnCode, DisconnectReasonCode};
+use mqtt5_publish::{Publish, PublishProperties};
+use mqtt5_subscribe::{Filter, Subscribe, SubscribeProperties};
+
+/// Whether a text can be the topic of a publish: it isn't empty, and has no wildcard (4.7).
+fn is_topic_text(text: &str) -> bool
+    ensures { result ≡ is_topic_text text.now }
+{
+    !text.is_empty() && valid_topic(text)
+}
+
+/// Whether bytes are a topic (3.3.2.1).
+fn is_topic(bytes: &[u8]) -> bool
+    ensures { result ≡ is_topic bytes.now }
+{
+    match std::str::from_utf8(bytes) {
+        Ok(text) => is_topic_text(text),
+        Err(_) => false,
+    }
+}
+
+fn topic_fault(topic: &[u8]) -> Option<DisconnectReasonCode>
+    ensures { result ≡ topic_fault topic.now }
+{
+    if is_topic(topic) {
+        None
+    } else {
+        Some(DisconnectReasonCode::TopicNameInvalid)
+    }
+}
+
+fn properties_fault(properties: &Option<PublishProperties>) -> Option<DisconnectReasonCode>
+    ensures { result ≡ properties_fault properties.now }
+{
+    match properties {
+        Some(set) => {
+            if set.topic_alias.is_some() {
+                return Some(DisconnectReasonCode::TopicAliasInvalid);
+            }
+            if set.subscription_identifiers.is_empty() {
+                return None;
+            }
+            Some(DisconnectReasonCode::ProtocolError)
+        }
+        None => None,
+    }
+}
+
+/// Why a publish is refused, if it is: TopicAliasInvalid, ProtocolError, TopicNameInvalid.
+fn publish_fault(publish: &Publish) -> Option<DisconnectReasonCode>
+    ensures { result ≡ publish_fault publish.now }
+{
+    match properties_fault(&publish.properties) {
+        Some(reason) => Some(reason),
+        None => topic_fault(publish.topic.as_slice()),
+    }
+}
+
+/// Whether a filter is that of a shared subscription (4.8.2).
+fn is_shared(filter: &Filter) -> bool
+    ensures { result ≡ is_shared filter.now }
+{
+    filter.path.as_bytes().starts_with("$share/".as_bytes())
+}
+
+/// Whether a text is no topic filter (4.7).
+fn is_malformed(filter: &Filter) -> bool
+    ensures { result ≡ is_malformed filter.now }
+{
+    !valid_filter(filter.path.as_str())
+}
+
+fn has_shared(filters: &[Filter]) -> bool
+    ensures { result ≡ list_any is_shared filters.now }
+{
+    filters.iter().any(|filter| is_shared(filter))
+}
+
+fn has_malformed(filters: &[Filter]) -> bool
+    ensures { result ≡ list_any is_malformed filters.now }
+{
+    filters.iter().any(|filter| is_malformed(filter))
+}
+
+fn filters_fault(filters: &[Filter]) -> Option<DisconnectReasonCode>
+    ensures { result ≡ filters_fault filters.now }
+{
+    if has_shared(filters) {
+        return Some(DisconnectReasonCode::SharedSubscriptionNotSupported);
+    }
+    if has_malformed(filters) {
+        return Some(DisconnectReasonCode::TopicFilterInvalid);
+    }
+    None
+}
+
+fn identifier_fault(properties: &Option<SubscribeProperties>) -> Option<DisconnectReasonCode>
+    ensures { result ≡ identifier_fault properties.now }
+{
+    match properties {
+        Some(set) => {
+            if set.id.is_some() {
+                return Some(DisconnectReasonCode::SubscriptionIdentifiersNotSupported);
+            }
+            None
+        }
+        None => None,
+    }
+}
+
+/// Why a Subscribe is refused, if it is: SubscriptionIdentifiersNotSupported, SharedSubscriptionNotSupported,
+/// TopicFilterInvalid.
+fn subscribe_fault(subscribe: &Subscribe) -> Option<DisconnectReasonCode>
+    ensures { result ≡ subscribe_fault subscribe.now }
+{
+    match identifier_fault(&subscribe.properties) {
+        Some(reason) => Some(reason),
+        None => filters_fault(subscribe.filters.as_slice()),
+    }
+}
+
+/// Why a packet of a client that is connected is refused, if it is.
+pub(super) fn packet_fault(packet: &Packet) -> Option<DisconnectReasonCode>
+    ensures { result ≡ packet_fault packet.now }
+{
+    match packet {
+        Packet::Publish(publish) => publish_fault(publish),
+        Packet::Subscribe(subscribe) => subscribe_fault(subscribe),
+        Packet::Unsubscribe(_)
+        | Packet::PubAck(_)
+        | Packet::PubRec(_)
+        | Packet::PubRel(_)
+        | Packet::PubComp(_)
+        | Packet::PingReq(_)
+        | Packet::Disconnect(_) => None,
+        _other => Some(DisconnectReasonCode::ProtocolError),
+    }
+}
+
+fn is_zero_u16(number: Option<u16>) -> bool
+    ensures { result ≡ is_zero number }
+{
+    match number {
+        Some(number) => number == 0,
+        None => false,
+    }
+}
+
+fn is_zero_u32(number: Option<u32>) -> bool
+    ensures { result ≡ is_zero number }
+{
+    match number {
+        Some(number) => number == 0,
+        None => false,
+    }
+}
+
+fn settings_fault(properties: &Option<ConnectProperties>) -> Option<ConnectReturnCode>
+    ensures { result ≡ settings_fault properties.now }
+{
+    match properties {
+        Some(set) => {
+            if is_zero_u16(set.receive_maximum) || is_zero_u32(set.max_packet_size) {
+                return Some(ConnectReturnCode::ProtocolError);
+            }
+            if set.authentication_method.is_some() {
+                return Some(ConnectReturnCode::BadAuthenticationMethod);
+            }
+            None
+        }
+        None => None,
+    }
+}
+
+/// Why a Connect is refused, if it is: ClientIdentifierNotValid, ImplementationSpecificError of a will, ProtocolError,
+/// BadAuthenticationMethod.
+pub(super) fn connect_fault(connect: &Connect, will: &Option<LastWill>) -> Option<ConnectReturnCode>
+    ensures { result ≡ connect_fault connect.now will.now }
+{
+    if connect.client_id.as_bytes().is_empty() {
+        return Some(ConnectReturnCode::ClientIdentifierNotValid);
+    }
+    if will.is_some() {
+        return Some(ConnectReturnCode::ImplementationSpecificError);
+    }
+    settings_fault(&connect.properties)
+}

@@ -1,0 +1,199 @@
+//! What a broker makes of the packets of a client that is connected.
+
+ghost use Rattle.std.specs.Prelude.{◌≡◌, Some, OnOk, OnErr, IfErr};
+ghost use Rattle.std.specs.Option.{option_to_list};
+ghost use Rattle.mqtt5_control.specs.declared.disconnect.DisconnectReasonCode.TheVariants as reasons;
+ghost use Rattle.mqtt5_broker.specs.Connection.{written, written_all, shut};
+ghost use Rattle.mqtt5_broker.specs.Broker.{forgets, loses_client, leaves_client, refuses, on_connection};
+ghost use Rattle.mqtt5_broker.specs.Serving.{kind_of, arrives_from, disconnects, serves, serves_as};
+
+use crate::broker::Broker;
+use crate::connections::{shut_at, tell_at, write_at, write_some_at};
+use crate::judging::packet_fault;
+use crate::member::stays_at;
+use mqtt5_codec::Packet;
+use mqtt5_control::DisconnectReasonCode;
+use mqtt5_publish::PingResp;
+use mqtt5_session::StateError;
+use std::alloc::Global;
+
+/// What a packet of a client asks for.
+#[derive(Debug, Clone, Copy, PartialEq, Eq)]
+pub enum Kind {
+    /// An answer, to know that the broker is there (3.12).
+    Ping,
+    /// The end of the connection (3.14).
+    Goodbye(DisconnectReasonCode),
+    /// Something of the client's session.
+    Message,
+}
+
+fn kind_of(packet: &Packet) -> Kind
+    ensures { result ≡ kind_of packet.now }
+{
+    match packet {
+        Packet::PingReq(_) => Kind::Ping,
+        Packet::Disconnect(disconnect) => Kind::Goodbye(disconnect.reason_code),
+        _other => Kind::Message,
+    }
+}
+
+impl Broker {
+    /// The session of a client ends, and nobody has its number. S12, which leaves all as it was.
+    #[tactic(auto, unfolding(crate::specs::Broker::forgets))]
+    fn forget(&mut self, alloc: Global, client: usize) -> Result<(), StateError>
+        ensures ok { OnOk result (self.new ≡ forgets client self.old) }
+        ensures memory { IfErr result (λ e. e ≡ StateError.OutOfMemory) }
+        ensures left { OnErr result (self.new ≡ self.old) }
+    {
+        self.sessions.end(alloc, client)?;
+        if client < self.members.len() {
+            self.members[client] = None;
+        }
+        Ok(())
+    }
+
+    /// A client's connection is lost: its session stays, or ends. S12, which leaves all as it was.
+    #[tactic(auto, unfolding(crate::specs::Broker::loses_client))]
+    pub(super) fn lose(&mut self, alloc: Global, client: usize) -> Result<(), StateError>
+        ensures ok { OnOk result (self.new ≡ loses_client client self.old) }
+        ensures memory { IfErr result (λ e. e ≡ StateError.OutOfMemory) }
+        ensures left { OnErr result (self.new ≡ self.old) }
+    {
+        if stays_at(client, self.members.as_slice()) {
+            self.sessions.lose(alloc, client)?;
+            return Ok(());
+        }
+        self.forget(alloc, client)?;
+        Ok(())
+    }
+
+    /// A client leaves: its will is dropped, and its session stays, or ends. S12.
+    #[tactic(auto, unfolding(crate::specs::Broker::leaves_client))]
+    fn leave(&mut self, alloc: Global, client: usize) -> Result<(), StateError>
+        ensures ok { OnOk result (self.new ≡ leaves_client client self.old) }
+        ensures memory { IfErr result (λ e. e ≡ StateError.OutOfMemory) }
+    {
+        self.sessions.leave(alloc, client)?;
+        if stays_at(client, self.members.as_slice()) {
+            return Ok(());
+        }
+        self.forget(alloc, client)?;
+        Ok(())
+    }
+
+    /// A client is told why its connection ends, which is lost then. S12.
+    #[tactic(auto, unfolding(crate::specs::Broker::refuses))]
+    pub(super) fn refuse(
+        &mut self,
+        alloc: Global,
+        connection: usize,
+        client: usize,
+        reason: DisconnectReasonCode,
+    ) -> Result<(), StateError>
+        ensures ok { OnOk result (self.new ≡ refuses connection client reason self.old) }
+        ensures memory { IfErr result (λ e. e ≡ StateError.OutOfMemory) }
+    {
+        self.lose(alloc, client)?;
+        tell_at(&mut self.connections, connection, reason)?;
+        Ok(())
+    }
+
+    /// A packet comes to the session of a client, and what is sent back is written. S12.
+    #[tactic(auto, unfolding(crate::specs::Serving::arrives_from))]
+    fn arrive(
+        &mut self,
+        alloc: Global,
+        connection: usize,
+        client: usize,
+        packet: Packet,
+    ) -> Result<(), StateError>
+        ensures ok { OnOk result (self.new ≡ arrives_from connection client packet self.old) }
+        ensures memory { IfErr result (λ e. e ≡ StateError.OutOfMemory) }
+    {
+        let reply = self.sessions.arrive(alloc, client, packet)?;
+        let written = write_some_at(&mut self.connections, connection, &reply);
+        drop(reply);
+        written?;
+        Ok(())
+    }
+
+    /// A client says why it ends its connection. S12.
+    #[tactic(auto, unfolding(crate::specs::Serving::disconnects))]
+    fn disconnect(
+        &mut self,
+        alloc: Global,
+        connection: usize,
+        client: usize,
+        reason: DisconnectReasonCode,
+    ) -> Result<(), StateError>
+        ensures ok { OnOk result (self.new ≡ disconnects connection client reason self.old) }
+        ensures memory { IfErr result (λ e. e ≡ StateError.OutOfMemory) }
+    {
+        match reason {
+            DisconnectReasonCode::NormalDisconnection => self.leave(alloc, client)?,
+            _other => self.lose(alloc, client)?,
+        }
+        shut_at(&mut self.connections, connection);
+        Ok(())
+    }
+
+    /// A packet that isn't refused. S12.
+    fn serve_unrefused(
+        &mut self,
+        alloc: Global,
+        connection: usize,
+        client: usize,
+        packet: Packet,
+    ) -> Result<(), StateError>
+        ensures ok { OnOk result
+            (self.new ≡ serves_as (kind_of packet) connection client packet self.old) }
+        ensures memory { IfErr result (λ e. e ≡ StateError.OutOfMemory) }
+    {
+        match kind_of(&packet) {
+            Kind::Ping => {
+                drop(packet);
+                write_at(
+                    &mut self.connections,
+                    connection,
+                    &Packet::PingResp(PingResp),
+                )?;
+                Ok(())
+            }
+            Kind::Goodbye(reason) => {
+                drop(packet);
+                self.disconnect(alloc, connection, client, reason)?;
+                Ok(())
+            }
+            Kind::Message => {
+                self.arrive(alloc, connection, client, packet)?;
+                Ok(())
+            }
+        }
+    }
+
+    /// A packet of a client that is connected. S12.
+    #[tactic(auto, unfolding(crate::specs::Serving::serves))]
+    pub(super) fn serve(
+        &mut self,
+        alloc: Global,
+        connection: usize,
+        client: usize,
+        packet: Packet,
+    ) -> Result<(), StateError>
+        ensures ok { OnOk result (self.new ≡ serves connection client packet self.old) }
+        ensures memory { IfErr result (λ e. e ≡ StateError.OutOfMemory) }
+    {
+        match packet_fault(&packet) {
+            Some(reason) => {
+                drop(packet);
+                self.refuse(alloc, connection, client, reason)?;
+                Ok(())
+            }
+            None => {
+                self.serve_unrefused(alloc, connection, client, packet)?;
+                Ok(())
+            }
+        }
+    }
+}
