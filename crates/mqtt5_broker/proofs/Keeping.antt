@@ -105,9 +105,9 @@ module _ (c n : ℕ) where
 
   -- ---- a Connect
 
-  comes_keeps : (d i : ℕ) (present : Bool) (q : Connect) (b : Broker) → Keeps c n b → Keeps c n (comes_in d i present q b)
+  comes_keeps : (d i : ℕ) (present : Bool) (q : Connect) (will : Option LastWill) (b : Broker) → Keeps c n b → Keeps c n (comes_in d i present q will b)
   unfolding comes_in
-  comes_keeps d i present q b k =
+  comes_keeps d i present q will b k =
       on_keeps d (λ (l : Connection). written_all (connack present ∷ sent_again i (Some (receive_max_of q.properties)) b.sessions) (taken_by i q l)) _
       (λ l h. all_held (connack present ∷ sent_again i (Some (receive_max_of q.properties)) b.sessions) (taken_by i q l) ∙ h) (record { held = k.held; longest = k.longest })
 
@@ -127,25 +127,25 @@ module _ (c n : ℕ) where
   numbers_keeps m None b k = record { held = k.held; longest = k.longest }
   numbers_keeps m (Some i) b k = record { held = k.held; longest = k.longest }
 
-  enters_keeps : (d : ℕ) (q : Connect) (b : Broker) → Keeps c n b → Keeps c n (enters d q b)
+  enters_keeps : (d : ℕ) (q : Connect) (will : Option LastWill) (b : Broker) → Keeps c n b → Keeps c n (enters d q will b)
   unfolding enters
-  enters_keeps d q b k = comes_keeps d (number_in (free_number b.members) b) false q _ (numbers_keeps (member_of q) (free_number b.members) b k)
+  enters_keeps d q will b k = comes_keeps d (number_in (free_number b.members) b) false q will _ (numbers_keeps (member_of q) (free_number b.members) b k)
 
-  admits_as_keeps : (o : Option ℕ) (d : ℕ) (q : Connect) (b : Broker) → Keeps c n b → Keeps c n (admits_as o d q b)
-  admits_as_keeps (Some i) d q b k = comes_keeps d i _ q _ (begins_keeps i q (displaces i b) (displaces_keeps i b k))
-  admits_as_keeps None d q b k = enters_keeps d q b k
+  admits_as_keeps : (o : Option ℕ) (d : ℕ) (q : Connect) (will : Option LastWill) (b : Broker) → Keeps c n b → Keeps c n (admits_as o d q will b)
+  admits_as_keeps (Some i) d q will b k = comes_keeps d i _ q will _ (begins_keeps i q (displaces i b) (displaces_keeps i b k))
+  admits_as_keeps None d q will b k = enters_keeps d q will b k
 
-  admits_keeps : (d : ℕ) (q : Connect) (b : Broker) → Keeps c n b → Keeps c n (admits d q b)
+  admits_keeps : (d : ℕ) (q : Connect) (will : Option LastWill) (b : Broker) → Keeps c n b → Keeps c n (admits d q will b)
   unfolding admits
-  admits_keeps d q b k = admits_as_keeps (number_of q.client_id b.members) d q b k
+  admits_keeps d q will b k = admits_as_keeps (number_of q.client_id b.members) d q will b k
 
-  connects_by_keeps : (o : Option ConnectReturnCode) (d : ℕ) (q : Connect) (b : Broker) → Keeps c n b → Keeps c n (connects_by o d q b)
-  connects_by_keeps (Some code) d q b k = on_keeps d (λ (l : Connection). shut (written (refusal code) l)) b (λ l h. refl) k
-  connects_by_keeps None d q b k = admits_keeps d q b k
+  connects_by_keeps : (o : Option ConnectReturnCode) (d : ℕ) (q : Connect) (will : Option LastWill) (b : Broker) → Keeps c n b → Keeps c n (connects_by o d q will b)
+  connects_by_keeps (Some code) d q will b k = on_keeps d (λ (l : Connection). shut (written (refusal code) l)) b (λ l h. refl) k
+  connects_by_keeps None d q will b k = admits_keeps d q will b k
 
   connects_keeps : (d : ℕ) (q : Connect) (will : Option LastWill) (b : Broker) → Keeps c n b → Keeps c n (connects d q will b)
   unfolding connects
-  connects_keeps d q will b k = connects_by_keeps (connect_fault q will) d q b k
+  connects_keeps d q will b k = connects_by_keeps (connect_fault q will) d q will b k
 
   -- ---- any packet
 

@@ -12,6 +12,7 @@ use Rattle.mqtt5_subscribe.specs.declared.subscribe.SubscribeProperties.{Subscri
 use Rattle.mqtt5_connect.specs.declared.connect.Connect.{Connect}
 use Rattle.mqtt5_connect.specs.declared.connect.ConnectProperties.{ConnectProperties}
 use Rattle.mqtt5_connect.specs.declared.will.LastWill.{LastWill}
+use Rattle.mqtt5_connect.specs.declared.will.LastWillProperties.{LastWillProperties}
 use Rattle.mqtt5_control.specs.declared.connack.ConnectReturnCode.{ConnectReturnCode}
 use Rattle.mqtt5_control.specs.declared.connack.ConnectReturnCode.TheVariants as return_codes
 use Rattle.mqtt5_control.specs.declared.disconnect.DisconnectReasonCode.{DisconnectReasonCode}
@@ -94,15 +95,36 @@ abbrev pub is_zero : Option ℕ → Bool
 is_zero None = false
 is_zero (Some n) = n == 0
 
+-- one that is 0 where it is left out
+abbrev pub is_zero_or_none : Option ℕ → Bool
+is_zero_or_none None = true
+is_zero_or_none (Some n) = n == 0
+
 abbrev pub settings_fault : Option ConnectProperties → Option ConnectReturnCode
 settings_fault None = None
 settings_fault (Some set) =
     if is_zero set.receive_maximum || is_zero set.max_packet_size then Some return_codes.ProtocolError
     else if is_some set.authentication_method then Some return_codes.BadAuthenticationMethod else None
 
--- this broker takes no client without a name, and no will
+-- a will's topic is one (3.1.3.3), and this broker takes none with a delay (3.1.3.2.2)
+abbrev pub is_delayed : Option LastWillProperties → Bool
+is_delayed None = false
+is_delayed (Some set) = not (is_zero_or_none set.delay_interval)
+
+abbrev pub will_fault : Option LastWill → Option ConnectReturnCode
+will_fault None = None
+will_fault (Some w) =
+    if is_delayed w.properties then Some return_codes.ImplementationSpecificError
+    else if is_topic w.topic then None else Some return_codes.TopicNameInvalid
+
+-- the one, if there is one, and otherwise the other
+abbrev pub first_code : Option ConnectReturnCode → Option ConnectReturnCode
+    → Option ConnectReturnCode
+first_code (Some code) other = Some code
+first_code None other = other
+
+-- this broker takes no client without a name
 abbrev pub connect_fault : Connect → Option LastWill → Option ConnectReturnCode
 connect_fault k will =
     if length k.client_id.bytes == 0 then Some return_codes.ClientIdentifierNotValid
-    else if is_some will then Some return_codes.ImplementationSpecificError
-    else settings_fault k.properties
+    else first_code (will_fault will) (settings_fault k.properties)

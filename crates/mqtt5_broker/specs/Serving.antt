@@ -1,7 +1,7 @@
 -- What a broker makes of the packets of its clients (MQTT 5.0 sections 3.1.4, 3.2, 3.12, 3.14 and
 -- 4.13).
 use Rattle.std.specs.Prelude.{ℕ, ◌==◌, Bool, true, false, not, List, [], ◌∷◌, Option, Some, None}
-use Rattle.std.specs.Prelude.{if◌then◌else◌, slice_set}
+use Rattle.std.specs.Prelude.{option_map, if◌then◌else◌, slice_set}
 use Rattle.mqtt5_base.specs.Texts.{Utf8}
 use Rattle.mqtt5_connect.specs.declared.connect.Connect.{Connect}
 use Rattle.mqtt5_connect.specs.declared.connect.ConnectProperties.{ConnectProperties}
@@ -24,6 +24,7 @@ use Rattle.mqtt5_broker.specs.Connection.{connection_at, connection_of}
 use Rattle.mqtt5_broker.specs.Broker.{Broker, number_of, free_number, on_connection}
 use Rattle.mqtt5_broker.specs.Broker.{loses_client, leaves_client, refuses}
 use Rattle.mqtt5_broker.specs.Broker.{numbers, number_in}
+use Rattle.mqtt5_broker.specs.Wills.{will_of}
 use Rattle.mqtt5_broker.specs.Judging.{packet_fault, connect_fault}
 
 -- ---- a client that is connected
@@ -111,13 +112,13 @@ abbrev pub taken_by : ℕ → Connect → Connection → Connection
 taken_by i k l = record l { client = Some i; longest = longest_of k.properties }
 
 -- a client is taken, and sent what its session sends again (4.4)
-unfoldable pub comes_in : ℕ → ℕ → Bool → Connect → Broker → Broker
-comes_in c i present k b =
+unfoldable pub comes_in : ℕ → ℕ → Bool → Connect → Option LastWill → Broker → Broker
+comes_in c i present k will b =
     on_connection c
     (λ (l : Connection).
     written_all (connack present ∷ sent_again i (Some (receive_max_of k.properties)) b.sessions)
     (taken_by i k l))
-    (record b { sessions = comes i (Some (receive_max_of k.properties)) None b.sessions })
+    (record b { sessions = comes i (Some (receive_max_of k.properties)) (option_map will_of will) b.sessions })
 
 -- the connection that it has is told that another takes its place (3.1.4)
 abbrev pub displaced : Option ℕ → Broker → Broker
@@ -135,30 +136,31 @@ begins i k b = record b {
 }
 
 -- one that is known
-abbrev pub returns : ℕ → ℕ → Connect → Broker → Broker
-returns c i k b = comes_in c i (not k.clean_start) k (begins i k (displaces i b))
+abbrev pub returns : ℕ → ℕ → Connect → Option LastWill → Broker → Broker
+returns c i k will b =
+    comes_in c i (not k.clean_start) k will (begins i k (displaces i b))
 
 -- one that isn't
-unfoldable pub enters : ℕ → Connect → Broker → Broker
-enters c k b =
-    comes_in c (number_in (free_number b.members) b) false k
+unfoldable pub enters : ℕ → Connect → Option LastWill → Broker → Broker
+enters c k will b =
+    comes_in c (number_in (free_number b.members) b) false k will
     (numbers (member_of k) (free_number b.members) b)
 
-abbrev pub admits_as : Option ℕ → ℕ → Connect → Broker → Broker
-admits_as (Some i) c k b = returns c i k b
-admits_as None c k b = enters c k b
+abbrev pub admits_as : Option ℕ → ℕ → Connect → Option LastWill → Broker → Broker
+admits_as (Some i) c k will b = returns c i k will b
+admits_as None c k will b = enters c k will b
 
 -- one that isn't refused
-unfoldable pub admits : ℕ → Connect → Broker → Broker
-admits c k b = admits_as (number_of k.client_id b.members) c k b
+unfoldable pub admits : ℕ → Connect → Option LastWill → Broker → Broker
+admits c k will b = admits_as (number_of k.client_id b.members) c k will b
 
-abbrev pub connects_by : Option ConnectReturnCode → ℕ → Connect → Broker → Broker
-connects_by (Some code) c k b =
+abbrev pub connects_by : Option ConnectReturnCode → ℕ → Connect → Option LastWill → Broker → Broker
+connects_by (Some code) c k will b =
     on_connection c (λ (l : Connection). shut (written (refusal code) l)) b
-connects_by None c k b = admits c k b
+connects_by None c k will b = admits c k will b
 
 unfoldable pub connects : ℕ → Connect → Option LastWill → Broker → Broker
-connects c k will b = connects_by (connect_fault k will) c k b
+connects c k will b = connects_by (connect_fault k will) c k will b
 
 -- ---- any packet
 

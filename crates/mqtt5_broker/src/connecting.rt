@@ -14,6 +14,7 @@ use crate::connections::{
 };
 use crate::judging::connect_fault;
 use crate::member::{Member, free_number, longest_of, member_of, number_of, receive_max_of};
+use crate::wills::will_of;
 use mqtt5_codec::Packet;
 use mqtt5_connect::{Connect, LastWill};
 use mqtt5_control::{ConnAck, ConnAckProperties, ConnectReturnCode, DisconnectReasonCode};
@@ -62,13 +63,15 @@ impl Broker {
         client: usize,
         present: bool,
         connect: &Connect,
+        will: &Option<LastWill>,
     ) -> Result<(), StateError>
         ensures ok { OnOk result
-            (self.new ≡ comes_in connection client present connect.now self.old) }
+            (self.new ≡ comes_in connection client present connect.now will.now self.old) }
         ensures memory { IfErr result (λ e. e ≡ StateError.OutOfMemory) }
     {
         let max = receive_max_of(&connect.properties);
-        let packets = self.sessions.come(alloc, client, Some(max), None)?;
+        let will = will_of(alloc, will)?;
+        let packets = self.sessions.come(alloc, client, Some(max), will)?;
         let welcome = connack(alloc, present);
         let written = welcome_at(
             &mut self.connections,
@@ -128,13 +131,14 @@ impl Broker {
         connection: usize,
         client: usize,
         connect: &Connect,
+        will: &Option<LastWill>,
     ) -> Result<(), StateError>
-        ensures ok { OnOk result (self.new ≡ returns connection client connect.now self.old) }
+        ensures ok { OnOk result (self.new ≡ returns connection client connect.now will.now self.old) }
         ensures memory { IfErr result (λ e. e ≡ StateError.OutOfMemory) }
     {
         self.displace(client)?;
         self.begin(alloc, client, connect)?;
-        self.come_in(alloc, connection, client, !connect.clean_start, connect)?;
+        self.come_in(alloc, connection, client, !connect.clean_start, connect, will)?;
         Ok(())
     }
 
@@ -170,13 +174,14 @@ impl Broker {
         alloc: Global,
         connection: usize,
         connect: &Connect,
+        will: &Option<LastWill>,
     ) -> Result<(), StateError>
-        ensures ok { OnOk result (self.new ≡ enters connection connect.now self.old) }
+        ensures ok { OnOk result (self.new ≡ enters connection connect.now will.now self.old) }
         ensures memory { IfErr result (λ e. e ≡ StateError.OutOfMemory) }
     {
         let member = member_of(connect)?;
         let client = self.number(alloc, member)?;
-        self.come_in(alloc, connection, client, false, connect)?;
+        self.come_in(alloc, connection, client, false, connect, will)?;
         Ok(())
     }
 
@@ -187,17 +192,18 @@ impl Broker {
         alloc: Global,
         connection: usize,
         connect: &Connect,
+        will: &Option<LastWill>,
     ) -> Result<(), StateError>
-        ensures ok { OnOk result (self.new ≡ admits connection connect.now self.old) }
+        ensures ok { OnOk result (self.new ≡ admits connection connect.now will.now self.old) }
         ensures memory { IfErr result (λ e. e ≡ StateError.OutOfMemory) }
     {
         match number_of(&connect.client_id, self.members.as_slice()) {
             Some(client) => {
-                self.bring_back(alloc, connection, client, connect)?;
+                self.bring_back(alloc, connection, client, connect, will)?;
                 Ok(())
             }
             None => {
-                self.enter(alloc, connection, connect)?;
+                self.enter(alloc, connection, connect, will)?;
                 Ok(())
             }
         }
@@ -235,7 +241,7 @@ impl Broker {
                 Ok(())
             }
             None => {
-                self.admit(alloc, connection, connect)?;
+                self.admit(alloc, connection, connect, will)?;
                 Ok(())
             }
         }

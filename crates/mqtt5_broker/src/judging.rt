@@ -2,11 +2,11 @@
 
 ghost use Rattle.std.specs.Prelude.{◌≡◌};
 ghost use Rattle.std.specs.List.{list_any};
-ghost use Rattle.mqtt5_broker.specs.Judging.{is_topic_text, is_topic, properties_fault, topic_fault, publish_fault, is_shared, is_malformed, identifier_fault, filters_fault, subscribe_fault, packet_fault, is_zero, settings_fault, connect_fault};
+ghost use Rattle.mqtt5_broker.specs.Judging.{is_topic_text, is_topic, properties_fault, topic_fault, publish_fault, is_shared, is_malformed, identifier_fault, filters_fault, subscribe_fault, packet_fault, is_zero, settings_fault, is_delayed, will_fault, connect_fault};
 
 use mqtt5_base::{valid_filter, valid_topic};
 use mqtt5_codec::Packet;
-use mqtt5_connect::{Connect, ConnectProperties, LastWill};
+use mqtt5_connect::{Connect, ConnectProperties, LastWill, LastWillProperties};
 use mqtt5_control::{ConnectReturnCode, DisconnectReasonCode};
 use mqtt5_publish::{Publish, PublishProperties};
 use mqtt5_subscribe::{Filter, Subscribe, SubscribeProperties};
@@ -181,16 +181,45 @@ fn settings_fault(properties: &Option<ConnectProperties>) -> Option<ConnectRetur
     }
 }
 
-/// Why a Connect is refused, if it is: ClientIdentifierNotValid, ImplementationSpecificError of a will, ProtocolError,
-/// BadAuthenticationMethod.
+fn is_delayed(properties: &Option<LastWillProperties>) -> bool
+    ensures { result ≡ is_delayed properties.now }
+{
+    match properties {
+        Some(set) => match set.delay_interval {
+            Some(seconds) => seconds != 0,
+            None => false,
+        },
+        None => false,
+    }
+}
+
+fn will_fault(will: &Option<LastWill>) -> Option<ConnectReturnCode>
+    ensures { result ≡ will_fault will.now }
+{
+    match will {
+        Some(will) => {
+            if is_delayed(&will.properties) {
+                return Some(ConnectReturnCode::ImplementationSpecificError);
+            }
+            if is_topic(will.topic.as_slice()) {
+                return None;
+            }
+            Some(ConnectReturnCode::TopicNameInvalid)
+        }
+        None => None,
+    }
+}
+
+/// Why a Connect is refused, if it is: ClientIdentifierNotValid; ImplementationSpecificError of a will with a delay,
+/// TopicNameInvalid of one; ProtocolError, BadAuthenticationMethod.
 pub(super) fn connect_fault(connect: &Connect, will: &Option<LastWill>) -> Option<ConnectReturnCode>
     ensures { result ≡ connect_fault connect.now will.now }
 {
     if connect.client_id.as_bytes().is_empty() {
         return Some(ConnectReturnCode::ClientIdentifierNotValid);
     }
-    if will.is_some() {
-        return Some(ConnectReturnCode::ImplementationSpecificError);
+    match will_fault(will) {
+        Some(code) => Some(code),
+        None => settings_fault(&connect.properties),
     }
-    settings_fault(&connect.properties)
 }

@@ -10,6 +10,7 @@ mod judging;
 mod laws;
 mod member;
 mod serving;
+mod wills;
 
 pub use broker::{Broker, Limits};
 pub use laws::{fault_law, pieces_law};

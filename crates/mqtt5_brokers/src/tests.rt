@@ -1,0 +1,181 @@
+//! What a broker makes of the bytes of its clients as rows of text, walked by one function: a case more is a line. The parts of a row
+//! stand between semicolons, each a call with the number of a connection, what comes with it, and its answer behind `=`. A walk makes
+//! the calls, writes the row anew with what comes of them, and compares. Bytes are two digits each, and `-` is none. The frames are
+//! those of MQTT 5.0.
+
+use mqtt5_base::Error;
+use mqtt5_broker::{Broker, Limits};
+use mqtt5_session::StateError;
+use std::alloc::{AllocError, Global};
+use std::num::NonZeroU16;
+use std::test::Fail;
+
+/// `open` begins a connection, `is` says whether it takes bytes, `in` brings bytes of it, and answers what it sends then; `out`
+/// answers that without any, `pass` passes the first of a queue on, and `close` ends the connection. The broker has four connections,
+/// and takes packets of 64 bytes and fewer.
+///
+/// Of the first client the name is a, of the second b. First a message of QoS 2 from one to the other, a ping, and a Disconnect. Then
+/// a Connect in three pieces, and two packets in one. Then a session that stays while its client is away, which is sent what it
+/// missed, once more with `dup`; one that is taken over; one that a clean start ends; and one that ends with its connection. Then a
+/// client that takes one publish at a time, and one that takes packets of nine bytes. A retained message. Wills: of a connection
+/// that is lost, dropped by a Disconnect, published by one of reason 4; at a fault of the bytes; and one with properties.
+///
+/// Then what ends a connection: a client without a name, an authentication method, a receive maximum and a maximum packet size of 0, a
+/// will with a delay and one without a topic, and a first packet that is no Connect; of a client that is connected a second
+/// Connect, a topic alias, a subscription identifier, topics with a wildcard, without a byte and without text, a shared subscription,
+/// a subscription identifier, a filter that is none, an Auth, a packet that a server sends, one of type 0, and one that is too long.
+const ROWS: &str =
+    "open:0=1; open:0=0; open:9=0; open:1=1; in:0:100E00044D5154540502000000000161=200700000429002A00; in:1:100E00044D5154540502000000000162=200700000429002A00; in:1:82090001000003612F6202=900400010002; in:0:34090003612F6200050078=50020005; out:1=-; pass:1=1; out:1=34090003612F6200010078; pass:1=0; in:1:50020001=62020001; in:1:70020001=-; in:0:62020005=70020005; in:0:C000=D000; in:0:E000=-; is:0=0; is:1=1; in:0:C000=-; close:0; open:0=1
+open:0=1; in:0:10=-; in:0:0E00044D5154540502=-; in:0:000000000161C000=200700000429002A00D000; in:0:C0=-; in:0:00C0=D000; in:0:00=D000
+open:0=1; open:1=1; in:0:101300044D515454050000000511FFFFFFFF000161=200700000429002A00; in:0:82090001000003612F6202=900400010002; close:0; in:1:100E00044D5154540502000000000162=200700000429002A00; in:1:32090003612F6200070078=40020007; open:0=1; in:0:101300044D515454050000000511FFFFFFFF000161=200701000429002A00; pass:0=1; out:0=32090003612F6200010078; close:0; open:2=1; in:2:101300044D515454050000000511FFFFFFFF000161=200701000429002A003A090003612F6200010078; in:2:40020001=-; pass:2=0
+open:0=1; open:1=1; in:0:101300044D515454050000000511FFFFFFFF000161=200700000429002A00; in:1:101300044D515454050000000511FFFFFFFF000161=200701000429002A00; out:0=E0028E00; is:0=0; is:1=1; close:0; in:1:C000=D000
+open:0=1; open:1=1; in:0:101300044D515454050000000511FFFFFFFF000161=200700000429002A00; in:0:82090001000003612F6200=900400010000; close:0; open:0=1; in:0:101300044D515454050200000511FFFFFFFF000161=200700000429002A00; in:1:100E00044D5154540502000000000162=200700000429002A00; in:1:30070003612F620078=-; pass:0=0
+open:0=1; in:0:100E00044D5154540502000000000161=200700000429002A00; in:0:82090001000003612F6200=900400010000; close:0; open:0=1; in:0:100E00044D5154540500000000000161=200700000429002A00; in:0:30070003612F620078=-; pass:0=0
+open:0=1; open:1=1; in:0:101100044D5154540502000003210001000161=200700000429002A00; in:0:82090001000003612F6201=900400010001; in:1:100E00044D5154540502000000000162=200700000429002A00; in:1:32090003612F6200070078=40020007; in:1:32090003612F6200080079=40020008; pass:0=1; out:0=32090003612F6200010078; pass:0=0; in:0:40020001=32090003612F6200010079
+open:0=1; open:1=1; in:0:101300044D51545405020000052700000009000161=200700000429002A00; in:0:82090001000003612F6200=900400010000; in:1:100E00044D5154540502000000000162=200700000429002A00; in:1:30090003612F620078797A=-; in:1:30070003612F620078=-; pass:0=1; out:0=-; pass:0=1; out:0=30070003612F620078
+open:0=1; open:1=1; in:0:100E00044D5154540502000000000161=200700000429002A00; in:0:31050001610078=-; in:1:100E00044D5154540502000000000162=200700000429002A00; in:1:820700010000012B00=900400010000; pass:1=1; out:1=31050001610078; in:1:310400016100=-; in:0:820700020000016100=900400020000; pass:0=0
+open:0=1; open:1=1; in:1:100E00044D5154540502000000000162=200700000429002A00; in:1:820700010000017700=900400010000; in:0:101500044D515454050600000000016100000177000167=200700000429002A00; close:0; pass:1=1; out:1=30050001770067; open:0=1; in:0:101500044D515454050600000000016100000177000167=200700000429002A00; in:0:E000=-; close:0; pass:1=0; open:0=1; in:0:101500044D515454050600000000016100000177000167=200700000429002A00; in:0:E00104=-; pass:1=1; out:1=30050001770067
+open:0=1; open:1=1; in:1:100E00044D5154540502000000000162=200700000429002A00; in:1:820700010000017700=900400010000; in:0:101500044D515454050600000000016100000177000167=200700000429002A00; in:0:0000=E0028100; pass:1=1; out:1=30050001770067; pass:1=0
+open:0=1; open:1=1; in:1:100E00044D5154540502000000000162=200700000429002A00; in:1:820700010000017700=900400010000; in:0:102200044D515454050E0000000001610D0101030001742600016B000176000177000167=200700000429002A00; close:0; pass:1=1; out:1=30120001770D01012600016B0001760300017467
+open:0=1; in:0:100D00044D51545405020000000000=2003008500; is:0=0
+open:0=1; in:0:101200044D51545405020000041500016D000161=2003008C00; is:0=0
+open:0=1; in:0:101100044D5154540502000003210000000161=2003008200; is:0=0
+open:0=1; in:0:101300044D51545405020000052700000000000161=2003008200; is:0=0
+open:0=1; in:0:101A00044D5154540506000000000161051800000001000177000167=2003008300; is:0=0
+open:0=1; in:0:101500044D515454050600000000016100000123000167=2003009000; is:0=0
+open:0=1; in:0:C000=-; is:0=0
+open:0=1; in:0:100E00044D5154540502000000000161=200700000429002A00; in:0:100E00044D5154540502000000000161=E0028200; is:0=0
+open:0=1; in:0:100E00044D5154540502000000000161=200700000429002A00; in:0:300700016103230001=E0029400; is:0=0
+open:0=1; in:0:100E00044D5154540502000000000161=200700000429002A00; in:0:3006000161020B01=E0028200; is:0=0
+open:0=1; in:0:100E00044D5154540502000000000161=200700000429002A00; in:0:30070003612F230078=E0029000; is:0=0
+open:0=1; in:0:100E00044D5154540502000000000161=200700000429002A00; in:0:300400000078=E0029000; is:0=0
+open:0=1; in:0:100E00044D5154540502000000000161=200700000429002A00; in:0:30040001FF00=E0029000; is:0=0
+open:0=1; in:0:100E00044D5154540502000000000161=200700000429002A00; in:0:8210000100000A2473686172652F672F6100=E0029E00; is:0=0
+open:0=1; in:0:100E00044D5154540502000000000161=200700000429002A00; in:0:82090001020B0100016100=E002A100; is:0=0
+open:0=1; in:0:100E00044D5154540502000000000161=200700000429002A00; in:0:820B0001000005612F232F6200=E0028F00; is:0=0
+open:0=1; in:0:100E00044D5154540502000000000161=200700000429002A00; in:0:F000=E0028200; is:0=0
+open:0=1; in:0:100E00044D5154540502000000000161=200700000429002A00; in:0:D000=E0028200; is:0=0
+open:0=1; in:0:100E00044D5154540502000000000161=200700000429002A00; in:0:0000=E0028100; is:0=0
+open:0=1; in:0:100E00044D5154540502000000000161=200700000429002A00; in:0:3041=E0029500; is:0=0
+";
+
+/// What stands before the first mark of a text, and what behind it.
+fn cut<'a>(text: &'a str, mark: char) -> (&'a str, &'a str) {
+    text.split_once(mark).unwrap_or((text, ""))
+}
+
+/// A number of its digits; E16 where they aren't digits.
+fn number_of(digits: &str) -> Result<usize, Error> {
+    match digits.parse::<usize>() {
+        Ok(number) => Ok(number),
+        Err(_) => Err(Error::MalformedPacket),
+    }
+}
+
+/// Bytes come on a connection; E16 where they aren't two digits each.
+fn brings(
+    alloc: Global,
+    broker: &mut Broker,
+    connection: usize,
+    digits: &str,
+) -> Result<(), StateError> {
+    let Ok(bytes) = hex::decode(alloc, digits) else {
+        return Err(StateError::from(Error::MalformedPacket));
+    };
+    broker.receive(alloc, connection, bytes.as_slice())
+}
+
+/// Sends what there is to be sent, and adds it as an answer.
+fn sends(
+    alloc: Global,
+    broker: &mut Broker,
+    connection: usize,
+    text: &mut String,
+) -> Result<(), AllocError> {
+    let output = broker.output(connection);
+    let count = output.len();
+    if count == 0 {
+        return text.push_str("=-");
+    }
+    text.push('=')?;
+    text.push_str(hex::encode_upper(alloc, output)?.as_str())?;
+    broker.sent(connection, count);
+    Ok(())
+}
+
+/// Adds an answer that is yes or no.
+fn answers(yes: bool, text: &mut String) -> Result<(), AllocError> {
+    text.push_str(if yes { "=1" } else { "=0" })
+}
+
+/// Makes a call, and adds its answer.
+fn calls(
+    alloc: Global,
+    broker: &mut Broker,
+    call: &str,
+    text: &mut String,
+) -> Result<(), StateError> {
+    let (word, rest) = cut(call, ':');
+    let (digits, bytes) = cut(rest, ':');
+    let connection = number_of(digits)?;
+    match word {
+        "open" => {
+            let begun = broker.open(alloc, connection);
+            Ok(answers(begun, text)?)
+        }
+        "is" => Ok(answers(broker.is_open(connection), text)?),
+        "in" => {
+            brings(alloc, broker, connection, bytes)?;
+            Ok(sends(alloc, broker, connection, text)?)
+        }
+        "out" => Ok(sends(alloc, broker, connection, text)?),
+        "pass" => {
+            let passed = broker.pass(alloc, connection)?;
+            Ok(answers(passed, text)?)
+        }
+        "close" => broker.close(alloc, connection),
+        _other => Err(StateError::from(Error::MalformedPacket)),
+    }
+}
+
+/// Makes the calls of a row, and writes it anew.
+fn walks(
+    alloc: Global,
+    broker: &mut Broker,
+    row: &str,
+    text: &mut String,
+) -> Result<(), StateError> {
+    for part in row.split("; ") {
+        if !text.is_empty() {
+            text.push_str("; ")?;
+        }
+        let (call, _answer) = cut(part, '=');
+        text.push_str(call)?;
+        calls(alloc, broker, call, text)?;
+    }
+    Ok(())
+}
+
+/// What comes of the calls of a row.
+fn walked(alloc: Global, row: &str) -> Result<String, StateError> {
+    let limits = Limits {
+        connections: 4,
+        longest: 64,
+        ids: NonZeroU16::MAX,
+    };
+    let mut broker = Broker::new(alloc, &limits)?;
+    let mut text = String::new(alloc);
+    let walked = walks(alloc, &mut broker, row, &mut text);
+    drop(broker);
+    walked?;
+    Ok(text)
+}
+
+#[test]
+fn rows(rt: HostRuntime) -> Result<(), Fail> {
+    for row in ROWS.lines() {
+        let text = walked(rt.alloc(), row)?;
+        assert!(rt; text.as_str() == row, "{text} of {row}");
+    }
+    Ok(())
+}
