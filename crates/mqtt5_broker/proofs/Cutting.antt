@@ -6,7 +6,6 @@ use Rattle.mqtt5_base.specs.FrontAt.{front}
 use Rattle.mqtt5_base.specs.declared.error.Error.{Error}
 use Rattle.mqtt5_base.specs.declared.error.Error.TheVariants.{OutOfMemory}
 use Rattle.mqtt5_codec.specs.declared.packet.Packet.{Packet}
-use Rattle.mqtt5_codec.specs.Packets.{IsFrameOf, IsFaultOf}
 use Rattle.mqtt5_codec.specs.PacketsIn.{packet_in}
 use Rattle.mqtt5_codec.specs.Codecs.{Decodes}
 use Rattle.mqtt5_codec.specs.Laws.{IsFrames}

@@ -1,5 +1,5 @@
 -- What packets leave as it is: the limit, and that no bytes are held on a connection of which none are.
-use Rattle.std.proofs.Common.{◌≡◌, ◌≢◌, ℕ, zero, suc, Bool, true, false, List, [], ◌∷◌, Option, Some, None, refl, subst, ap, ◌∙◌, get_or, set, if◌then◌else◌, Result, Ok, Err}
+use Rattle.std.proofs.Common.{◌≡◌, ℕ, zero, suc, Bool, true, false, List, [], ◌∷◌, Option, Some, None, refl, subst, ap, ◌∙◌, get_or, set, if◌then◌else◌, Result, Ok, Err}
 use Rattle.mqtt5_base.specs.declared.error.Error.{Error}
 use Rattle.mqtt5_codec.specs.declared.packet.Packet.{Packet}
 use Rattle.mqtt5_codec.specs.declared.packet.Packet.TheVariants as packets
@@ -16,7 +16,7 @@ use Rattle.mqtt5_broker.specs.declared.serving.Kind.TheVariants as kinds
 use Rattle.mqtt5_broker.specs.Connection.{Connection, closed, shut, told, with_bytes, written, written_all, connection_at, connection_of}
 use Rattle.mqtt5_broker.specs.Broker.{Broker, on_connection, forgets, loses_client, leaves_client, stays_at, refuses, numbers, number_in, free_number, number_of}
 use Rattle.mqtt5_broker.specs.Judging.{packet_fault, connect_fault}
-use Rattle.mqtt5_broker.specs.Serving.{kind_of, arrives_from, goes, disconnects, serves_as, serves_by, serves, connack, refusal, receive_max_of, member_of, taken_by, comes_in, displaced, displaces, begins, enters, admits_as, admits, connects_by, connects, begins_with, takes_of, takes_at, takes}
+use Rattle.mqtt5_broker.specs.Serving.{kind_of, arrives_from, goes, disconnects, serves_as, serves_by, serves, connack, refusal, receive_max_of, member_of, taken_by, comes_in, displaced, displaces, begins, enters, admits_as, admits, connects_by, connects, begins_with, takes_of, takes}
 use Rattle.mqtt5_broker.specs.Receiving.{takes_all}
 
 -- ---- connections

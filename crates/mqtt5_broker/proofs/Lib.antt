@@ -3,3 +3,5 @@ pub mod Written
 pub mod Taking
 pub mod Keeping
 pub mod Pieces
+pub mod Acting
+pub mod Sending

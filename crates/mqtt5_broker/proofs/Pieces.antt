@@ -1,16 +1,16 @@
 -- Bytes that come in any pieces are the same as the whole.
-use Rattle.std.proofs.Common.{◌≡◌, ◌≢◌, ◌<◌, ℕ, zero, suc, Bool, true, false, List, [], ◌∷◌, ◌++◌, Option, Some, None, refl, sym, subst, ap, ◌∙◌, length, get_or, set, get_or-set_same, append_assoc, arith, if◌then◌else◌, Result, Ok, Err}
+use Rattle.std.proofs.Common.{◌≡◌, ◌≢◌, ◌<◌, ℕ, zero, suc, Bool, true, false, List, [], ◌∷◌, ◌++◌, Option, Some, None, refl, sym, ap, ◌∙◌, length, get_or, set, get_or-set_same, append_assoc, arith, if◌then◌else◌, Result, Ok, Err}
 use Rattle.std.proofs.lemmas.List.{append-nil, set-get_or}
 use Rattle.mqtt5_base.specs.Front.{Front, Bad, More, Whole, NeedsMore, IsFound, IsFront}
 use Rattle.mqtt5_base.specs.FrontAt.{front}
 use Rattle.mqtt5_base.specs.declared.error.Error.{Error}
 use Rattle.mqtt5_codec.specs.declared.packet.Packet.{Packet}
 use Rattle.mqtt5_codec.specs.PacketsIn.{packet_in}
-use Rattle.mqtt5_broker.specs.Cut.{Cut, Ending, Holds, Breaks, on_frame, on_front, cut_up, goes_on_as, on_ending}
+use Rattle.mqtt5_broker.specs.Cut.{Cut, Ending, Holds, Breaks, on_frame, on_front, cut_up, goes_on_as}
 use Rattle.mqtt5_broker.specs.Connection.{Connection, closed, shut, told, emptied, holding, connection_at, with_connection}
 use Rattle.mqtt5_broker.specs.Broker.{Broker, on_connection, forgets, loses_client, stays_at, refuses}
 use Rattle.mqtt5_broker.specs.Serving.{takes, takes_of}
-use Rattle.mqtt5_broker.specs.Receiving.{takes_all, reason_for, breaks_of, breaks_at, ends_with, comes_of, receives}
+use Rattle.mqtt5_broker.specs.Receiving.{takes_all, reason_for, breaks_of, ends_with, comes_of, receives}
 use Rattle.mqtt5_broker.proofs.Cutting.{pieces, regroup}
 use Rattle.mqtt5_broker.proofs.Keeping.{at_changed, Keeps, all_keeps}
 

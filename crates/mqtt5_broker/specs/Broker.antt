@@ -1,6 +1,6 @@
 -- What a broker keeps: the sessions of its clients, their names, and its connections (MQTT 5.0
 -- sections 3.1.3.1, 3.1.2.11.2 and 4.1).
-use Rattle.std.specs.Prelude.{ℕ, nat_eq, Bool, true, false, List, [], ◌∷◌, ◌++◌, length}
+use Rattle.std.specs.Prelude.{ℕ, nat_eq, Bool, false, List, [], ◌∷◌, ◌++◌, length}
 use Rattle.std.specs.Prelude.{Option, Some, None, is_none, slice_index_or, slice_set}
 use Rattle.std.specs.Prelude.{if◌then◌else◌}
 use Rattle.std.specs.List.{position}

@@ -5,3 +5,4 @@ pub mod Wills
 pub mod Judging
 pub mod Serving
 pub mod Receiving
+pub mod Acts

@@ -1,8 +1,7 @@
 -- What a broker makes of the packets of its clients (MQTT 5.0 sections 3.1.4, 3.2, 3.12, 3.14 and
 -- 4.13).
-use Rattle.std.specs.Prelude.{ℕ, ◌==◌, Bool, true, false, not, List, [], ◌∷◌, Option, Some, None}
+use Rattle.std.specs.Prelude.{ℕ, ◌==◌, Bool, false, not, ◌∷◌, Option, Some, None}
 use Rattle.std.specs.Prelude.{option_map, if◌then◌else◌, slice_set}
-use Rattle.mqtt5_base.specs.Texts.{Utf8}
 use Rattle.mqtt5_connect.specs.declared.connect.Connect.{Connect}
 use Rattle.mqtt5_connect.specs.declared.connect.ConnectProperties.{ConnectProperties}
 use Rattle.mqtt5_connect.specs.declared.will.LastWill.{LastWill}

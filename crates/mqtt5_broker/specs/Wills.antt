@@ -1,6 +1,6 @@
 -- What a broker publishes in a client's name once its connection is lost (MQTT 5.0 sections 3.1.2.5
 -- and 3.1.3.2).
-use Rattle.std.specs.Prelude.{Bool, false, Option, None, Some, option_map, is_some}
+use Rattle.std.specs.Prelude.{false, option_map}
 use Rattle.mqtt5_publish.specs.declared.publish.Publish.{Publish}
 use Rattle.mqtt5_publish.specs.declared.publish.PublishProperties.{PublishProperties}
 use Rattle.mqtt5_publish.specs.Publishes.{no_publish_properties}

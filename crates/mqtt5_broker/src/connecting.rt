@@ -138,7 +138,14 @@ impl Broker {
     {
         self.displace(client)?;
         self.begin(alloc, client, connect)?;
-        self.come_in(alloc, connection, client, !connect.clean_start, connect, will)?;
+        self.come_in(
+            alloc,
+            connection,
+            client,
+            !connect.clean_start,
+            connect,
+            will,
+        )?;
         Ok(())
     }
 

@@ -13,4 +13,4 @@ mod serving;
 mod wills;
 
 pub use broker::{Broker, Limits};
-pub use laws::{fault_law, pieces_law};
+pub use laws::{acts_law, fault_law, pieces_law};

@@ -1,5 +1,5 @@
-use Rattle.std.proofs.Common.{sym, subst, ap, ◌∙◌, ◌&&◌}
-use Rattle.std.specs.Str.{IsUtf8, is_utf8}
+use Rattle.std.proofs.Common.{sym, ap, ◌∙◌, ◌&&◌}
+use Rattle.std.specs.Str.{is_utf8}
 use Rattle.std.proofs.lemmas.Bool.{false_from_ne_true}
 use Rattle.std.proofs.lemmas.Str.{is_utf8-from_IsUtf8, IsUtf8-from_is_utf8}
 use Rattle.mqtt5_broker.specs.Judging.{is_topic_text}

@@ -1,4 +1,3 @@
-use Rattle.std.proofs.Common.{refl}
 use Rattle.mqtt5_broker.proofs.Written.{written_ok, written_not}
 use Rattle.mqtt5_broker.proofs.connection.Connection.write.Goals as goal
 
