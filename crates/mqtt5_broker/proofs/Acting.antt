@@ -19,7 +19,7 @@ use Rattle.mqtt5_broker.specs.Connection.{Connection, closed, shut, disconnect, 
 use Rattle.mqtt5_broker.specs.Broker.{Broker, on_connection, forgets, loses_client, leaves_client, stays_at, refuses, numbers, number_in, free_number, number_of}
 use Rattle.mqtt5_broker.specs.Wills.{will_of}
 use Rattle.mqtt5_broker.specs.Judging.{packet_fault, connect_fault}
-use Rattle.mqtt5_broker.specs.Serving.{kind_of, arrives_from, goes, disconnects, serves_as, serves_by, serves, connack, refusal, receive_max_of, longest_of, member_of, taken_by, comes_in, displaced, displaces, begins, enters, admits_as, admits, connects_by, connects, begins_with, takes_of, takes, passes_of, passes_on}
+use Rattle.mqtt5_broker.specs.Serving.{kind_of, arrives_from, goes, disconnects, serves_as, serves_by, serves, connack, refusal, receive_max_of, longest_of, member_of, taken_by, comes_in, displaced, displaces, starts_anew, begins, enters, admits_as, admits, connects_by, connects, begins_with, takes_of, takes, passes_of, passes_on}
 use Rattle.mqtt5_broker.specs.Receiving.{takes_all, reason_for, breaks_of, ends_with, comes_of, receives}
 use Rattle.mqtt5_broker.specs.Acts.{SessionEvent, Joins, Arrives, Passes, Loses, Leaves, Comes, Ends, after_event, after_events, Act, Session, Know, Write, Shut, Welcome, Hold, Empty, act, acts}
 
@@ -141,9 +141,9 @@ begins_by : (v : Bool) (i : ℕ) (ms : List (Option Member)) (b : Broker) → Ma
 begins_by true i ms b = (Session (Ends i) ∷ Know ms ∷ [], refl)
 begins_by false i ms b = (Know ms ∷ [], refl)
 
-begins_made : (i : ℕ) (q : Connect) (b : Broker) → Made b (begins i q b)
+begins_made : (i : ℕ) (anew : Bool) (q : Connect) (b : Broker) → Made b (begins i anew q b)
 unfolding begins
-begins_made i q b = begins_by q.clean_start i (slice_set b.members i (Some (member_of q))) b
+begins_made i anew q b = begins_by anew i (slice_set b.members i (Some (member_of q))) b
 
 numbers_made : (m : Member) (o : Option ℕ) (b : Broker) → Made b (numbers m o b)
 numbers_made m None b = (Session (Joins b.limit) ∷ Know (b.members ++ Some m ∷ []) ∷ [], refl)
@@ -153,13 +153,13 @@ enters_made : (d : ℕ) (q : Connect) (will : Option LastWill) (b : Broker) → 
 unfolding enters
 enters_made d q will b = made_more b (numbers (member_of q) (free_number b.members) b) _ (numbers_made (member_of q) (free_number b.members) b) (comes_made d (number_in (free_number b.members) b) false q will (numbers (member_of q) (free_number b.members) b))
 
-returns_made : (d i : ℕ) (q : Connect) (will : Option LastWill) (b : Broker) → Made b (comes_in d i (not q.clean_start) q will (begins i q (displaces i b)))
-returns_made d i q will b =
-    made_more b (begins i q (displaces i b)) _ (made_more b (displaces i b) _ (displaces_made i b) (begins_made i q (displaces i b)))
-    (comes_made d i (not q.clean_start) q will (begins i q (displaces i b)))
+returns_made : (d i : ℕ) (anew : Bool) (q : Connect) (will : Option LastWill) (b : Broker) → Made b (comes_in d i (not anew) q will (begins i anew q (displaces i b)))
+returns_made d i anew q will b =
+    made_more b (begins i anew q (displaces i b)) _ (made_more b (displaces i b) _ (displaces_made i b) (begins_made i anew q (displaces i b)))
+    (comes_made d i (not anew) q will (begins i anew q (displaces i b)))
 
 admits_as_made : (o : Option ℕ) (d : ℕ) (q : Connect) (will : Option LastWill) (b : Broker) → Made b (admits_as o d q will b)
-admits_as_made (Some i) d q will b = returns_made d i q will b
+admits_as_made (Some i) d q will b = returns_made d i (starts_anew i q b) q will b
 admits_as_made None d q will b = enters_made d q will b
 
 admits_made : (d : ℕ) (q : Connect) (will : Option LastWill) (b : Broker) → Made b (admits d q will b)

@@ -1,5 +1,5 @@
 -- What packets leave as it is: the limit, and that no bytes are held on a connection of which none are.
-use Rattle.std.proofs.Common.{◌≡◌, ℕ, zero, suc, Bool, true, false, List, [], ◌∷◌, Option, Some, None, refl, subst, ap, ◌∙◌, get_or, set, if◌then◌else◌, Result, Ok, Err}
+use Rattle.std.proofs.Common.{◌≡◌, ℕ, zero, suc, Bool, true, false, List, [], ◌∷◌, Option, Some, None, refl, subst, ap, ◌∙◌, get_or, set, if◌then◌else◌, not, Result, Ok, Err}
 use Rattle.mqtt5_base.specs.declared.error.Error.{Error}
 use Rattle.mqtt5_codec.specs.declared.packet.Packet.{Packet}
 use Rattle.mqtt5_codec.specs.declared.packet.Packet.TheVariants as packets
@@ -16,7 +16,7 @@ use Rattle.mqtt5_broker.specs.declared.serving.Kind.TheVariants as kinds
 use Rattle.mqtt5_broker.specs.Connection.{Connection, closed, shut, told, with_bytes, written, written_all, connection_at, connection_of}
 use Rattle.mqtt5_broker.specs.Broker.{Broker, on_connection, forgets, loses_client, leaves_client, stays_at, refuses, numbers, number_in, free_number, number_of}
 use Rattle.mqtt5_broker.specs.Judging.{packet_fault, connect_fault}
-use Rattle.mqtt5_broker.specs.Serving.{kind_of, arrives_from, goes, disconnects, serves_as, serves_by, serves, connack, refusal, receive_max_of, member_of, taken_by, comes_in, displaced, displaces, begins, enters, admits_as, admits, connects_by, connects, begins_with, takes_of, takes}
+use Rattle.mqtt5_broker.specs.Serving.{kind_of, arrives_from, goes, disconnects, serves_as, serves_by, serves, connack, refusal, receive_max_of, member_of, taken_by, comes_in, displaced, displaces, starts_anew, begins, enters, admits_as, admits, connects_by, connects, begins_with, takes_of, takes}
 use Rattle.mqtt5_broker.specs.Receiving.{takes_all}
 
 -- ---- connections
@@ -119,9 +119,9 @@ module _ (c n : ℕ) where
   unfolding displaces
   displaces_keeps i b k = displaced_keeps (connection_of i b.connections) b k
 
-  begins_keeps : (i : ℕ) (q : Connect) (b : Broker) → Keeps c n b → Keeps c n (begins i q b)
+  begins_keeps : (i : ℕ) (anew : Bool) (q : Connect) (b : Broker) → Keeps c n b → Keeps c n (begins i anew q b)
   unfolding begins
-  begins_keeps i q b k = record { held = k.held; longest = k.longest }
+  begins_keeps i anew q b k = record { held = k.held; longest = k.longest }
 
   numbers_keeps : (m : Member) (o : Option ℕ) (b : Broker) → Keeps c n b → Keeps c n (numbers m o b)
   numbers_keeps m None b k = record { held = k.held; longest = k.longest }
@@ -132,7 +132,7 @@ module _ (c n : ℕ) where
   enters_keeps d q will b k = comes_keeps d (number_in (free_number b.members) b) false q will _ (numbers_keeps (member_of q) (free_number b.members) b k)
 
   admits_as_keeps : (o : Option ℕ) (d : ℕ) (q : Connect) (will : Option LastWill) (b : Broker) → Keeps c n b → Keeps c n (admits_as o d q will b)
-  admits_as_keeps (Some i) d q will b k = comes_keeps d i _ q will _ (begins_keeps i q (displaces i b) (displaces_keeps i b k))
+  admits_as_keeps (Some i) d q will b k = comes_keeps d i (not (starts_anew i q b)) q will (begins i (starts_anew i q b) q (displaces i b)) (begins_keeps i (starts_anew i q b) q (displaces i b) (displaces_keeps i b k))
   admits_as_keeps None d q will b k = enters_keeps d q will b k
 
   admits_keeps : (d : ℕ) (q : Connect) (will : Option LastWill) (b : Broker) → Keeps c n b → Keeps c n (admits d q will b)

@@ -5,3 +5,4 @@ pub mod Keeping
 pub mod Pieces
 pub mod Acting
 pub mod Sending
+pub mod Passed

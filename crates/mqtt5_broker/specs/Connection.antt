@@ -60,8 +60,8 @@ abbrev pub holding : List ℕ → Connection → Connection
 holding bytes l = if l.is_open then record l { held = bytes } else l
 
 -- so many bytes were sent
-abbrev pub sent_of : ℕ → Connection → Connection
-sent_of n l = record l { output = drop n l.output }
+abbrev pub with_sent : ℕ → Connection → Connection
+with_sent n l = record l { output = drop n l.output }
 
 -- ---- of many
 

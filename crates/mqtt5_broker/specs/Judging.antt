@@ -1,6 +1,6 @@
 -- Which packets a broker refuses, and why (MQTT 5.0 sections 3.1.4, 3.14.2.1 and 4.13).
 use Rattle.std.specs.Prelude.{ℕ, ◌==◌, Bool, true, false, not, ◌||◌, ◌&&◌, List, length}
-use Rattle.std.specs.Prelude.{Option, Some, None, is_some, if◌then◌else◌, nat_eq, codes}
+use Rattle.std.specs.Prelude.{Option, Some, None, is_some, if◌then◌else◌, nat_eq, nat_lt, codes}
 use Rattle.std.specs.List.{list_any, starts_with}
 use Rattle.std.specs.Str.{is_utf8}
 use Rattle.mqtt5_base.specs.Topics.{is_valid_filter, is_valid_topic}
@@ -100,10 +100,16 @@ abbrev pub is_zero_or_none : Option ℕ → Bool
 is_zero_or_none None = true
 is_zero_or_none (Some n) = n == 0
 
+-- too short for the answer to a Connect, which has nine bytes
+abbrev pub is_short : Option ℕ → Bool
+is_short None = false
+is_short (Some n) = nat_lt n 9
+
 abbrev pub settings_fault : Option ConnectProperties → Option ConnectReturnCode
 settings_fault None = None
 settings_fault (Some set) =
     if is_zero set.receive_maximum || is_zero set.max_packet_size then Some return_codes.ProtocolError
+    else if is_short set.max_packet_size then Some return_codes.PacketTooLarge
     else if is_some set.authentication_method then Some return_codes.BadAuthenticationMethod else None
 
 -- a will's topic is one (3.1.3.3), and this broker takes none with a delay (3.1.3.2.2)

@@ -1,7 +1,7 @@
 -- What a broker makes of the packets of its clients (MQTT 5.0 sections 3.1.4, 3.2, 3.12, 3.14 and
 -- 4.13).
-use Rattle.std.specs.Prelude.{ℕ, ◌==◌, Bool, false, not, ◌∷◌, Option, Some, None}
-use Rattle.std.specs.Prelude.{option_map, if◌then◌else◌, slice_set}
+use Rattle.std.specs.Prelude.{ℕ, ◌==◌, Bool, true, false, not, ◌||◌, List, [], ◌∷◌, Option, Some}
+use Rattle.std.specs.Prelude.{None, option_map, if◌then◌else◌, slice_set}
 use Rattle.mqtt5_connect.specs.declared.connect.Connect.{Connect}
 use Rattle.mqtt5_connect.specs.declared.connect.ConnectProperties.{ConnectProperties}
 use Rattle.mqtt5_connect.specs.declared.will.LastWill.{LastWill}
@@ -21,7 +21,7 @@ use Rattle.mqtt5_broker.specs.declared.serving.Kind.TheVariants as kinds
 use Rattle.mqtt5_broker.specs.Connection.{Connection, written, written_all, shut, told}
 use Rattle.mqtt5_broker.specs.Connection.{connection_at, connection_of}
 use Rattle.mqtt5_broker.specs.Broker.{Broker, number_of, free_number, on_connection}
-use Rattle.mqtt5_broker.specs.Broker.{loses_client, leaves_client, refuses}
+use Rattle.mqtt5_broker.specs.Broker.{loses_client, leaves_client, refuses, stays_at}
 use Rattle.mqtt5_broker.specs.Broker.{numbers, number_in}
 use Rattle.mqtt5_broker.specs.Wills.{will_of}
 use Rattle.mqtt5_broker.specs.Judging.{packet_fault, connect_fault}
@@ -127,17 +127,22 @@ displaced (Some d) b = on_connection d (told reasons.SessionTakenOver) b
 unfoldable pub displaces : ℕ → Broker → Broker
 displaces i b = displaced (connection_of i b.connections) b
 
--- its session ends, if it is to start anew (3.1.2.4), and it is known by what it says now
-unfoldable pub begins : ℕ → Connect → Broker → Broker
-begins i k b = record b {
-  sessions = if k.clean_start then ends i b.sessions else b.sessions;
+-- whether its session starts anew: it asks for that (3.1.2.4), or the one that it has ends with its
+-- connection (3.1.2.11.2)
+abbrev pub starts_anew : ℕ → Connect → Broker → Bool
+starts_anew i k b = k.clean_start || not (stays_at i b.members)
+
+-- then that one ends; and it is known by what it says now
+unfoldable pub begins : ℕ → Bool → Connect → Broker → Broker
+begins i anew k b = record b {
+  sessions = if anew then ends i b.sessions else b.sessions;
   members = slice_set b.members i (Some (member_of k));
 }
 
 -- one that is known
 abbrev pub returns : ℕ → ℕ → Connect → Option LastWill → Broker → Broker
 returns c i k will b =
-    comes_in c i (not k.clean_start) k will (begins i k (displaces i b))
+    comes_in c i (not (starts_anew i k b)) k will (begins i (starts_anew i k b) k (displaces i b))
 
 -- one that isn't
 unfoldable pub enters : ℕ → Connect → Option LastWill → Broker → Broker
@@ -181,7 +186,16 @@ takes c x b = takes_at (connection_at c b.connections) c x b
 
 -- ---- what is sent
 
--- the first of a client's queue is passed on (3.3.4)
+-- what a client's session sends of the first of its queue, if there is one (3.3.4)
+abbrev pub sent_of : Option ℕ → Broker → List Packet
+sent_of None b = []
+sent_of (Some i) b = passed i b.sessions
+
+abbrev pub has_any : List Packet → Bool
+has_any [] = false
+has_any (p ∷ ps) = true
+
+-- it is passed on
 abbrev pub passes_of : Option ℕ → ℕ → Broker → Broker
 passes_of None c b = b
 passes_of (Some i) c b =

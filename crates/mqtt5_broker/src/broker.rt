@@ -3,9 +3,9 @@
 ghost use Rattle.std.specs.Prelude.{◌≡◌, [], Some, not, nat_lt, ◌&&◌, ◌⊎◌, length, replicate, OnOk, OnErr, IfOk, IfErr};
 ghost use Rattle.std.specs.NonZero.{non_zero_u16_get};
 ghost use Rattle.mqtt5_broker.specs.Cut.{cut_up, Holds, Breaks};
-ghost use Rattle.mqtt5_broker.specs.Connection.{closed, sent_of, connection_at};
+ghost use Rattle.mqtt5_broker.specs.Connection.{closed, with_sent, connection_at};
 ghost use Rattle.mqtt5_broker.specs.Broker.{on_connection};
-ghost use Rattle.mqtt5_broker.specs.Serving.{passes_on};
+ghost use Rattle.mqtt5_broker.specs.Serving.{passes_on, sent_of, has_any};
 ghost use Rattle.mqtt5_broker.specs.Receiving.{comes_of, receives, opens, closes, ends_with, reason_for};
 
 use crate::connection::Connection;
@@ -146,7 +146,7 @@ impl Broker {
 
     /// So many of them were sent, or all, if there are fewer.
     pub fn sent(&mut self, connection: usize, count: usize)
-        ensures { self.new ≡ on_connection connection (sent_of count) self.old }
+        ensures { self.new ≡ on_connection connection (with_sent count) self.old }
     {
         if connection < self.connections.len() {
             self.connections[connection].sent(count);
@@ -170,11 +170,14 @@ impl Broker {
         Ok(())
     }
 
-    /// The first publish of the queue of a connection's client is passed on, if there is one and it may be sent: whether
-    /// something is written (3.3.4). S12: the connection is to be closed then.
-    #[tactic(auto, unfolding(crate::specs::Serving::passes_on))]
+    /// The first publish of the queue of a connection's client is passed on, if there is one and it may be sent: whether its
+    /// session sends a packet of it, which is written, unless it is longer than the client takes (3.3.4, 3.1.2.11.4). S12: the
+    /// connection is to be closed then.
+    #[tactic(auto, using(crate::proofs::Passed::some_of), unfolding(crate::specs::Serving::passes_on))]
     pub fn pass(&mut self, alloc: Global, connection: usize) -> Result<bool, StateError>
         ensures ok { OnOk result (self.new ≡ passes_on connection self.old) }
+        ensures passed { IfOk result (λ some. some
+            ≡ has_any (sent_of (connection_at connection self.old.connections).client self.old)) }
         ensures memory { IfErr result (λ e. e ≡ StateError.OutOfMemory) }
     {
         let Some(client) = client_at(self.connections.as_slice(), connection) else {

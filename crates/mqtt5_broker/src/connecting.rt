@@ -13,7 +13,9 @@ use crate::connections::{
     client_at, connection_of, is_open_at, refuse_at, shut_at, tell_at, welcome_at,
 };
 use crate::judging::connect_fault;
-use crate::member::{Member, free_number, longest_of, member_of, number_of, receive_max_of};
+use crate::member::{
+    Member, free_number, longest_of, member_of, number_of, receive_max_of, stays_at,
+};
 use crate::wills::will_of;
 use mqtt5_codec::Packet;
 use mqtt5_connect::{Connect, LastWill};
@@ -107,15 +109,21 @@ impl Broker {
         }
     }
 
-    /// A client's session ends, if it is to start anew, and it is known by what it says now. S12, which leaves all as it was.
+    /// A client's session ends, where it starts anew, and it is known by what it says now. S12, which leaves all as it was.
     #[tactic(auto, unfolding(crate::specs::Serving::begins))]
-    fn begin(&mut self, alloc: Global, client: usize, connect: &Connect) -> Result<(), StateError>
-        ensures ok { OnOk result (self.new ≡ begins client connect.now self.old) }
+    fn begin(
+        &mut self,
+        alloc: Global,
+        client: usize,
+        anew: bool,
+        connect: &Connect,
+    ) -> Result<(), StateError>
+        ensures ok { OnOk result (self.new ≡ begins client anew connect.now self.old) }
         ensures memory { IfErr result (λ e. e ≡ StateError.OutOfMemory) }
         ensures left { OnErr result (self.new ≡ self.old) }
     {
         let member = member_of(connect)?;
-        if connect.clean_start {
+        if anew {
             self.sessions.end(alloc, client)?;
         }
         if client < self.members.len() {
@@ -136,16 +144,10 @@ impl Broker {
         ensures ok { OnOk result (self.new ≡ returns connection client connect.now will.now self.old) }
         ensures memory { IfErr result (λ e. e ≡ StateError.OutOfMemory) }
     {
+        let anew = connect.clean_start || !stays_at(client, self.members.as_slice());
         self.displace(client)?;
-        self.begin(alloc, client, connect)?;
-        self.come_in(
-            alloc,
-            connection,
-            client,
-            !connect.clean_start,
-            connect,
-            will,
-        )?;
+        self.begin(alloc, client, anew, connect)?;
+        self.come_in(alloc, connection, client, !anew, connect, will)?;
         Ok(())
     }
 

@@ -2,7 +2,7 @@
 
 ghost use Rattle.std.specs.Prelude.{◌≡◌, ◌≢◌, ◌∷◌, ◌++◌, Some, OnOk, OnErr, IfOk};
 ghost use Rattle.std.specs.Option.{option_to_list};
-ghost use Rattle.mqtt5_broker.specs.Connection.{closed, opened, shut, written, written_all, told, emptied, holding, sent_of};
+ghost use Rattle.mqtt5_broker.specs.Connection.{closed, opened, shut, written, written_all, told, emptied, holding, with_sent};
 
 use bytes::BytesMut;
 use mqtt5_base::Error;
@@ -98,7 +98,7 @@ impl Connection {
 
     /// So many of them were sent, or all, if there are fewer.
     pub(super) fn sent(&mut self, count: usize)
-        ensures { self.new ≡ sent_of count self.old }
+        ensures { self.new ≡ with_sent count self.old }
     {
         if count < self.output.len() {
             self.output.advance(count);

@@ -2,7 +2,7 @@
 
 ghost use Rattle.std.specs.Prelude.{◌≡◌};
 ghost use Rattle.std.specs.List.{list_any};
-ghost use Rattle.mqtt5_broker.specs.Judging.{is_topic_text, is_topic, properties_fault, topic_fault, publish_fault, is_shared, is_malformed, identifier_fault, filters_fault, subscribe_fault, packet_fault, is_zero, settings_fault, is_delayed, will_fault, connect_fault};
+ghost use Rattle.mqtt5_broker.specs.Judging.{is_topic_text, is_topic, properties_fault, topic_fault, publish_fault, is_shared, is_malformed, identifier_fault, filters_fault, subscribe_fault, packet_fault, is_zero, is_short, settings_fault, is_delayed, will_fault, connect_fault};
 
 use mqtt5_base::{valid_filter, valid_topic};
 use mqtt5_codec::Packet;
@@ -164,6 +164,16 @@ fn is_zero_u32(number: Option<u32>) -> bool
     }
 }
 
+/// Whether packets of this length are too short for the answer to a Connect, which has nine bytes.
+fn is_short(length: Option<u32>) -> bool
+    ensures { result ≡ is_short length }
+{
+    match length {
+        Some(length) => length < 9,
+        None => false,
+    }
+}
+
 fn settings_fault(properties: &Option<ConnectProperties>) -> Option<ConnectReturnCode>
     ensures { result ≡ settings_fault properties.now }
 {
@@ -171,6 +181,9 @@ fn settings_fault(properties: &Option<ConnectProperties>) -> Option<ConnectRetur
         Some(set) => {
             if is_zero_u16(set.receive_maximum) || is_zero_u32(set.max_packet_size) {
                 return Some(ConnectReturnCode::ProtocolError);
+            }
+            if is_short(set.max_packet_size) {
+                return Some(ConnectReturnCode::PacketTooLarge);
             }
             if set.authentication_method.is_some() {
                 return Some(ConnectReturnCode::BadAuthenticationMethod);
@@ -211,7 +224,7 @@ fn will_fault(will: &Option<LastWill>) -> Option<ConnectReturnCode>
 }
 
 /// Why a Connect is refused, if it is: ClientIdentifierNotValid; ImplementationSpecificError of a will with a delay,
-/// TopicNameInvalid of one; ProtocolError, BadAuthenticationMethod.
+/// TopicNameInvalid of one; ProtocolError, PacketTooLarge, BadAuthenticationMethod.
 pub(super) fn connect_fault(connect: &Connect, will: &Option<LastWill>) -> Option<ConnectReturnCode>
     ensures { result ≡ connect_fault connect.now will.now }
 {

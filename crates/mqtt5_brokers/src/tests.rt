@@ -11,24 +11,27 @@ use std::num::NonZeroU16;
 use std::test::Fail;
 
 /// `open` begins a connection, `is` says whether it takes bytes, `in` brings bytes of it, and answers what it sends then; `out`
-/// answers that without any, `pass` passes the first of a queue on, and `close` ends the connection. The broker has four connections,
-/// and takes packets of 64 bytes and fewer.
+/// answers that without any, `pass` passes the first of a queue on, and `close` ends the connection. The broker has four
+/// connections, and takes packets of 64 bytes and fewer.
 ///
-/// Of the first client the name is a, of the second b. First a message of QoS 2 from one to the other, a ping, and a Disconnect. Then
-/// a Connect in three pieces, and two packets in one. Then a session that stays while its client is away, which is sent what it
-/// missed, once more with `dup`; one that is taken over; one that a clean start ends; and one that ends with its connection. Then a
-/// client that takes one publish at a time, and one that takes packets of nine bytes. A retained message. Wills: of a connection
-/// that is lost, dropped by a Disconnect, published by one of reason 4; at a fault of the bytes; and one with properties.
+/// Of the first client the name is a, of the second b. First a message of QoS 2 from one to the other, a ping, and a Disconnect.
+/// Then a Connect in three pieces, and two packets in one. Then a session that stays while its client is away, which is sent what
+/// it missed, once more with `dup`; one that is taken over, and one that isn't, since it ends with its connection; one that a clean
+/// start ends; and one that ends with its connection. Then a client that takes one publish at a time, and one that takes packets of
+/// nine bytes. A retained message. Wills: of a connection that is lost, dropped by a Disconnect, published by one of reason 4; at a
+/// fault of the bytes; and one with properties.
 ///
-/// Then what ends a connection: a client without a name, an authentication method, a receive maximum and a maximum packet size of 0, a
-/// will with a delay and one without a topic, and a first packet that is no Connect; of a client that is connected a second
-/// Connect, a topic alias, a subscription identifier, topics with a wildcard, without a byte and without text, a shared subscription,
-/// a subscription identifier, a filter that is none, an Auth, a packet that a server sends, one of type 0, and one that is too long.
+/// Then what ends a connection: a client without a name, an authentication method, a receive maximum and a maximum packet size of
+/// 0, one of eight, a will with a delay and one without a topic, and a first packet that is no Connect; of a client that is
+/// connected a second Connect, a topic alias, a subscription identifier, topics with a wildcard, without a byte and without text, a
+/// shared subscription, a subscription identifier, a filter that is none, an Auth, a packet that a server sends, one of type 0, and
+/// one that is too long.
 const ROWS: &str =
     "open:0=1; open:0=0; open:9=0; open:1=1; in:0:100E00044D5154540502000000000161=200700000429002A00; in:1:100E00044D5154540502000000000162=200700000429002A00; in:1:82090001000003612F6202=900400010002; in:0:34090003612F6200050078=50020005; out:1=-; pass:1=1; out:1=34090003612F6200010078; pass:1=0; in:1:50020001=62020001; in:1:70020001=-; in:0:62020005=70020005; in:0:C000=D000; in:0:E000=-; is:0=0; is:1=1; in:0:C000=-; close:0; open:0=1
 open:0=1; in:0:10=-; in:0:0E00044D5154540502=-; in:0:000000000161C000=200700000429002A00D000; in:0:C0=-; in:0:00C0=D000; in:0:00=D000
 open:0=1; open:1=1; in:0:101300044D515454050000000511FFFFFFFF000161=200700000429002A00; in:0:82090001000003612F6202=900400010002; close:0; in:1:100E00044D5154540502000000000162=200700000429002A00; in:1:32090003612F6200070078=40020007; open:0=1; in:0:101300044D515454050000000511FFFFFFFF000161=200701000429002A00; pass:0=1; out:0=32090003612F6200010078; close:0; open:2=1; in:2:101300044D515454050000000511FFFFFFFF000161=200701000429002A003A090003612F6200010078; in:2:40020001=-; pass:2=0
 open:0=1; open:1=1; in:0:101300044D515454050000000511FFFFFFFF000161=200700000429002A00; in:1:101300044D515454050000000511FFFFFFFF000161=200701000429002A00; out:0=E0028E00; is:0=0; is:1=1; close:0; in:1:C000=D000
+open:0=1; open:1=1; in:0:100E00044D5154540502000000000161=200700000429002A00; in:0:820700010000016100=900400010000; in:1:100E00044D5154540500000000000161=200700000429002A00; out:0=E0028E00; is:0=0; in:1:30050001610078=-; pass:1=0
 open:0=1; open:1=1; in:0:101300044D515454050000000511FFFFFFFF000161=200700000429002A00; in:0:82090001000003612F6200=900400010000; close:0; open:0=1; in:0:101300044D515454050200000511FFFFFFFF000161=200700000429002A00; in:1:100E00044D5154540502000000000162=200700000429002A00; in:1:30070003612F620078=-; pass:0=0
 open:0=1; in:0:100E00044D5154540502000000000161=200700000429002A00; in:0:82090001000003612F6200=900400010000; close:0; open:0=1; in:0:100E00044D5154540500000000000161=200700000429002A00; in:0:30070003612F620078=-; pass:0=0
 open:0=1; open:1=1; in:0:101100044D5154540502000003210001000161=200700000429002A00; in:0:82090001000003612F6201=900400010001; in:1:100E00044D5154540502000000000162=200700000429002A00; in:1:32090003612F6200070078=40020007; in:1:32090003612F6200080079=40020008; pass:0=1; out:0=32090003612F6200010078; pass:0=0; in:0:40020001=32090003612F6200010079
@@ -41,6 +44,7 @@ open:0=1; in:0:100D00044D51545405020000000000=2003008500; is:0=0
 open:0=1; in:0:101200044D51545405020000041500016D000161=2003008C00; is:0=0
 open:0=1; in:0:101100044D5154540502000003210000000161=2003008200; is:0=0
 open:0=1; in:0:101300044D51545405020000052700000000000161=2003008200; is:0=0
+open:0=1; in:0:101300044D51545405020000052700000008000161=2003009500; is:0=0
 open:0=1; in:0:101A00044D5154540506000000000161051800000001000177000167=2003008300; is:0=0
 open:0=1; in:0:101500044D515454050600000000016100000123000167=2003009000; is:0=0
 open:0=1; in:0:C000=-; is:0=0
