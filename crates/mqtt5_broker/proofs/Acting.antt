@@ -124,7 +124,7 @@ unfolding comes_in
 comes_made d i present q will b =
     let max : Option ℕ = Some (receive_max_of q.properties) in
     let e : Act = Session (Comes i max (option_map will_of will)) in
-    let ps : List Packet = connack present ∷ sent_again i max b.sessions in
+    let ps : List Packet = connack b.longest present q ∷ sent_again i max b.sessions in
     let came : Broker = act e b in
     let here : Broker = act (Welcome d i (longest_of q.properties)) came in
     made_as b _ _ (on_after d (taken_by i q) (written_all ps) came) (made_more b here _ (e ∷ Welcome d i (longest_of q.properties) ∷ [], refl) (all_made ps d here))

@@ -108,8 +108,8 @@ module _ (c n : ℕ) where
   comes_keeps : (d i : ℕ) (present : Bool) (q : Connect) (will : Option LastWill) (b : Broker) → Keeps c n b → Keeps c n (comes_in d i present q will b)
   unfolding comes_in
   comes_keeps d i present q will b k =
-      on_keeps d (λ (l : Connection). written_all (connack present ∷ sent_again i (Some (receive_max_of q.properties)) b.sessions) (taken_by i q l)) _
-      (λ l h. all_held (connack present ∷ sent_again i (Some (receive_max_of q.properties)) b.sessions) (taken_by i q l) ∙ h) (record { held = k.held; longest = k.longest })
+      on_keeps d (λ (l : Connection). written_all (connack b.longest present q ∷ sent_again i (Some (receive_max_of q.properties)) b.sessions) (taken_by i q l)) _
+      (λ l h. all_held (connack b.longest present q ∷ sent_again i (Some (receive_max_of q.properties)) b.sessions) (taken_by i q l) ∙ h) (record { held = k.held; longest = k.longest })
 
   displaced_keeps : (o : Option ℕ) (b : Broker) → Keeps c n b → Keeps c n (displaced o b)
   displaced_keeps None b k = k

@@ -100,10 +100,10 @@ abbrev pub is_zero_or_none : Option ℕ → Bool
 is_zero_or_none None = true
 is_zero_or_none (Some n) = n == 0
 
--- too short for the answer to a Connect, which has nine bytes
+-- too short for the answer to a Connect, which has up to nineteen bytes
 abbrev pub is_short : Option ℕ → Bool
 is_short None = false
-is_short (Some n) = nat_lt n 9
+is_short (Some n) = nat_lt n 19
 
 abbrev pub settings_fault : Option ConnectProperties → Option ConnectReturnCode
 settings_fault None = None

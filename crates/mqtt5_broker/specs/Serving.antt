@@ -87,19 +87,35 @@ longest_of (Some set) = set.max_packet_size
 abbrev pub member_of : Connect → Member
 member_of k = record { name = k.client_id; stays = not (expiry_of k.properties == 0) }
 
--- what a ConnAck offers: no subscription identifiers (3.2.2.3.12) and no shared subscriptions
--- (3.2.2.3.13)
-abbrev pub offers : ConnAckProperties
-offers = record no_connack_properties {
+-- The Session Expiry Interval that is used, where it is another than the client's: a session that
+-- doesn't end with its connection stays (3.2.2.3.2).
+abbrev pub kept_expiry : ℕ → Option ℕ
+kept_expiry seconds =
+    if seconds == 0 || seconds == 4294967295 then None else Some 4294967295
+
+-- the longest packet that is taken (3.2.2.3.6)
+abbrev pub some_length : ℕ → Option ℕ
+some_length n = if n == 0 then None else Some n
+
+-- what a ConnAck says: these, and that there are no subscription identifiers (3.2.2.3.12) and no
+-- shared subscriptions (3.2.2.3.13)
+abbrev pub offers : ℕ → Connect → ConnAckProperties
+offers longest k = record no_connack_properties {
+  session_expiry_interval = kept_expiry (expiry_of k.properties);
+  max_packet_size = some_length longest;
   subscription_identifiers_available = Some 0;
   shared_subscription_available = Some 0;
 }
 
 -- whether the broker has a session of the client (3.2.2.1.1)
-abbrev pub connack : Bool → Packet
-connack present =
+abbrev pub connack : ℕ → Bool → Connect → Packet
+connack longest present k =
     packets.ConnAck
-    (record { session_present = present; code = return_codes.Success; properties = Some offers })
+    (record {
+      session_present = present;
+      code = return_codes.Success;
+      properties = Some (offers longest k);
+    })
 
 -- why it isn't taken (3.2.2.2)
 abbrev pub refusal : ConnectReturnCode → Packet
@@ -115,7 +131,7 @@ unfoldable pub comes_in : ℕ → ℕ → Bool → Connect → Option LastWill �
 comes_in c i present k will b =
     on_connection c
     (λ (l : Connection).
-    written_all (connack present ∷ sent_again i (Some (receive_max_of k.properties)) b.sessions)
+    written_all (connack b.longest present k ∷ sent_again i (Some (receive_max_of k.properties)) b.sessions)
     (taken_by i k l))
     (record b { sessions = comes i (Some (receive_max_of k.properties)) (option_map will_of will) b.sessions })
 

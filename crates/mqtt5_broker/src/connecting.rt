@@ -6,7 +6,7 @@ ghost use Rattle.mqtt5_codec.specs.declared.packet.Packet.TheVariants as packets
 ghost use Rattle.mqtt5_broker.specs.declared.member.Member.{Member};
 ghost use Rattle.mqtt5_broker.specs.Connection.{Connection, shut, written};
 ghost use Rattle.mqtt5_broker.specs.Broker.{on_connection, numbers, number_in, free_number};
-ghost use Rattle.mqtt5_broker.specs.Serving.{offers, connack, refusal, comes_in, displaced, displaces, begins, returns, enters, admits_as, admits, connects, begins_with, takes, takes_of};
+ghost use Rattle.mqtt5_broker.specs.Serving.{kept_expiry, some_length, offers, connack, refusal, comes_in, displaced, displaces, begins, returns, enters, admits_as, admits, connects, begins_with, takes, takes_of};
 
 use crate::broker::Broker;
 use crate::connections::{
@@ -14,7 +14,7 @@ use crate::connections::{
 };
 use crate::judging::connect_fault;
 use crate::member::{
-    Member, free_number, longest_of, member_of, number_of, receive_max_of, stays_at,
+    Member, expiry_of, free_number, longest_of, member_of, number_of, receive_max_of, stays_at,
 };
 use crate::wills::will_of;
 use mqtt5_codec::Packet;
@@ -23,24 +23,46 @@ use mqtt5_control::{ConnAck, ConnAckProperties, ConnectReturnCode, DisconnectRea
 use mqtt5_session::StateError;
 use std::alloc::Global;
 
-/// What a ConnAck offers: neither subscription identifiers nor shared subscriptions (3.2.2.3.12 and 3.2.2.3.13).
-fn offers(alloc: Global) -> ConnAckProperties
-    ensures { result ≡ offers }
+/// The Session Expiry Interval that is used, where it is another than the client's: a session that doesn't end with its connection
+/// stays (3.2.2.3.2).
+fn kept_expiry(seconds: u32) -> Option<u32>
+    ensures { result ≡ kept_expiry seconds }
+{
+    if seconds == 0 || seconds == 4_294_967_295 {
+        None
+    } else {
+        Some(4_294_967_295)
+    }
+}
+
+/// The longest packet that is taken (3.2.2.3.6).
+fn some_length(longest: u32) -> Option<u32>
+    ensures { result ≡ some_length longest }
+{
+    if longest == 0 { None } else { Some(longest) }
+}
+
+/// What a ConnAck says: these, and that there are neither subscription identifiers nor shared subscriptions (3.2.2.3.12 and
+/// 3.2.2.3.13).
+fn offers(alloc: Global, longest: u32, connect: &Connect) -> ConnAckProperties
+    ensures { result ≡ offers longest connect.now }
 {
     let mut offers = ConnAckProperties::new(alloc);
+    offers.session_expiry_interval = kept_expiry(expiry_of(&connect.properties));
+    offers.max_packet_size = some_length(longest);
     offers.subscription_identifiers_available = Some(0);
     offers.shared_subscription_available = Some(0);
     offers
 }
 
 /// The answer to a client that is taken, and whether the broker has a session of it (3.2.2.1.1).
-fn connack(alloc: Global, present: bool) -> Packet
-    ensures { result ≡ connack present }
+fn connack(alloc: Global, longest: u32, present: bool, connect: &Connect) -> Packet
+    ensures { result ≡ connack longest present connect.now }
 {
     Packet::ConnAck(ConnAck {
         session_present: present,
         code: ConnectReturnCode::Success,
-        properties: Some(offers(alloc)),
+        properties: Some(offers(alloc, longest, connect)),
     })
 }
 
@@ -74,7 +96,7 @@ impl Broker {
         let max = receive_max_of(&connect.properties);
         let will = will_of(alloc, will)?;
         let packets = self.sessions.come(alloc, client, Some(max), will)?;
-        let welcome = connack(alloc, present);
+        let welcome = connack(alloc, self.longest, present, connect);
         let written = welcome_at(
             &mut self.connections,
             connection,

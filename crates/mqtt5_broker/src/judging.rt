@@ -164,12 +164,12 @@ fn is_zero_u32(number: Option<u32>) -> bool
     }
 }
 
-/// Whether packets of this length are too short for the answer to a Connect, which has nine bytes.
+/// Whether packets of this length are too short for the answer to a Connect, which has up to nineteen bytes.
 fn is_short(length: Option<u32>) -> bool
     ensures { result ≡ is_short length }
 {
     match length {
-        Some(length) => length < 9,
+        Some(length) => length < 19,
         None => false,
     }
 }

@@ -57,7 +57,7 @@ pub(super) fn stays_at(client: usize, members: &[Option<Member>]) -> bool
 }
 
 /// After how many seconds its session ends (3.1.2.11.2).
-fn expiry_of(properties: &Option<ConnectProperties>) -> u32
+pub(super) fn expiry_of(properties: &Option<ConnectProperties>) -> u32
     ensures { result ≡ expiry_of properties.now }
 {
     match properties {
