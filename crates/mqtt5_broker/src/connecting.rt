@@ -163,7 +163,8 @@ impl Broker {
         connect: &Connect,
         will: &Option<LastWill>,
     ) -> Result<(), StateError>
-        ensures ok { OnOk result (self.new ≡ returns connection client connect.now will.now self.old) }
+        ensures ok { OnOk result
+            (self.new ≡ returns connection client connect.now will.now self.old) }
         ensures memory { IfErr result (λ e. e ≡ StateError.OutOfMemory) }
     {
         let anew = connect.clean_start || !stays_at(client, self.members.as_slice());
@@ -175,7 +176,8 @@ impl Broker {
 
     /// One more client is known: its number. S12, which leaves all as it was.
     fn number(&mut self, alloc: Global, member: Member) -> Result<usize, StateError>
-        ensures ok { OnOk result (self.new ≡ numbers member (free_number self.old.members) self.old) }
+        ensures ok { OnOk result
+            (self.new ≡ numbers member (free_number self.old.members) self.old) }
         ensures number { IfOk result
             (λ i. i ≡ number_in (free_number self.old.members) self.old) }
         ensures memory { IfErr result (λ e. e ≡ StateError.OutOfMemory) }
