@@ -11,9 +11,9 @@ use Rattle.mqtt5_sessions.specs.Sessions.{Sessions, joins, loses, leaves, ends}
 use Rattle.mqtt5_broker.specs.declared.member.Member.{Member}
 use Rattle.mqtt5_broker.specs.Connection.{Connection, told, with_connection}
 
--- the sessions, numbered from 0; by the same numbers the client that has each, or none; the connections; the
--- greatest packet identifier that is used to a client (2.2.1); and the greatest remaining length of
--- what a client sends
+-- the sessions, numbered from 0; by the same numbers the client that has each, or none; the
+-- connections; the greatest packet identifier that is used to a client (2.2.1); and the greatest
+-- remaining length of what a client sends
 pub record Broker : Type 0 where
   pub sessions : Sessions
   pub members : List (Option Member)

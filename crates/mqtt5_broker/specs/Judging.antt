@@ -108,9 +108,11 @@ is_short (Some n) = nat_lt n 19
 abbrev pub settings_fault : Option ConnectProperties → Option ConnectReturnCode
 settings_fault None = None
 settings_fault (Some set) =
-    if is_zero set.receive_maximum || is_zero set.max_packet_size then Some return_codes.ProtocolError
+    if is_zero set.receive_maximum || is_zero set.max_packet_size
+    then Some return_codes.ProtocolError
     else if is_short set.max_packet_size then Some return_codes.PacketTooLarge
-    else if is_some set.authentication_method then Some return_codes.BadAuthenticationMethod else None
+    else if is_some set.authentication_method then Some return_codes.BadAuthenticationMethod
+    else None
 
 -- a will's topic is one (3.1.3.3), and this broker takes none with a delay (3.1.3.2.2)
 abbrev pub is_delayed : Option LastWillProperties → Bool

@@ -1,4 +1,5 @@
--- What a broker makes of the bytes of a connection, and of its end (MQTT 5.0 sections 4.2 and 4.13).
+-- What a broker makes of the bytes of a connection, and of its end (MQTT 5.0 sections 4.2 and
+-- 4.13).
 use Rattle.std.specs.Prelude.{ℕ, List, [], ◌∷◌, ◌++◌, Option, Some, None, if◌then◌else◌}
 use Rattle.mqtt5_base.specs.declared.error.Error.{Error}
 use Rattle.mqtt5_base.specs.declared.error.Error.TheVariants.{PayloadSizeLimitExceeded}
@@ -54,7 +55,8 @@ receives c bytes b = receives_at (connection_at c b.connections) c bytes b
 -- one begins, in place of what was there
 abbrev pub opens : ℕ → Broker → Broker
 opens c b =
-    if (connection_at c b.connections).is_open then b else on_connection c (λ (l : Connection). opened) b
+    if (connection_at c b.connections).is_open then b
+    else on_connection c (λ (l : Connection). opened) b
 
 -- its transport has ended: the client's connection is lost
 abbrev pub closes_of : Option ℕ → ℕ → Broker → Broker

@@ -131,9 +131,14 @@ unfoldable pub comes_in : ℕ → ℕ → Bool → Connect → Option LastWill �
 comes_in c i present k will b =
     on_connection c
     (λ (l : Connection).
-    written_all (connack b.longest present k ∷ sent_again i (Some (receive_max_of k.properties)) b.sessions)
+    written_all
+    (connack b.longest present k
+    ∷ sent_again i (Some (receive_max_of k.properties)) b.sessions)
     (taken_by i k l))
-    (record b { sessions = comes i (Some (receive_max_of k.properties)) (option_map will_of will) b.sessions })
+    (record b {
+      sessions =
+          comes i (Some (receive_max_of k.properties)) (option_map will_of will) b.sessions;
+    })
 
 -- the connection that it has is told that another takes its place (3.1.4)
 abbrev pub displaced : Option ℕ → Broker → Broker
