@@ -90,12 +90,12 @@ packet_fault other = Some reasons.ProtocolError
 
 -- ---- a Connect (3.1.2.11.3, 3.1.2.11.4, 3.1.3.1, 4.12)
 
--- a number that may be left out, and isn't 0
+-- whether a number that may be left out is 0
 abbrev pub is_zero : Option ℕ → Bool
 is_zero None = false
 is_zero (Some n) = n == 0
 
--- one that is 0 where it is left out
+-- the same of one that is 0 where it is left out
 abbrev pub is_zero_or_none : Option ℕ → Bool
 is_zero_or_none None = true
 is_zero_or_none (Some n) = n == 0

@@ -110,7 +110,8 @@ impl Broker {
         })
     }
 
-    /// A connection begins. Whether it does: not where one of that number is there, or there is no such number. Takes no memory.
+    /// A connection begins. Whether it does: not where one of that number is open, or there is no such number. What was still to be
+    /// sent on one that isn't open is dropped. Takes no memory.
     pub fn open(&mut self, alloc: Global, connection: usize) -> bool
         ensures opened { self.new ≡ opens connection self.old }
         ensures begins { result
