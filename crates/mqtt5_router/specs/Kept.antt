@@ -29,6 +29,10 @@ new_kept limit subscriptions = record {
   queue = [];
 }
 
+-- without the events at its sender, by which a session tells its user of what it sends and takes
+abbrev pub without_events : Kept → Kept
+without_events k = record k { sender = record k.sender { events = [] } }
+
 -- of a client of a network
 abbrev pub kept_of : Client → Kept
 kept_of c = record {

@@ -16,7 +16,8 @@ ghost use Rattle.mqtt5_network.specs.Subscriptions.{forwarded_to};
 ghost use Rattle.mqtt5_network.specs.Asking.{is_ack, subscribed_all, unsubscribed_all, answer_of};
 ghost use Rattle.mqtt5_network.specs.Retained.{copies_for};
 ghost use Rattle.mqtt5_network.specs.Client.{comes_to};
-ghost use Rattle.mqtt5_router.specs.Kept.{new_kept, kept_of, alone, after_packet, after_pass};
+ghost use Rattle.mqtt5_router.specs.Kept.{new_kept, without_events, kept_of, alone};
+ghost use Rattle.mqtt5_router.specs.Kept.{after_packet, after_pass};
 
 use crate::asking::{subscribe_all, unsubscribe_all};
 use crate::queue::forwarded;
@@ -416,6 +417,23 @@ impl Kept {
     {
         connect(&mut self.sender, alloc, receive_max)?;
         take_up(&mut self.sender, alloc)
+    }
+
+    /// Takes out the events at the sender, by which a session tells its user of what it sends and takes. They are more with each
+    /// packet, and what a broker answers doesn't depend on them. Takes no memory.
+    pub fn forget_events(&mut self)
+        ensures { self.new ≡ without_events self.old }
+    {
+        forget(&mut self.sender);
+    }
+}
+
+/// Takes out all events of a session.
+fn forget(sender: &mut MqttState)
+    ensures { sender.new ≡ record sender.old { events = [] } }
+{
+    while !sender.events().is_empty() {
+        drop(sender.pop_event());
     }
 }
 

@@ -17,7 +17,7 @@ use Rattle.mqtt5_network.specs.Subscriptions.{forwarded_to}
 use Rattle.mqtt5_network.specs.Retained.{retained_after, copies_for}
 use Rattle.mqtt5_network.specs.declared.event.Will.{Will}
 use Rattle.mqtt5_network.specs.Place.{message_of, lost_message, due_message, replaced_message}
-use Rattle.mqtt5_router.specs.Kept.{Kept, kept_of, alone, after_packet}
+use Rattle.mqtt5_router.specs.Kept.{Kept, without_events, kept_of, alone, after_packet}
 use Rattle.mqtt5_sessions.specs.declared.coming.Coming.{Coming}
 use Rattle.mqtt5_sessions.specs.Sessions.{ClientState, Sessions, gets, queues, queues_all, with_client, of_client, to_client, changes, arrives}
 use Rattle.mqtt5_sessions.specs.Coming.{delivered, coming_to, coming_from, coming_of, coming_of_will, is_publish, coming_for, chosen}
@@ -272,7 +272,7 @@ will_made i cs c es m below is made given p e =
 -- ---- packets
 
 abbrev heard : Packet → ClientState → ClientState
-heard x c = record c { kept = kept_of (after_packet c.kept x) }
+heard x c = record c { kept = without_events (kept_of (after_packet c.kept x)) }
 
 publish_is : (q : QoS) (k : Kept) (p x : Publish) → x ∷ [] ≡ (serve_publish q (alone k).receiver p).1.handed → x ≡ p
 publish_is AtMostOnce k p x e = ap (λ ps. slice_index_or ps 0 p) e

@@ -18,8 +18,9 @@ use Rattle.mqtt5_network.specs.Retained.{retains, retained_after, retained_of, c
 use Rattle.mqtt5_network.specs.Client.{Client, comes_to, goes_up, taken_for, passes_on}
 use Rattle.mqtt5_network.specs.Place.{Place, passes as passes_at, lost_message, waiting, replaced_message, due_message, not_due, left_will, message_of, happens_at, becomes, becomes_with, queues_at, gets_at}
 use Rattle.mqtt5_network.specs.Network.{Network, changed, new_of, newly, routes, happens_in}
-use Rattle.mqtt5_router.specs.Kept.{Kept, new_kept, kept_of, after_packet}
+use Rattle.mqtt5_router.specs.Kept.{Kept, new_kept, without_events, kept_of, after_packet}
 use Rattle.mqtt5_router.proofs.Alone.{packet_kept, packet_handed, pass_kept}
+use Rattle.mqtt5_sessions.proofs.Quiet.{heard_kept, heard_handed, passed_kept, taken_kept}
 use Rattle.mqtt5_sessions.specs.Sessions.{ClientState, state_of, sessions_of, gets, queues, queues_all, with_client, of_client, changes, arrives, passes_here, passes, loses, is_due, leaves, taken_up, comes, ends}
 
 -- ---- the clients
@@ -78,21 +79,22 @@ none c = λ j. record c { kept = record c.kept { queue = append-nil c.kept.queue
 
 -- ---- a packet arrives
 
-arrived_new : (p : Place) (x : Packet) (way : List Packet) → new_of p (record p { client = comes_to (is_sending x) (is_ack x) (record p.client { up = way }) x }) ≡ (after_packet (kept_of p.client) x).receiver.handed
+arrived_new : (p : Place) (x : Packet) (way : List Packet) → new_of p (record p { client = comes_to (is_sending x) (is_ack x) (record p.client { up = way }) x }) ≡ (after_packet (without_events (kept_of p.client)) x).receiver.handed
 arrived_new p x way =
     let c : Client = record p.client { up = way } in
     (λ j. grown p.client.receiver.handed (after_packet (kept_of c) x).receiver.handed (comes_to (is_sending x) (is_ack x) c x).receiver.handed (packet_handed c x) j ++ drop-length p.willed j)
     ∙ append-nil (after_packet (kept_of p.client) x).receiver.handed
+    ∙ sym (heard_handed (kept_of p.client) x)
 
 arrived_state : (handed : List Publish) (p : Place) (x : Packet) (way : List Packet)
     → state_of (gets_at (copies_for (retained_of handed) p.client.subscriptions x) (record p { client = comes_to (is_sending x) (is_ack x) (record p.client { up = way }) x }))
-    ≡ gets (copies_for (retained_of handed) p.client.subscriptions x) (record (state_of p) { kept = kept_of (after_packet (kept_of p.client) x) })
+    ≡ gets (copies_for (retained_of handed) p.client.subscriptions x) (record (state_of p) { kept = without_events (kept_of (after_packet (without_events (kept_of p.client)) x)) })
 arrived_state handed p x way =
     ap (λ (k : Kept). record { kept = record k { queue = k.queue ++ copies_for (retained_of handed) p.client.subscriptions x }; here = p.here; will = p.will })
-    (packet_kept (record p.client { up = way }) x)
+    (ap without_events (packet_kept (record p.client { up = way }) x) ∙ sym (heard_kept (kept_of p.client) x))
 
 arriving : (n : Network) (x : Packet) (way : List Packet) (p : Place) → p.client.up ≡ x ∷ way → Makes n events.Up
-    (λ (c : ClientState). gets (copies_for (retained_of n.handed) c.kept.subscriptions x) (record c { kept = kept_of (after_packet c.kept x) }))
+    (λ (c : ClientState). gets (copies_for (retained_of n.handed) c.kept.subscriptions x) (record c { kept = without_events (kept_of (after_packet c.kept x)) }))
     (λ (c : ClientState). (after_packet c.kept x).receiver.handed) p
 arriving n x way p e = record {
   state =
@@ -105,7 +107,7 @@ pub follows_up : (n : Network) (i : ℕ) (p : Place) (x : Packet) (way : List Pa
     → sessions_of (happens_in n (record { client = i; what = events.Up })) ≡ arrives i x (sessions_of n)
 follows_up n i p x way at e =
     follows n i events.Up
-    (λ (c : ClientState). gets (copies_for (retained_of n.handed) c.kept.subscriptions x) (record c { kept = kept_of (after_packet c.kept x) }))
+    (λ (c : ClientState). gets (copies_for (retained_of n.handed) c.kept.subscriptions x) (record c { kept = without_events (kept_of (after_packet c.kept x)) }))
     (λ (c : ClientState). (after_packet c.kept x).receiver.handed)
     (λ q h. let s : p ≡ q = ap (λ (o : Option Place). unwrap_or o p) (sym at ∙ h) in arriving n x way q (subst (λ (q : Place). q.client.up ≡ x ∷ way) s e))
 
@@ -123,8 +125,8 @@ here_receiver : (b : Bool) (c : Client) → (passes_at b c).receiver ≡ c.recei
 here_receiver true c = passes_receiver c c.queue
 here_receiver false c = refl
 
-here_kept : (b : Bool) (c : Client) → kept_of (passes_at b c) ≡ passes_here b (kept_of c)
-here_kept true c = pass_kept c
+here_kept : (b : Bool) (c : Client) → without_events (kept_of (passes_at b c)) ≡ passes_here b (without_events (kept_of c))
+here_kept true c = ap without_events (pass_kept c) ∙ sym (passed_kept (kept_of c))
 here_kept false c = refl
 
 nothing_new : (p q : Place) → q.client.receiver.handed ≡ p.client.receiver.handed → q.willed ≡ p.willed → new_of p q ≡ []
@@ -163,7 +165,7 @@ follows_left n i =
 pub follows_back : (n : Network) (i : ℕ) (a b : Option ℕ) (will : Option Will) → sessions_of (happens_in n (record { client = i; what = events.Back a b will })) ≡ comes i b will (sessions_of n)
 follows_back n i a b will =
     follows n i (events.Back a b will) (λ (c : ClientState). record { kept = taken_up b c.kept; here = true; will = will }) (λ (c : ClientState). replaced_message c.here c.will)
-    (λ p h. record { state = none (state_of (happens_at p (events.Back a b will))); new = willed_new p (happens_at p (events.Back a b will)) (replaced_message p.here p.will) refl refl })
+    (λ p h. record { state = none (state_of (happens_at p (events.Back a b will))) ∙ ap (λ (k : Kept). record { kept = k; here = true; will = will }) (sym (taken_kept b (kept_of p.client))); new = willed_new p (happens_at p (events.Back a b will)) (replaced_message p.here p.will) refl refl })
 
 pub follows_ends : (n : Network) (i : ℕ) → sessions_of (happens_in n (record { client = i; what = events.Ends })) ≡ ends i (sessions_of n)
 follows_ends n i =

@@ -1,2 +1,3 @@
 pub mod Delivered
+pub mod Quiet
 pub mod Following

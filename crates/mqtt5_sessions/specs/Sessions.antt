@@ -14,9 +14,11 @@ use Rattle.mqtt5_network.specs.Retained.{retained_after, retained_of, copies_for
 use Rattle.mqtt5_network.specs.Place.{Place, lost_message, waiting, replaced_message, due_message}
 use Rattle.mqtt5_network.specs.Place.{not_due, left_will, message_of}
 use Rattle.mqtt5_network.specs.Network.{Network}
-use Rattle.mqtt5_router.specs.Kept.{Kept, new_kept, kept_of, after_packet, after_pass}
+use Rattle.mqtt5_router.specs.Kept.{Kept, new_kept, without_events, kept_of}
+use Rattle.mqtt5_router.specs.Kept.{after_packet, after_pass}
 
--- of one client: what is kept for it, whether it is connected, and its will, or the one that waits
+-- of one client: what is kept for it, with no events at its sender, since a broker takes them out
+-- after each step; whether it is connected; and its will, or the one that waits
 pub record ClientState : Type 0 where
   pub kept : Kept
   pub here : Bool
@@ -33,7 +35,7 @@ new_state limit = record { kept = new_kept limit []; here = false; will = None }
 
 -- of a network
 abbrev pub state_of : Place → ClientState
-state_of p = record { kept = kept_of p.client; here = p.here; will = p.will }
+state_of p = record { kept = without_events (kept_of p.client); here = p.here; will = p.will }
 
 abbrev pub sessions_of : Network → Sessions
 sessions_of n = record { clients = map state_of n.places; retained = retained_of n.handed }
@@ -93,7 +95,7 @@ abbrev pub arrives : ℕ → Packet → Sessions → Sessions
 arrives i x s =
     changes i
     (λ (c : ClientState). gets (copies_for s.retained c.kept.subscriptions x)
-    (record c { kept = kept_of (after_packet c.kept x) }))
+    (record c { kept = without_events (kept_of (after_packet c.kept x)) }))
     (λ (c : ClientState). (after_packet c.kept x).receiver.handed) s
 
 -- what is sent back
@@ -102,7 +104,7 @@ replies i x s = to_client i (λ (c : ClientState). (after_packet c.kept x).down)
 
 -- the first of its queue is passed on, if it is connected
 abbrev pub passes_here : Bool → Kept → Kept
-passes_here true k = kept_of (after_pass k)
+passes_here true k = without_events (kept_of (after_pass k))
 passes_here false k = k
 
 -- what is sent to it then
@@ -135,7 +137,9 @@ leaves i s =
 
 -- it comes on a new connection, where it says a receive maximum and a will, if it does (4.4)
 abbrev pub taken_up : Option ℕ → Kept → Kept
-taken_up m k = record k { sender = kept_by (connected m k.sender) (resume_of (connected m k.sender) 0) }
+taken_up m k = without_events (record k {
+  sender = kept_by (connected m k.sender) (resume_of (connected m k.sender) 0);
+})
 
 abbrev pub comes : ℕ → Option ℕ → Option Will → Sessions → Sessions
 comes i m will s =

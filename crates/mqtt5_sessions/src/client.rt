@@ -9,9 +9,11 @@ ghost use Rattle.mqtt5_network.specs.Subscriptions.{forwarded_to};
 ghost use Rattle.mqtt5_network.specs.Retained.{copies_for};
 ghost use Rattle.mqtt5_network.specs.Place.{lost_message, waiting, replaced_message, due_message};
 ghost use Rattle.mqtt5_network.specs.Place.{not_due, left_will, message_of};
-ghost use Rattle.mqtt5_router.specs.Kept.{new_kept, kept_of, after_packet};
+ghost use Rattle.mqtt5_router.specs.Kept.{new_kept, without_events, kept_of, after_packet};
 ghost use Rattle.mqtt5_sessions.specs.Sessions.{new_state, gets, passes_here, sent_here, taken_up};
+ghost use Rattle.mqtt5_sessions.specs.Counts.{counts_of};
 
+use crate::counts::{Counts, sizes};
 use mqtt5_codec::Packet;
 use mqtt5_network::Will;
 use mqtt5_publish::Publish;
@@ -71,10 +73,22 @@ impl ClientState {
         self.kept.renewed(alloc)
     }
 
+    /// How much is kept for it. Takes no memory.
+    pub(super) fn counts(&self) -> Counts
+        ensures { result ≡ counts_of self.now.kept }
+    {
+        Counts {
+            subscriptions: self.kept.subscriptions().len(),
+            queued: self.kept.queue().len(),
+            bytes: sizes(self.kept.queue()),
+        }
+    }
+
     /// A packet comes from it: what is sent back, and what is handed on.
     pub(super) fn arrive(&mut self, alloc: Global, packet: Packet) -> Result<Arrived, StateError>
-        ensures kept { OnOk result (self.new
-            ≡ record self.old { kept = kept_of (after_packet self.old.kept packet) }) }
+        ensures kept { OnOk result (self.new ≡ record self.old {
+          kept = without_events (kept_of (after_packet self.old.kept packet));
+        }) }
         ensures reply { IfOk result
             (λ a. option_to_list a.reply ≡ (after_packet self.old.kept packet).down) }
         ensures handed { IfOk result (λ a. option_to_list a.handed
@@ -82,7 +96,9 @@ impl ClientState {
         ensures memory { IfErr result (λ e. e ≡ StateError.OutOfMemory) }
         ensures left { OnErr result (self.new ≡ self.old) }
     {
-        self.kept.arrive(alloc, packet)
+        let arrived = self.kept.arrive(alloc, packet)?;
+        self.kept.forget_events();
+        Ok(arrived)
     }
 
     /// What is forwarded of a publish, `own` where it is the client's, or None (3.3.4).
@@ -135,6 +151,7 @@ impl ClientState {
             return Ok(None);
         }
         let passed = self.kept.pass()?;
+        self.kept.forget_events();
         Ok(passed.sent)
     }
 
@@ -212,6 +229,7 @@ impl ClientState {
         ensures memory { IfErr result (λ e. e ≡ StateError.OutOfMemory) }
     {
         let way = self.kept.take_up(alloc, receive_max)?;
+        self.kept.forget_events();
         let published = if self.here { self.lose() } else { None };
         self.here = true;
         self.will = will;

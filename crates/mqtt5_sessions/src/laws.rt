@@ -1,12 +1,16 @@
-//! What a broker keeps follows each event of a network.
+//! What a broker keeps follows each event of a network; and it can do without the events at its senders.
 
 ghost use Rattle.std.specs.Prelude.{◌≡◌, ◌∷◌, ◌++◌, ℕ, List, Option, Some, slice_get};
 ghost use Rattle.mqtt5_codec.specs.declared.packet.Packet.{Packet};
+ghost use Rattle.mqtt5_session.specs.Resuming.{resume_of};
 ghost use Rattle.mqtt5_network.specs.declared.event.ClientEvent.TheVariants as events;
 ghost use Rattle.mqtt5_network.specs.declared.event.Will.{Will};
+ghost use Rattle.mqtt5_network.specs.Connection.{connected, sent_in};
 ghost use Rattle.mqtt5_network.specs.Place.{Place};
 ghost use Rattle.mqtt5_network.specs.Network.{Network, happens_in};
-ghost use Rattle.mqtt5_sessions.specs.Sessions.{sessions_of, arrives, passes, loses, is_due, leaves, comes, ends};
+ghost use Rattle.mqtt5_router.specs.Kept.{Kept, without_events, kept_of, after_packet, after_pass};
+ghost use Rattle.mqtt5_sessions.specs.Sessions.{sessions_of, arrives, passes, loses, is_due};
+ghost use Rattle.mqtt5_sessions.specs.Sessions.{leaves, taken_up, comes, ends};
 
 /// A law, which does nothing when it is called: what a broker keeps of a network, after each event of the client at a place, is
 /// what its own definitions make of it (MQTT 5.0 sections 3.1.2.4, 3.1.2.5, 3.1.3.2.2, 3.3.4, 3.8, 4.1, 4.3 and 4.4).
@@ -40,4 +44,33 @@ pub fn sessions_law()
     ensures ended { (n : Network) (i : ℕ)
         → sessions_of (happens_in n (record { client = i; what = events.Ends }))
         ≡ ends i (sessions_of n) }
+{}
+
+/// A law, which does nothing when it is called: what a broker answers doesn't depend on the events at its senders, and what it
+/// keeps then is the same but for these. So one that takes them out after each step answers as one that never does (MQTT 5.0
+/// sections 3.8, 3.10, 4.3 and 4.4).
+pub fn quiet_law()
+    // A packet of a client comes: the reply.
+    ensures reply { (k : Kept) (x : Packet)
+        → (after_packet (without_events k) x).down ≡ (after_packet k x).down }
+    // What is handed on.
+    ensures handed { (k : Kept) (x : Packet)
+        → (after_packet (without_events k) x).receiver.handed
+        ≡ (after_packet k x).receiver.handed }
+    // And what is kept.
+    ensures packet { (k : Kept) (x : Packet)
+        → without_events (kept_of (after_packet (without_events k) x))
+        ≡ without_events (kept_of (after_packet k x)) }
+    // The first of its queue is passed on: what is sent.
+    ensures sent { (k : Kept) → (after_pass (without_events k)).down ≡ (after_pass k).down }
+    // And what is kept.
+    ensures pass { (k : Kept)
+        → without_events (kept_of (after_pass (without_events k)))
+        ≡ without_events (kept_of (after_pass k)) }
+    // It comes on a new connection: what is sent again.
+    ensures again { (m : Option ℕ) (k : Kept)
+        → sent_in (resume_of (connected m (without_events k).sender) 0)
+        ≡ sent_in (resume_of (connected m k.sender) 0) }
+    // And what is kept.
+    ensures back { (m : Option ℕ) (k : Kept) → taken_up m (without_events k) ≡ taken_up m k }
 {}

@@ -4,10 +4,12 @@
 
 mod client;
 mod coming;
+mod counts;
 mod laws;
 mod sessions;
 #[cfg(test)]
 mod tests;
 
-pub use laws::sessions_law;
+pub use counts::Counts;
+pub use laws::{quiet_law, sessions_law};
 pub use sessions::Sessions;

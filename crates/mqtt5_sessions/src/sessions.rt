@@ -5,9 +5,11 @@ ghost use Rattle.std.specs.Option.{option_to_list};
 ghost use Rattle.std.specs.NonZero.{non_zero_u16_get};
 ghost use Rattle.mqtt5_sessions.specs.Sessions.{joins, arrives, replies, passes, passed, loses};
 ghost use Rattle.mqtt5_sessions.specs.Sessions.{is_due, leaves, comes, sent_again, ends};
+ghost use Rattle.mqtt5_sessions.specs.Counts.{counts};
 
 use crate::client::ClientState;
 use crate::coming::{Coming, deliver_all, hand_on, is_publish, of_packet, of_will};
+use crate::counts::Counts;
 use mqtt5_codec::Packet;
 use mqtt5_network::Will;
 use mqtt5_publish::Publish;
@@ -58,6 +60,31 @@ impl Sessions {
             retained: Vec::new(alloc),
             coming: VecDeque::new(alloc),
         }
+    }
+
+    /// The messages that are retained.
+    pub fn retained(&self) -> &[Publish]
+        ensures { result.now ≡ self.now.retained }
+    {
+        self.retained.as_slice()
+    }
+
+    /// How much is kept for a client: nothing for one that isn't there. S12.
+    pub fn count(&mut self, alloc: Global, client: usize) -> Result<Counts, StateError>
+        ensures counted { IfOk result (λ n. n ≡ counts client self.old) }
+        ensures memory { IfErr result (λ e. e ≡ StateError.OutOfMemory) }
+        // In each case nothing changes.
+        ensures same { self.new ≡ self.old }
+    {
+        deliver_all(alloc, &mut self.coming, &mut self.clients)?;
+        if client >= self.clients.len() {
+            return Ok(Counts {
+                subscriptions: 0,
+                queued: 0,
+                bytes: 0,
+            });
+        }
+        Ok(self.clients[client].counts())
     }
 
     /// One more client comes to be known, which isn't connected: its number. `limit` is the greatest packet identifier that the

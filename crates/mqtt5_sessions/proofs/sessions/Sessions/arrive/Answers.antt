@@ -2,7 +2,7 @@ use Rattle.std.proofs.Common.{List, sym, ap, ◌∙◌, arith}
 use Rattle.std.specs.Option.{option_to_list}
 use Rattle.mqtt5_publish.specs.declared.publish.Publish.{Publish}
 use Rattle.mqtt5_network.specs.Retained.{retained_after, copies_for}
-use Rattle.mqtt5_router.specs.Kept.{kept_of, after_packet}
+use Rattle.mqtt5_router.specs.Kept.{without_events, kept_of, after_packet}
 use Rattle.mqtt5_sessions.specs.Sessions.{ClientState, gets, arrives, replies}
 use Rattle.mqtt5_sessions.specs.Coming.{coming_for}
 use Rattle.mqtt5_sessions.proofs.Delivered.{settled, seen_past, seen_publish, seen_other, sent_to, sent_past}
@@ -16,7 +16,7 @@ returns-then-client-len-clause-ok c =
     let none = c.in_ok-deliver_all.ensures.none in
     let seen = settled c.self.inside.coming.items c.deliver_all.new.coming.items c.self.inside.clients.items cs kept c.args.self.now none c.in_ok-deliver_all.ensures.same c.self.view_is in
     let y = c.args.packet in
-    seen_past i (λ (x : ClientState). gets (copies_for kept x.kept.subscriptions y) (record x { kept = kept_of (after_packet x.kept y) })) (λ (x : ClientState). (after_packet x.kept y).receiver.handed) cs kept c.deliver_all.new.coming.items none (omega (arith, c.if-client-len.true, c.len.ensures)) ∙ ap (λ s. arrives i y s) seen
+    seen_past i (λ (x : ClientState). gets (copies_for kept x.kept.subscriptions y) (record x { kept = without_events (kept_of (after_packet x.kept y)) })) (λ (x : ClientState). (after_packet x.kept y).receiver.handed) cs kept c.deliver_all.new.coming.items none (omega (arith, c.if-client-len.true, c.len.ensures)) ∙ ap (λ s. arrives i y s) seen
 
 pub returns-then-client-len-clause-reply : goal.returns-then-client-len-clause-reply
 returns-then-client-len-clause-reply c =
