@@ -1,27 +1,31 @@
 -- What a broker makes of bytes is a list of acts.
-use Rattle.std.proofs.Common.{◌≡◌, ℕ, zero, suc, Bool, true, false, List, [], ◌∷◌, ◌++◌, Option, Some, None, refl, sym, ap, ◌∙◌, get_or, set, slice_set, if◌then◌else◌, not}
+use Rattle.std.proofs.Common.{◌≡◌, ℕ, zero, suc, Bool, true, false, List, [], ◌∷◌, ◌++◌, Option, Some, None, refl, sym, ap, ◌∙◌, get_or, set, slice_set, if◌then◌else◌, not, length, ◌==◌, max}
 use Rattle.std.specs.Prelude.{option_map}
 use Rattle.std.proofs.lemmas.List.{set-get_or}
-use Rattle.mqtt5_base.specs.declared.error.Error.{Error}
 use Rattle.mqtt5_codec.specs.declared.packet.Packet.{Packet}
 use Rattle.mqtt5_codec.specs.declared.packet.Packet.TheVariants as packets
 use Rattle.mqtt5_connect.specs.declared.connect.Connect.{Connect}
 use Rattle.mqtt5_connect.specs.declared.will.LastWill.{LastWill}
 use Rattle.mqtt5_control.specs.declared.connack.ConnectReturnCode.{ConnectReturnCode}
+use Rattle.mqtt5_control.specs.declared.connack.ConnectReturnCode.TheVariants as return_codes
 use Rattle.mqtt5_control.specs.declared.disconnect.DisconnectReasonCode.{DisconnectReasonCode}
 use Rattle.mqtt5_control.specs.declared.disconnect.DisconnectReasonCode.TheVariants as reasons
-use Rattle.mqtt5_sessions.specs.Sessions.{Sessions, replies, passed, sent_again, ends}
+use Rattle.mqtt5_sessions.specs.Sessions.{Sessions, replies, passed, ends}
 use Rattle.mqtt5_broker.specs.declared.member.Member.{Member}
 use Rattle.mqtt5_broker.specs.declared.serving.Kind.{Kind}
 use Rattle.mqtt5_broker.specs.declared.serving.Kind.TheVariants as kinds
+use Rattle.mqtt5_broker.specs.Moments.{has_come}
 use Rattle.mqtt5_broker.specs.Cut.{Cut, Ending, Holds, Breaks, cut_up}
-use Rattle.mqtt5_broker.specs.Connection.{Connection, closed, shut, disconnect, written, written_all, emptied, connection_at, connection_of}
-use Rattle.mqtt5_broker.specs.Broker.{Broker, on_connection, forgets, loses_client, leaves_client, stays_at, refuses, numbers, number_in, free_number, number_of}
+use Rattle.mqtt5_broker.specs.Connection.{Connection, closed, shut, disconnect, taken_by, written, written_all, emptied, connection_at, connection_of}
+use Rattle.mqtt5_broker.specs.Broker.{Broker, at_moment, on_connection, on_member, away, gone, expiring, undue, member_at, has_ended, will_is_due, forgets, loses_client, leaves_client, publishes_will, stays_at, refuses, dismisses, dismisses_of, numbers, number_in, free_number, number_of, assigned_name, number_after}
 use Rattle.mqtt5_broker.specs.Wills.{will_of}
-use Rattle.mqtt5_broker.specs.Judging.{packet_fault, connect_fault}
-use Rattle.mqtt5_broker.specs.Serving.{kind_of, arrives_from, goes, disconnects, serves_as, serves_by, serves, connack, refusal, receive_max_of, longest_of, member_of, taken_by, comes_in, displaced, displaces, starts_anew, begins, enters, admits_as, admits, connects_by, connects, begins_with, takes_of, takes, passes_of, passes_on}
-use Rattle.mqtt5_broker.specs.Receiving.{takes_all, reason_for, breaks_of, ends_with, comes_of, receives}
-use Rattle.mqtt5_broker.specs.Acts.{SessionEvent, Joins, Arrives, Passes, Loses, Leaves, Comes, Ends, after_event, after_events, Act, Session, Know, Write, Shut, Welcome, Hold, Empty, act, acts}
+use Rattle.mqtt5_broker.specs.Judging.{connect_fault}
+use Rattle.mqtt5_sessions.specs.Counts.{counts}
+use Rattle.mqtt5_broker.specs.Serving.{kind_of, arrives_from, goes, disconnects, serves_as, serves_by, fault_of, serves, refusal, receive_max_of, longest_of, silence_of, member_of, welcome, comes_in, displaced, displaces, starts_anew, begins, enters, turns_away, enters_if_room, assigns_by, assigns, admits_as, admits, connects_by, connects, begins_with, takes_of, takes, passes_of, passes_on}
+use Rattle.mqtt5_broker.specs.Receiving.{takes_all, reason_for, ends_with, comes_of, receives_now, receives}
+use Rattle.mqtt5_broker.specs.Bounds.{has_room, exceeds, ends_of, trims, trims_all}
+use Rattle.mqtt5_broker.specs.Clock.{for_each, silences, silences_all, expires, ticks, ends_now, shuts_down}
+use Rattle.mqtt5_broker.specs.Acts.{SessionEvent, Joins, Arrives, Passes, Loses, IsDue, Leaves, Comes, Ends, after_event, after_events, Act, Session, Know, Name, Moment, Hear, Write, Shut, Welcome, Hold, Empty, act, acts}
 
 -- ---- lists of acts
 
@@ -78,17 +82,29 @@ forgets_made i b = (Session (Ends i) ∷ Know (slice_set b.members i None) ∷ [
 
 loses_made : (i : ℕ) (b : Broker) → Made b (loses_client i b)
 unfolding loses_client
-loses_made i b = made_if (stays_at i b.members) b _ _ (made_one (Session (Loses i)) b) (forgets_made i b)
+loses_made i b = made_if (stays_at i b.members) b _ _ (Session (Loses i) ∷ Know (on_member i (away b.moment) b.members) ∷ [], refl) (forgets_made i b)
 
 leaves_made : (i : ℕ) (b : Broker) → Made b (leaves_client i b)
 unfolding leaves_client
 leaves_made i b =
     let left : Broker = act (Session (Leaves i)) b in
-    made_more b left _ (made_one (Session (Leaves i)) b) (made_if (stays_at i b.members) left _ _ (made_none left) (forgets_made i left))
+    made_more b left _ (made_one (Session (Leaves i)) b) (made_if (stays_at i b.members) left _ _ (made_one (Know (on_member i (gone b.moment) b.members)) left) (forgets_made i left))
 
 refuses_made : (d i : ℕ) (reason : DisconnectReasonCode) (b : Broker) → Made b (refuses d i reason b)
 unfolding refuses
 refuses_made d i reason b = made_more b (loses_client i b) _ (loses_made i b) (shut_made (disconnect reason) d (loses_client i b))
+
+publishes_made : (i : ℕ) (b : Broker) → Made b (publishes_will i b)
+unfolding publishes_will
+publishes_made i b = (Session (IsDue i) ∷ Know (on_member i undue b.members) ∷ [], refl)
+
+dismisses_of_made : (o : Option ℕ) (d : ℕ) (reason : DisconnectReasonCode) (b : Broker) → Made b (dismisses_of o d reason b)
+dismisses_of_made None d reason b = made_one (Shut d) b
+dismisses_of_made (Some i) d reason b = refuses_made d i reason b
+
+dismisses_made : (d : ℕ) (reason : DisconnectReasonCode) (b : Broker) → Made b (dismisses d reason b)
+unfolding dismisses
+dismisses_made d reason b = made_if (connection_at d b.connections).is_open b _ _ (dismisses_of_made (connection_at d b.connections).client d reason b) (made_none b)
 
 -- ---- a client that is connected
 
@@ -100,13 +116,15 @@ goes_made : (reason : DisconnectReasonCode) (i : ℕ) (b : Broker) → Made b (g
 goes_made reasons.NormalDisconnection i b = leaves_made i b
 goes_made other i b = loses_made i b
 
-disconnects_made : (d i : ℕ) (reason : DisconnectReasonCode) (b : Broker) → Made b (disconnects d i reason b)
+disconnects_made : (d i : ℕ) (reason : DisconnectReasonCode) (expiry : Option ℕ) (b : Broker) → Made b (disconnects d i reason expiry b)
 unfolding disconnects
-disconnects_made d i reason b = made_more b (goes reason i b) _ (goes_made reason i b) (made_one (Shut d) (goes reason i b))
+disconnects_made d i reason expiry b =
+    let known : Broker = act (Know (on_member i (expiring expiry) b.members)) b in
+    made_more b (goes reason i known) _ (made_more b known _ (made_one (Know (on_member i (expiring expiry) b.members)) b) (goes_made reason i known)) (made_one (Shut d) (goes reason i known))
 
 as_made : (kind : Kind) (d i : ℕ) (x : Packet) (b : Broker) → Made b (serves_as kind d i x b)
 as_made kinds.Ping d i x b = made_one (Write d (packets.PingResp (record {}))) b
-as_made (kinds.Goodbye reason) d i x b = disconnects_made d i reason b
+as_made (kinds.Goodbye reason expiry) d i x b = disconnects_made d i reason expiry b
 as_made kinds.Message d i x b = arrives_made d i x b
 
 by_made : (fault : Option DisconnectReasonCode) (d i : ℕ) (x : Packet) (b : Broker) → Made b (serves_by fault d i x b)
@@ -115,19 +133,19 @@ by_made None d i x b = as_made (kind_of x) d i x b
 
 serves_made : (d i : ℕ) (x : Packet) (b : Broker) → Made b (serves d i x b)
 unfolding serves
-serves_made d i x b = by_made (packet_fault x) d i x b
+serves_made d i x b = by_made (fault_of i x b) d i x b
 
 -- ---- a Connect
 
-comes_made : (d i : ℕ) (present : Bool) (q : Connect) (will : Option LastWill) (b : Broker) → Made b (comes_in d i present q will b)
+comes_made : (d i : ℕ) (present given : Bool) (q : Connect) (will : Option LastWill) (b : Broker) → Made b (comes_in d i present given q will b)
 unfolding comes_in
-comes_made d i present q will b =
-    let max : Option ℕ = Some (receive_max_of q.properties) in
-    let e : Act = Session (Comes i max (option_map will_of will)) in
-    let ps : List Packet = connack b.longest present q ∷ sent_again i max b.sessions in
+comes_made d i present given q will b =
+    let e : Act = Session (Comes i (Some (receive_max_of q.properties)) (option_map will_of will)) in
+    let w : Act = Welcome d i (longest_of q.properties) (silence_of q) b.moment in
+    let ps : List Packet = welcome i present given q b in
     let came : Broker = act e b in
-    let here : Broker = act (Welcome d i (longest_of q.properties)) came in
-    made_as b _ _ (on_after d (taken_by i q) (written_all ps) came) (made_more b here _ (e ∷ Welcome d i (longest_of q.properties) ∷ [], refl) (all_made ps d here))
+    let here : Broker = act w came in
+    made_as b _ _ (on_after d (taken_by i (longest_of q.properties) (silence_of q) b.moment) (written_all ps) came) (made_more b here _ (e ∷ w ∷ [], refl) (all_made ps d here))
 
 displaced_made : (o : Option ℕ) (b : Broker) → Made b (displaced o b)
 displaced_made None b = made_none b
@@ -141,33 +159,51 @@ begins_by : (v : Bool) (i : ℕ) (ms : List (Option Member)) (b : Broker) → Ma
 begins_by true i ms b = (Session (Ends i) ∷ Know ms ∷ [], refl)
 begins_by false i ms b = (Know ms ∷ [], refl)
 
-begins_made : (i : ℕ) (anew : Bool) (q : Connect) (b : Broker) → Made b (begins i anew q b)
+begins_made : (i : ℕ) (anew : Bool) (q : Connect) (will : Option LastWill) (b : Broker) → Made b (begins i anew q will b)
 unfolding begins
-begins_made i anew q b = begins_by anew i (slice_set b.members i (Some (member_of q))) b
+begins_made i anew q will b = begins_by anew i (slice_set b.members i (Some (member_of q will))) b
 
 numbers_made : (m : Member) (o : Option ℕ) (b : Broker) → Made b (numbers m o b)
 numbers_made m None b = (Session (Joins b.limit) ∷ Know (b.members ++ Some m ∷ []) ∷ [], refl)
 numbers_made m (Some i) b = made_one (Know (slice_set b.members i (Some m))) b
 
-enters_made : (d : ℕ) (q : Connect) (will : Option LastWill) (b : Broker) → Made b (enters d q will b)
+enters_made : (d : ℕ) (given : Bool) (q : Connect) (will : Option LastWill) (b : Broker) → Made b (enters d given q will b)
 unfolding enters
-enters_made d q will b = made_more b (numbers (member_of q) (free_number b.members) b) _ (numbers_made (member_of q) (free_number b.members) b) (comes_made d (number_in (free_number b.members) b) false q will (numbers (member_of q) (free_number b.members) b))
+enters_made d given q will b =
+    let known : Broker = numbers (member_of q will) (free_number b.members) b in
+    made_more b known _ (numbers_made (member_of q will) (free_number b.members) b) (comes_made d (number_in (free_number b.members) b) false given q will known)
 
-returns_made : (d i : ℕ) (anew : Bool) (q : Connect) (will : Option LastWill) (b : Broker) → Made b (comes_in d i (not anew) q will (begins i anew q (displaces i b)))
+turns_made : (d : ℕ) (code : ConnectReturnCode) (b : Broker) → Made b (turns_away d code b)
+turns_made d code b = shut_made (refusal code) d b
+
+room_made : (d : ℕ) (given : Bool) (q : Connect) (will : Option LastWill) (b : Broker) → Made b (enters_if_room d given q will b)
+room_made d given q will b = made_if (has_room b) b _ _ (enters_made d given q will b) (turns_made d return_codes.QuotaExceeded b)
+
+assigns_by_made : (o : Option ℕ) (d : ℕ) (q : Connect) (will : Option LastWill) (b : Broker) → Made b (assigns_by o d q will b)
+assigns_by_made (Some i) d q will b = turns_made d return_codes.ServerBusy b
+assigns_by_made None d q will b = room_made d true q will b
+
+assigns_made : (d : ℕ) (q : Connect) (will : Option LastWill) (b : Broker) → Made b (assigns d q will b)
+unfolding assigns
+assigns_made d q will b =
+    let named : Broker = act (Name (number_after b.next_name)) b in
+    made_more b named _ (made_one (Name (number_after b.next_name)) b) (assigns_by_made (number_of (assigned_name b.next_name) b.members) d (record q { client_id = assigned_name b.next_name }) will named)
+
+returns_made : (d i : ℕ) (anew : Bool) (q : Connect) (will : Option LastWill) (b : Broker) → Made b (comes_in d i (not anew) false q will (begins i anew q will (displaces i b)))
 returns_made d i anew q will b =
-    made_more b (begins i anew q (displaces i b)) _ (made_more b (displaces i b) _ (displaces_made i b) (begins_made i anew q (displaces i b)))
-    (comes_made d i (not anew) q will (begins i anew q (displaces i b)))
+    made_more b (begins i anew q will (displaces i b)) _ (made_more b (displaces i b) _ (displaces_made i b) (begins_made i anew q will (displaces i b)))
+    (comes_made d i (not anew) false q will (begins i anew q will (displaces i b)))
 
 admits_as_made : (o : Option ℕ) (d : ℕ) (q : Connect) (will : Option LastWill) (b : Broker) → Made b (admits_as o d q will b)
 admits_as_made (Some i) d q will b = returns_made d i (starts_anew i q b) q will b
-admits_as_made None d q will b = enters_made d q will b
+admits_as_made None d q will b = room_made d false q will b
 
 admits_made : (d : ℕ) (q : Connect) (will : Option LastWill) (b : Broker) → Made b (admits d q will b)
 unfolding admits
-admits_made d q will b = admits_as_made (number_of q.client_id b.members) d q will b
+admits_made d q will b = made_if (length q.client_id.bytes == 0) b _ _ (assigns_made d q will b) (admits_as_made (number_of q.client_id b.members) d q will b)
 
 connects_by_made : (o : Option ConnectReturnCode) (d : ℕ) (q : Connect) (will : Option LastWill) (b : Broker) → Made b (connects_by o d q will b)
-connects_by_made (Some code) d q will b = shut_made (refusal code) d b
+connects_by_made (Some code) d q will b = turns_made d code b
 connects_by_made None d q will b = admits_made d q will b
 
 connects_made : (d : ℕ) (q : Connect) (will : Option LastWill) (b : Broker) → Made b (connects d q will b)
@@ -186,29 +222,33 @@ of_made (Some i) d x b = serves_made d i x b
 
 takes_made : (d : ℕ) (x : Packet) (b : Broker) → Made b (takes d x b)
 unfolding takes
-takes_made d x b = made_if (connection_at d b.connections).is_open b _ _ (of_made (connection_at d b.connections).client d x b) (made_none b)
+takes_made d x b =
+    let known : Broker = act (Hear d b.moment) b in
+    made_if (connection_at d b.connections).is_open b _ _ (made_more b known _ (made_one (Hear d b.moment) b) (of_made (connection_at d b.connections).client d x known)) (made_none b)
 
 takes_all_made : (d : ℕ) (xs : List Packet) (b : Broker) → Made b (takes_all d xs b)
 takes_all_made d [] b = made_none b
 takes_all_made d (x ∷ xs) b = made_more b (takes d x b) _ (takes_made d x b) (takes_all_made d xs (takes d x b))
 
-breaks_made : (o : Option ℕ) (d : ℕ) (e : Error) (b : Broker) → Made b (breaks_of o d e b)
-breaks_made None d e b = made_one (Shut d) b
-breaks_made (Some i) d e b = refuses_made d i (reason_for e) b
-
 ends_made : (d : ℕ) (ending : Ending) (b : Broker) → Made b (ends_with d ending b)
 ends_made d (Holds held) b = made_one (Hold d held) b
-ends_made d (Breaks e) b = made_if (connection_at d b.connections).is_open b _ _ (breaks_made (connection_at d b.connections).client d e b) (made_none b)
+ends_made d (Breaks e) b = dismisses_made d (reason_for e) b
 
 comes_of_made : (d : ℕ) (r : Cut) (b : Broker) → Made b (comes_of d r b)
 comes_of_made d r b = made_more b (takes_all d r.packets b) _ (takes_all_made d r.packets b) (ends_made d r.ending (takes_all d r.packets b))
 
-pub receives_made : (d : ℕ) (bytes : List ℕ) (b : Broker) → Made b (receives d bytes b)
-unfolding receives
-receives_made d bytes b =
+moment_made : (at : ℕ) (b : Broker) → Made b (at_moment at b)
+moment_made at b = made_one (Moment (max at b.moment)) b
+
+now_made : (d : ℕ) (bytes : List ℕ) (b : Broker) → Made b (receives_now d bytes b)
+unfolding receives_now
+now_made d bytes b =
     made_if (connection_at d b.connections).is_open b _ _
     (made_more b (on_connection d emptied b) _ (made_one (Empty d) b) (comes_of_made d (cut_up (Some b.longest) ((connection_at d b.connections).held ++ bytes) []) (on_connection d emptied b)))
     (made_none b)
+
+pub receives_made : (at d : ℕ) (bytes : List ℕ) (b : Broker) → Made b (receives at d bytes b)
+receives_made at d bytes b = made_more b (at_moment at b) _ (moment_made at b) (now_made d bytes (at_moment at b))
 
 passes_of_made : (o : Option ℕ) (d : ℕ) (b : Broker) → Made b (passes_of o d b)
 passes_of_made None d b = made_none b
@@ -217,6 +257,51 @@ passes_of_made (Some i) d b = made_more b (act (Session (Passes i)) b) _ (made_o
 pub passes_made : (d : ℕ) (b : Broker) → Made b (passes_on d b)
 unfolding passes_on
 passes_made d b = passes_of_made (connection_at d b.connections).client d b
+
+-- ---- what is due
+
+each_made : (n : ℕ) (f : ℕ → Broker → Broker) → ((i : ℕ) (b : Broker) → Made b (f i b)) → (b : Broker) → Made b (for_each n f b)
+each_made zero f h b = made_none b
+each_made (suc n) f h b = made_more b (for_each n f b) _ (each_made n f h b) (h n (for_each n f b))
+
+silences_made : (d : ℕ) (b : Broker) → Made b (silences d b)
+unfolding silences
+silences_made d b = made_if (has_come (connection_at d b.connections).deadline b.moment) b _ _ (dismisses_made d reasons.KeepAliveTimeout b) (made_none b)
+
+expires_made : (i : ℕ) (b : Broker) → Made b (expires i b)
+unfolding expires
+expires_made i b =
+    made_if (has_ended b.moment (member_at i b.members)) b _ _ (forgets_made i b)
+    (made_if (will_is_due b.moment (member_at i b.members)) b _ _ (publishes_made i b) (made_none b))
+
+pub ticks_made : (at : ℕ) (b : Broker) → Made b (ticks at b)
+ticks_made at b =
+    let now : Broker = at_moment at b in
+    let heard_all : Broker = silences_all now in
+    made_more b heard_all _ (made_more b now _ (moment_made at b) (each_made (length now.connections) silences silences_made now)) (each_made (length heard_all.members) expires expires_made heard_all)
+
+ends_now_made : (d : ℕ) (b : Broker) → Made b (ends_now d b)
+unfolding ends_now
+ends_now_made d b = dismisses_made d reasons.ServerShuttingDown b
+
+pub shuts_down_made : (at : ℕ) (b : Broker) → Made b (shuts_down at b)
+shuts_down_made at b = made_more b (at_moment at b) _ (moment_made at b) (each_made (length b.connections) ends_now ends_now_made (at_moment at b))
+
+-- ---- queues that are too long
+
+ends_of_made : (o : Option ℕ) (b : Broker) → Made b (ends_of o b)
+ends_of_made None b = made_none b
+ends_of_made (Some d) b = shut_made (disconnect reasons.QuotaExceeded) d b
+
+trims_made : (i : ℕ) (b : Broker) → Made b (trims i b)
+unfolding trims
+trims_made i b =
+    made_if (exceeds (counts i b.sessions) b.bounds) b _ _
+    (made_more b (forgets i b) _ (forgets_made i b) (ends_of_made (connection_of i b.connections) (forgets i b)))
+    (made_none b)
+
+pub trims_all_made : (b : Broker) → Made b (trims_all b)
+trims_all_made b = each_made (length b.members) trims trims_made b
 
 -- ---- what acts do to the sessions
 

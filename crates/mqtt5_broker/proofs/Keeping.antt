@@ -1,5 +1,5 @@
--- What packets leave as it is: the limit, and that no bytes are held on a connection of which none are.
-use Rattle.std.proofs.Common.{◌≡◌, ℕ, zero, suc, Bool, true, false, List, [], ◌∷◌, Option, Some, None, refl, subst, ap, ◌∙◌, get_or, set, if◌then◌else◌, not, Result, Ok, Err}
+-- What packets leave as it is: the limit, the moment, and that no bytes are held on a connection of which none are.
+use Rattle.std.proofs.Common.{◌≡◌, ℕ, zero, suc, Bool, true, false, List, [], ◌∷◌, Option, Some, None, refl, subst, ap, ◌∙◌, get_or, set, if◌then◌else◌, not, length, ◌==◌, Result, Ok, Err}
 use Rattle.mqtt5_base.specs.declared.error.Error.{Error}
 use Rattle.mqtt5_codec.specs.declared.packet.Packet.{Packet}
 use Rattle.mqtt5_codec.specs.declared.packet.Packet.TheVariants as packets
@@ -7,16 +7,18 @@ use Rattle.mqtt5_codec.specs.Packets.{writing_under}
 use Rattle.mqtt5_connect.specs.declared.connect.Connect.{Connect}
 use Rattle.mqtt5_connect.specs.declared.will.LastWill.{LastWill}
 use Rattle.mqtt5_control.specs.declared.connack.ConnectReturnCode.{ConnectReturnCode}
+use Rattle.mqtt5_control.specs.declared.connack.ConnectReturnCode.TheVariants as return_codes
 use Rattle.mqtt5_control.specs.declared.disconnect.DisconnectReasonCode.{DisconnectReasonCode}
 use Rattle.mqtt5_control.specs.declared.disconnect.DisconnectReasonCode.TheVariants as reasons
-use Rattle.mqtt5_sessions.specs.Sessions.{replies, sent_again}
+use Rattle.mqtt5_sessions.specs.Sessions.{replies}
 use Rattle.mqtt5_broker.specs.declared.member.Member.{Member}
 use Rattle.mqtt5_broker.specs.declared.serving.Kind.{Kind}
 use Rattle.mqtt5_broker.specs.declared.serving.Kind.TheVariants as kinds
-use Rattle.mqtt5_broker.specs.Connection.{Connection, closed, shut, told, with_bytes, written, written_all, connection_at, connection_of}
-use Rattle.mqtt5_broker.specs.Broker.{Broker, on_connection, forgets, loses_client, leaves_client, stays_at, refuses, numbers, number_in, free_number, number_of}
-use Rattle.mqtt5_broker.specs.Judging.{packet_fault, connect_fault}
-use Rattle.mqtt5_broker.specs.Serving.{kind_of, arrives_from, goes, disconnects, serves_as, serves_by, serves, connack, refusal, receive_max_of, member_of, taken_by, comes_in, displaced, displaces, starts_anew, begins, enters, admits_as, admits, connects_by, connects, begins_with, takes_of, takes}
+use Rattle.mqtt5_broker.specs.Connection.{Connection, closed, shut, told, heard, taken_by, with_bytes, written, written_all, connection_at, connection_of}
+use Rattle.mqtt5_broker.specs.Broker.{Broker, on_connection, on_member, expiring, forgets, loses_client, leaves_client, stays_at, refuses, dismisses, dismisses_of, numbers, number_in, free_number, number_of, assigned_name, number_after}
+use Rattle.mqtt5_broker.specs.Judging.{connect_fault}
+use Rattle.mqtt5_broker.specs.Bounds.{has_room}
+use Rattle.mqtt5_broker.specs.Serving.{kind_of, arrives_from, goes, disconnects, serves_as, serves_by, fault_of, serves, refusal, longest_of, silence_of, member_of, welcome, comes_in, displaced, displaces, starts_anew, begins, enters, turns_away, enters_if_room, assigns_by, assigns, admits_as, admits, connects_by, connects, begins_with, takes_of, takes}
 use Rattle.mqtt5_broker.specs.Receiving.{takes_all}
 
 -- ---- connections
@@ -44,123 +46,149 @@ all_held (p ∷ ps) l = all_held ps (written p l) ∙ written_held p l
 
 -- ---- a broker
 
--- no bytes are held on a connection, and the limit is this
-pub record Keeps (c n : ℕ) (b : Broker) : Type 0 where
+-- no bytes are held on a connection, and the limit and the moment are these
+pub record Keeps (c n at : ℕ) (b : Broker) : Type 0 where
   pub held : (connection_at c b.connections).held ≡ []
   pub longest : b.longest ≡ n
+  pub moment : b.moment ≡ at
 
-module _ (c n : ℕ) where
-  pub on_keeps : (d : ℕ) (f : Connection → Connection) (b : Broker) → ((l : Connection) → l.held ≡ [] → (f l).held ≡ []) → Keeps c n b → Keeps c n (on_connection d f b)
+module _ (c n at : ℕ) where
+  pub on_keeps : (d : ℕ) (f : Connection → Connection) (b : Broker) → ((l : Connection) → l.held ≡ [] → (f l).held ≡ []) → Keeps c n at b → Keeps c n at (on_connection d f b)
   on_keeps d f b h k = record {
     held = at_changed (λ (l : Connection). l.held ≡ []) c d b.connections (f (connection_at d b.connections)) k.held (λ e. h (connection_at d b.connections) (subst (λ (j : ℕ). (connection_at j b.connections).held ≡ []) e k.held));
     longest = k.longest;
+    moment = k.moment;
   }
 
-  if_keeps : (v : Bool) (x y : Broker) → Keeps c n x → Keeps c n y → Keeps c n (if v then x else y)
+  if_keeps : (v : Bool) (x y : Broker) → Keeps c n at x → Keeps c n at y → Keeps c n at (if v then x else y)
   if_keeps true x y k m = k
   if_keeps false x y k m = m
 
-  forgets_keeps : (i : ℕ) (b : Broker) → Keeps c n b → Keeps c n (forgets i b)
+  forgets_keeps : (i : ℕ) (b : Broker) → Keeps c n at b → Keeps c n at (forgets i b)
   unfolding forgets
-  forgets_keeps i b k = record { held = k.held; longest = k.longest }
+  forgets_keeps i b k = record { held = k.held; longest = k.longest; moment = k.moment }
 
-  loses_keeps : (i : ℕ) (b : Broker) → Keeps c n b → Keeps c n (loses_client i b)
+  loses_keeps : (i : ℕ) (b : Broker) → Keeps c n at b → Keeps c n at (loses_client i b)
   unfolding loses_client
-  loses_keeps i b k = if_keeps (stays_at i b.members) _ _ (record { held = k.held; longest = k.longest }) (forgets_keeps i b k)
+  loses_keeps i b k = if_keeps (stays_at i b.members) _ _ (record { held = k.held; longest = k.longest; moment = k.moment }) (forgets_keeps i b k)
 
-  leaves_keeps : (i : ℕ) (b : Broker) → Keeps c n b → Keeps c n (leaves_client i b)
+  leaves_keeps : (i : ℕ) (b : Broker) → Keeps c n at b → Keeps c n at (leaves_client i b)
   unfolding leaves_client
-  leaves_keeps i b k = if_keeps (stays_at i b.members) _ _ (record { held = k.held; longest = k.longest }) (forgets_keeps i _ (record { held = k.held; longest = k.longest }))
+  leaves_keeps i b k = if_keeps (stays_at i b.members) _ _ (record { held = k.held; longest = k.longest; moment = k.moment }) (forgets_keeps i _ (record { held = k.held; longest = k.longest; moment = k.moment }))
 
-  refuses_keeps : (d i : ℕ) (reason : DisconnectReasonCode) (b : Broker) → Keeps c n b → Keeps c n (refuses d i reason b)
+  refuses_keeps : (d i : ℕ) (reason : DisconnectReasonCode) (b : Broker) → Keeps c n at b → Keeps c n at (refuses d i reason b)
   unfolding refuses
   refuses_keeps d i reason b k = on_keeps d (told reason) (loses_client i b) (λ l h. refl) (loses_keeps i b k)
 
+  dismisses_of_keeps : (o : Option ℕ) (d : ℕ) (reason : DisconnectReasonCode) (b : Broker) → Keeps c n at b → Keeps c n at (dismisses_of o d reason b)
+  dismisses_of_keeps None d reason b k = on_keeps d shut b (λ l h. refl) k
+  dismisses_of_keeps (Some i) d reason b k = refuses_keeps d i reason b k
+
+  pub dismisses_keeps : (d : ℕ) (reason : DisconnectReasonCode) (b : Broker) → Keeps c n at b → Keeps c n at (dismisses d reason b)
+  unfolding dismisses
+  dismisses_keeps d reason b k = if_keeps (connection_at d b.connections).is_open _ _ (dismisses_of_keeps (connection_at d b.connections).client d reason b k) k
+
   -- ---- a client that is connected
 
-  arrives_keeps : (d i : ℕ) (x : Packet) (b : Broker) → Keeps c n b → Keeps c n (arrives_from d i x b)
+  arrives_keeps : (d i : ℕ) (x : Packet) (b : Broker) → Keeps c n at b → Keeps c n at (arrives_from d i x b)
   unfolding arrives_from
-  arrives_keeps d i x b k = on_keeps d (written_all (replies i x b.sessions)) _ (λ l h. all_held (replies i x b.sessions) l ∙ h) (record { held = k.held; longest = k.longest })
+  arrives_keeps d i x b k = on_keeps d (written_all (replies i x b.sessions)) _ (λ l h. all_held (replies i x b.sessions) l ∙ h) (record { held = k.held; longest = k.longest; moment = k.moment })
 
-  goes_keeps : (reason : DisconnectReasonCode) (i : ℕ) (b : Broker) → Keeps c n b → Keeps c n (goes reason i b)
+  goes_keeps : (reason : DisconnectReasonCode) (i : ℕ) (b : Broker) → Keeps c n at b → Keeps c n at (goes reason i b)
   goes_keeps reasons.NormalDisconnection i b k = leaves_keeps i b k
   goes_keeps other i b k = loses_keeps i b k
 
-  disconnects_keeps : (d i : ℕ) (reason : DisconnectReasonCode) (b : Broker) → Keeps c n b → Keeps c n (disconnects d i reason b)
+  disconnects_keeps : (d i : ℕ) (reason : DisconnectReasonCode) (expiry : Option ℕ) (b : Broker) → Keeps c n at b → Keeps c n at (disconnects d i reason expiry b)
   unfolding disconnects
-  disconnects_keeps d i reason b k = on_keeps d shut (goes reason i b) (λ l h. refl) (goes_keeps reason i b k)
+  disconnects_keeps d i reason expiry b k =
+      let known : Broker = record b { members = on_member i (expiring expiry) b.members } in
+      on_keeps d shut (goes reason i known) (λ l h. refl) (goes_keeps reason i known (record { held = k.held; longest = k.longest; moment = k.moment }))
 
-  as_keeps : (kind : Kind) (d i : ℕ) (x : Packet) (b : Broker) → Keeps c n b → Keeps c n (serves_as kind d i x b)
+  as_keeps : (kind : Kind) (d i : ℕ) (x : Packet) (b : Broker) → Keeps c n at b → Keeps c n at (serves_as kind d i x b)
   as_keeps kinds.Ping d i x b k = on_keeps d (written (packets.PingResp (record {}))) b (λ l h. written_held (packets.PingResp (record {})) l ∙ h) k
-  as_keeps (kinds.Goodbye reason) d i x b k = disconnects_keeps d i reason b k
+  as_keeps (kinds.Goodbye reason expiry) d i x b k = disconnects_keeps d i reason expiry b k
   as_keeps kinds.Message d i x b k = arrives_keeps d i x b k
 
-  by_keeps : (fault : Option DisconnectReasonCode) (d i : ℕ) (x : Packet) (b : Broker) → Keeps c n b → Keeps c n (serves_by fault d i x b)
+  by_keeps : (fault : Option DisconnectReasonCode) (d i : ℕ) (x : Packet) (b : Broker) → Keeps c n at b → Keeps c n at (serves_by fault d i x b)
   by_keeps (Some reason) d i x b k = refuses_keeps d i reason b k
   by_keeps None d i x b k = as_keeps (kind_of x) d i x b k
 
-  serves_keeps : (d i : ℕ) (x : Packet) (b : Broker) → Keeps c n b → Keeps c n (serves d i x b)
+  serves_keeps : (d i : ℕ) (x : Packet) (b : Broker) → Keeps c n at b → Keeps c n at (serves d i x b)
   unfolding serves
-  serves_keeps d i x b k = by_keeps (packet_fault x) d i x b k
+  serves_keeps d i x b k = by_keeps (fault_of i x b) d i x b k
 
   -- ---- a Connect
 
-  comes_keeps : (d i : ℕ) (present : Bool) (q : Connect) (will : Option LastWill) (b : Broker) → Keeps c n b → Keeps c n (comes_in d i present q will b)
+  comes_keeps : (d i : ℕ) (present given : Bool) (q : Connect) (will : Option LastWill) (b : Broker) → Keeps c n at b → Keeps c n at (comes_in d i present given q will b)
   unfolding comes_in
-  comes_keeps d i present q will b k =
-      on_keeps d (λ (l : Connection). written_all (connack b.longest present q ∷ sent_again i (Some (receive_max_of q.properties)) b.sessions) (taken_by i q l)) _
-      (λ l h. all_held (connack b.longest present q ∷ sent_again i (Some (receive_max_of q.properties)) b.sessions) (taken_by i q l) ∙ h) (record { held = k.held; longest = k.longest })
+  comes_keeps d i present given q will b k =
+      on_keeps d (λ (l : Connection). written_all (welcome i present given q b) (taken_by i (longest_of q.properties) (silence_of q) b.moment l)) _
+      (λ l h. all_held (welcome i present given q b) (taken_by i (longest_of q.properties) (silence_of q) b.moment l) ∙ h) (record { held = k.held; longest = k.longest; moment = k.moment })
 
-  displaced_keeps : (o : Option ℕ) (b : Broker) → Keeps c n b → Keeps c n (displaced o b)
+  displaced_keeps : (o : Option ℕ) (b : Broker) → Keeps c n at b → Keeps c n at (displaced o b)
   displaced_keeps None b k = k
   displaced_keeps (Some d) b k = on_keeps d (told reasons.SessionTakenOver) b (λ l h. refl) k
 
-  displaces_keeps : (i : ℕ) (b : Broker) → Keeps c n b → Keeps c n (displaces i b)
+  displaces_keeps : (i : ℕ) (b : Broker) → Keeps c n at b → Keeps c n at (displaces i b)
   unfolding displaces
   displaces_keeps i b k = displaced_keeps (connection_of i b.connections) b k
 
-  begins_keeps : (i : ℕ) (anew : Bool) (q : Connect) (b : Broker) → Keeps c n b → Keeps c n (begins i anew q b)
+  begins_keeps : (i : ℕ) (anew : Bool) (q : Connect) (will : Option LastWill) (b : Broker) → Keeps c n at b → Keeps c n at (begins i anew q will b)
   unfolding begins
-  begins_keeps i anew q b k = record { held = k.held; longest = k.longest }
+  begins_keeps i anew q will b k = record { held = k.held; longest = k.longest; moment = k.moment }
 
-  numbers_keeps : (m : Member) (o : Option ℕ) (b : Broker) → Keeps c n b → Keeps c n (numbers m o b)
-  numbers_keeps m None b k = record { held = k.held; longest = k.longest }
-  numbers_keeps m (Some i) b k = record { held = k.held; longest = k.longest }
+  numbers_keeps : (m : Member) (o : Option ℕ) (b : Broker) → Keeps c n at b → Keeps c n at (numbers m o b)
+  numbers_keeps m None b k = record { held = k.held; longest = k.longest; moment = k.moment }
+  numbers_keeps m (Some i) b k = record { held = k.held; longest = k.longest; moment = k.moment }
 
-  enters_keeps : (d : ℕ) (q : Connect) (will : Option LastWill) (b : Broker) → Keeps c n b → Keeps c n (enters d q will b)
+  enters_keeps : (d : ℕ) (given : Bool) (q : Connect) (will : Option LastWill) (b : Broker) → Keeps c n at b → Keeps c n at (enters d given q will b)
   unfolding enters
-  enters_keeps d q will b k = comes_keeps d (number_in (free_number b.members) b) false q will _ (numbers_keeps (member_of q) (free_number b.members) b k)
+  enters_keeps d given q will b k = comes_keeps d (number_in (free_number b.members) b) false given q will _ (numbers_keeps (member_of q will) (free_number b.members) b k)
 
-  admits_as_keeps : (o : Option ℕ) (d : ℕ) (q : Connect) (will : Option LastWill) (b : Broker) → Keeps c n b → Keeps c n (admits_as o d q will b)
-  admits_as_keeps (Some i) d q will b k = comes_keeps d i (not (starts_anew i q b)) q will (begins i (starts_anew i q b) q (displaces i b)) (begins_keeps i (starts_anew i q b) q (displaces i b) (displaces_keeps i b k))
-  admits_as_keeps None d q will b k = enters_keeps d q will b k
+  turns_keeps : (d : ℕ) (code : ConnectReturnCode) (b : Broker) → Keeps c n at b → Keeps c n at (turns_away d code b)
+  turns_keeps d code b k = on_keeps d (λ (l : Connection). shut (written (refusal code) l)) b (λ l h. refl) k
 
-  admits_keeps : (d : ℕ) (q : Connect) (will : Option LastWill) (b : Broker) → Keeps c n b → Keeps c n (admits d q will b)
+  room_keeps : (d : ℕ) (given : Bool) (q : Connect) (will : Option LastWill) (b : Broker) → Keeps c n at b → Keeps c n at (enters_if_room d given q will b)
+  room_keeps d given q will b k = if_keeps (has_room b) _ _ (enters_keeps d given q will b k) (turns_keeps d return_codes.QuotaExceeded b k)
+
+  assigns_by_keeps : (o : Option ℕ) (d : ℕ) (q : Connect) (will : Option LastWill) (b : Broker) → Keeps c n at b → Keeps c n at (assigns_by o d q will b)
+  assigns_by_keeps (Some i) d q will b k = turns_keeps d return_codes.ServerBusy b k
+  assigns_by_keeps None d q will b k = room_keeps d true q will b k
+
+  assigns_keeps : (d : ℕ) (q : Connect) (will : Option LastWill) (b : Broker) → Keeps c n at b → Keeps c n at (assigns d q will b)
+  unfolding assigns
+  assigns_keeps d q will b k = assigns_by_keeps (number_of (assigned_name b.next_name) b.members) d (record q { client_id = assigned_name b.next_name }) will (record b { next_name = number_after b.next_name }) (record { held = k.held; longest = k.longest; moment = k.moment })
+
+  admits_as_keeps : (o : Option ℕ) (d : ℕ) (q : Connect) (will : Option LastWill) (b : Broker) → Keeps c n at b → Keeps c n at (admits_as o d q will b)
+  admits_as_keeps (Some i) d q will b k = comes_keeps d i (not (starts_anew i q b)) false q will (begins i (starts_anew i q b) q will (displaces i b)) (begins_keeps i (starts_anew i q b) q will (displaces i b) (displaces_keeps i b k))
+  admits_as_keeps None d q will b k = room_keeps d false q will b k
+
+  admits_keeps : (d : ℕ) (q : Connect) (will : Option LastWill) (b : Broker) → Keeps c n at b → Keeps c n at (admits d q will b)
   unfolding admits
-  admits_keeps d q will b k = admits_as_keeps (number_of q.client_id b.members) d q will b k
+  admits_keeps d q will b k = if_keeps (length q.client_id.bytes == 0) _ _ (assigns_keeps d q will b k) (admits_as_keeps (number_of q.client_id b.members) d q will b k)
 
-  connects_by_keeps : (o : Option ConnectReturnCode) (d : ℕ) (q : Connect) (will : Option LastWill) (b : Broker) → Keeps c n b → Keeps c n (connects_by o d q will b)
-  connects_by_keeps (Some code) d q will b k = on_keeps d (λ (l : Connection). shut (written (refusal code) l)) b (λ l h. refl) k
+  connects_by_keeps : (o : Option ConnectReturnCode) (d : ℕ) (q : Connect) (will : Option LastWill) (b : Broker) → Keeps c n at b → Keeps c n at (connects_by o d q will b)
+  connects_by_keeps (Some code) d q will b k = turns_keeps d code b k
   connects_by_keeps None d q will b k = admits_keeps d q will b k
 
-  connects_keeps : (d : ℕ) (q : Connect) (will : Option LastWill) (b : Broker) → Keeps c n b → Keeps c n (connects d q will b)
+  connects_keeps : (d : ℕ) (q : Connect) (will : Option LastWill) (b : Broker) → Keeps c n at b → Keeps c n at (connects d q will b)
   unfolding connects
   connects_keeps d q will b k = connects_by_keeps (connect_fault q will) d q will b k
 
   -- ---- any packet
 
-  begins_with_keeps : (d : ℕ) (x : Packet) (b : Broker) → Keeps c n b → Keeps c n (begins_with d x b)
+  begins_with_keeps : (d : ℕ) (x : Packet) (b : Broker) → Keeps c n at b → Keeps c n at (begins_with d x b)
   begins_with_keeps d (packets.Connect q will login) b k = connects_keeps d q will b k
   begins_with_keeps d other b k = on_keeps d shut b (λ l h. refl) k
 
-  of_keeps : (o : Option ℕ) (d : ℕ) (x : Packet) (b : Broker) → Keeps c n b → Keeps c n (takes_of o d x b)
+  of_keeps : (o : Option ℕ) (d : ℕ) (x : Packet) (b : Broker) → Keeps c n at b → Keeps c n at (takes_of o d x b)
   of_keeps None d x b k = begins_with_keeps d x b k
   of_keeps (Some i) d x b k = serves_keeps d i x b k
 
-  pub takes_keeps : (d : ℕ) (x : Packet) (b : Broker) → Keeps c n b → Keeps c n (takes d x b)
+  pub takes_keeps : (d : ℕ) (x : Packet) (b : Broker) → Keeps c n at b → Keeps c n at (takes d x b)
   unfolding takes
-  takes_keeps d x b k = if_keeps (connection_at d b.connections).is_open _ _ (of_keeps (connection_at d b.connections).client d x b k) k
+  takes_keeps d x b k = if_keeps (connection_at d b.connections).is_open _ _ (of_keeps (connection_at d b.connections).client d x (on_connection d (heard b.moment) b) (on_keeps d (heard b.moment) b (λ l h. h) k)) k
 
-  pub all_keeps : (d : ℕ) (xs : List Packet) (b : Broker) → Keeps c n b → Keeps c n (takes_all d xs b)
+  pub all_keeps : (d : ℕ) (xs : List Packet) (b : Broker) → Keeps c n at b → Keeps c n at (takes_all d xs b)
   all_keeps d [] b k = k
   all_keeps d (x ∷ xs) b k = all_keeps d xs (takes d x b) (takes_keeps d x b k)

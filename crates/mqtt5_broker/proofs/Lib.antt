@@ -6,3 +6,6 @@ pub mod Pieces
 pub mod Acting
 pub mod Sending
 pub mod Passed
+pub mod Names
+pub mod Early
+pub mod Standing

@@ -5,10 +5,10 @@ use Rattle.mqtt5_base.specs.declared.error.Error.{Error}
 use Rattle.mqtt5_base.specs.declared.error.Error.TheVariants.{OutgoingPacketTooLarge}
 use Rattle.mqtt5_codec.specs.declared.packet.Packet.{Packet}
 use Rattle.mqtt5_codec.specs.Packets.{packet_writing, packet_len, writing_under}
-use Rattle.mqtt5_broker.specs.Connection.{Connection, shut, emptied, holding, with_bytes, written, connection_at}
-use Rattle.mqtt5_broker.specs.Broker.{Broker, loses_client, forgets, stays_at, on_connection}
-use Rattle.mqtt5_broker.specs.Receiving.{closes_of, closes}
-use Rattle.mqtt5_broker.specs.Acts.{SessionEvent, Loses, Ends, after_events, Act, Session, Know, Write, Shut, Welcome, Hold, Empty, act, acts, event_in, events_in, of_client, AreFrames, output_at, Sends}
+use Rattle.mqtt5_broker.specs.Connection.{Connection, shut, heard, taken_by, emptied, holding, with_bytes, written, connection_at}
+use Rattle.mqtt5_broker.specs.Broker.{Broker, at_moment, loses_client, forgets, stays_at, on_connection}
+use Rattle.mqtt5_broker.specs.Receiving.{closes_of, closes_now, closes}
+use Rattle.mqtt5_broker.specs.Acts.{SessionEvent, Loses, Ends, after_events, Act, Session, Know, Name, Moment, Hear, Write, Shut, Welcome, Hold, Empty, act, acts, event_in, events_in, AreFrames, output_at, Sends}
 use Rattle.mqtt5_broker.proofs.Keeping.{at_changed}
 use Rattle.mqtt5_broker.proofs.Acting.{events_append}
 
@@ -17,9 +17,12 @@ use Rattle.mqtt5_broker.proofs.Acting.{events_append}
 one_event : (a : Act) (b : Broker) → (act a b).sessions ≡ after_events (event_in a) b.sessions
 one_event (Session e) b = refl
 one_event (Know ms) b = refl
+one_event (Name n) b = refl
+one_event (Moment at) b = refl
+one_event (Hear d at) b = refl
 one_event (Write d p) b = refl
 one_event (Shut d) b = refl
-one_event (Welcome d i longest) b = refl
+one_event (Welcome d i longest silence at) b = refl
 one_event (Hold d bytes) b = refl
 one_event (Empty d) b = refl
 
@@ -43,9 +46,12 @@ of_lost : (o : Option ℕ) (d : ℕ) (b : Broker) → Lost b (closes_of o d b)
 of_lost None d b = ([], refl)
 of_lost (Some i) d b = loses_lost i b
 
-pub closes_lost : (d : ℕ) (b : Broker) → Lost b (closes d b)
-unfolding closes
-closes_lost d b = of_lost (connection_at d b.connections).client d b
+now_lost : (d : ℕ) (b : Broker) → Lost b (closes_now d b)
+unfolding closes_now
+now_lost d b = of_lost (connection_at d b.connections).client d b
+
+pub closes_lost : (at d : ℕ) (b : Broker) → Lost b (closes at d b)
+closes_lost at d b = now_lost d (at_moment at b)
 
 -- ---- frames
 
@@ -81,9 +87,12 @@ on_sends d e f b h =
 one_sends : (d : ℕ) (a : Act) (b : Broker) → Sends (output_at d b) (output_at d (act a b))
 one_sends d (Session e) b = sends_none (output_at d b) (output_at d b) refl
 one_sends d (Know ms) b = sends_none (output_at d b) (output_at d b) refl
+one_sends d (Name n) b = sends_none (output_at d b) (output_at d b) refl
+one_sends d (Moment at) b = sends_none (output_at d b) (output_at d b) refl
+one_sends d (Hear e at) b = on_sends d e (heard at) b (λ l. sends_none l.output l.output refl)
 one_sends d (Write e p) b = on_sends d e (written p) b (λ l. written_sends p l)
 one_sends d (Shut e) b = on_sends d e shut b (λ l. sends_none l.output l.output refl)
-one_sends d (Welcome e i longest) b = on_sends d e (of_client i longest) b (λ l. sends_none l.output l.output refl)
+one_sends d (Welcome e i longest silence at) b = on_sends d e (taken_by i longest silence at) b (λ l. sends_none l.output l.output refl)
 one_sends d (Hold e bytes) b = on_sends d e (holding bytes) b (λ l. sends_none l.output (holding bytes l).output (holding_sends l.is_open bytes l))
 one_sends d (Empty e) b = on_sends d e emptied b (λ l. sends_none l.output l.output refl)
 

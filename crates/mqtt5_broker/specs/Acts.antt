@@ -1,24 +1,28 @@
 -- What a broker does, act by act: what happens to its sessions, and what it writes to connections
 -- (MQTT 5.0 sections 4.1 and 4.2).
-use Rattle.std.specs.Prelude.{◌≡◌, ℕ, List, [], ◌∷◌, ◌++◌, Option, Some, Ok}
+use Rattle.std.specs.Prelude.{◌≡◌, ℕ, List, [], ◌∷◌, ◌++◌, Option, Ok}
 use Rattle.mqtt5_codec.specs.declared.packet.Packet.{Packet}
 use Rattle.mqtt5_codec.specs.Packets.{packet_writing}
 use Rattle.mqtt5_network.specs.declared.event.Will.{Will}
-use Rattle.mqtt5_sessions.specs.Sessions.{Sessions, joins, arrives, passes, loses, leaves, comes, ends}
+use Rattle.mqtt5_sessions.specs.Sessions.{Sessions, joins, arrives, passes, loses, leaves, comes}
+use Rattle.mqtt5_sessions.specs.Sessions.{is_due, ends}
 use Rattle.mqtt5_broker.specs.declared.member.Member.{Member}
-use Rattle.mqtt5_broker.specs.Connection.{Connection, written, shut, emptied, holding, connection_at}
+use Rattle.mqtt5_broker.specs.Connection.{written, shut, emptied, holding, heard}
+use Rattle.mqtt5_broker.specs.Connection.{taken_by, connection_at}
 use Rattle.mqtt5_broker.specs.Broker.{Broker, on_connection}
 
 -- ---- the sessions
 
 -- what happens to them, each to a client by its number: one more comes to be known, with the
 -- greatest identifier to it; a packet of it arrives; the first of its queue is passed on; its
--- connection is lost; it leaves; it comes on a new connection; its session ends
+-- connection is lost; the delay of its will has passed; it leaves; it comes on a new connection; its
+-- session ends
 pub data SessionEvent : Type 0 where
   Joins : (limit : ℕ) → SessionEvent
   Arrives : (client : ℕ) (packet : Packet) → SessionEvent
   Passes : (client : ℕ) → SessionEvent
   Loses : (client : ℕ) → SessionEvent
+  IsDue : (client : ℕ) → SessionEvent
   Leaves : (client : ℕ) → SessionEvent
   Comes : (client : ℕ) (receive_max : Option ℕ) (will : Option Will) → SessionEvent
   Ends : (client : ℕ) → SessionEvent
@@ -29,6 +33,7 @@ after_event (Joins limit) s = joins limit s
 after_event (Arrives i x) s = arrives i x s
 after_event (Passes i) s = passes i s
 after_event (Loses i) s = loses i s
+after_event (IsDue i) s = is_due i s
 after_event (Leaves i) s = leaves i s
 after_event (Comes i m will) s = comes i m will s
 after_event (Ends i) s = ends i s
@@ -39,27 +44,30 @@ after_events (e ∷ es) s = after_events es (after_event e s)
 
 -- ---- acts
 
--- something happens to the sessions; other clients are known; of a connection: a packet is written,
--- nothing more is taken, it is that of a client, and bytes are held or taken out
+-- something happens to the sessions; other clients are known, and another number for the next name;
+-- another moment; of a connection: it is heard, a packet is written, nothing more is taken, it is that
+-- of a client, and bytes are held or taken out
 pub data Act : Type 0 where
   Session : (event : SessionEvent) → Act
   Know : (members : List (Option Member)) → Act
+  Name : (number : ℕ) → Act
+  Moment : (at : ℕ) → Act
+  Hear : (connection at : ℕ) → Act
   Write : (connection : ℕ) (packet : Packet) → Act
   Shut : (connection : ℕ) → Act
-  Welcome : (connection client : ℕ) (longest : Option ℕ) → Act
+  Welcome : (connection client : ℕ) (longest : Option ℕ) (silence at : ℕ) → Act
   Hold : (connection : ℕ) (bytes : List ℕ) → Act
   Empty : (connection : ℕ) → Act
-
--- the connection is that of a client
-abbrev pub of_client : ℕ → Option ℕ → Connection → Connection
-of_client i longest l = record l { client = Some i; longest = longest }
 
 abbrev pub act : Act → Broker → Broker
 act (Session e) b = record b { sessions = after_event e b.sessions }
 act (Know ms) b = record b { members = ms }
+act (Name n) b = record b { next_name = n }
+act (Moment at) b = record b { moment = at }
+act (Hear d at) b = on_connection d (heard at) b
 act (Write d p) b = on_connection d (written p) b
 act (Shut d) b = on_connection d shut b
-act (Welcome d i longest) b = on_connection d (of_client i longest) b
+act (Welcome d i longest silence at) b = on_connection d (taken_by i longest silence at) b
 act (Hold d bytes) b = on_connection d (holding bytes) b
 act (Empty d) b = on_connection d emptied b
 

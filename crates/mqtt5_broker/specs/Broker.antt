@@ -1,25 +1,49 @@
 -- What a broker keeps: the sessions of its clients, their names, and its connections (MQTT 5.0
--- sections 3.1.3.1, 3.1.2.11.2 and 4.1).
-use Rattle.std.specs.Prelude.{ℕ, nat_eq, Bool, false, List, [], ◌∷◌, ◌++◌, length}
-use Rattle.std.specs.Prelude.{Option, Some, None, is_none, slice_index_or, slice_set}
-use Rattle.std.specs.Prelude.{if◌then◌else◌}
+-- sections 3.1.2.11.2, 3.1.3.1, 3.1.3.2.2 and 4.1).
+use Rattle.std.specs.Prelude.{ℕ, ◌+◌, ◌==◌, nat_eq, min, max, Bool, false, not, List, [], ◌∷◌}
+use Rattle.std.specs.Prelude.{◌++◌, length, Option, Some, None, is_none, option_map}
+use Rattle.std.specs.Prelude.{slice_index_or, slice_set, if◌then◌else◌, codes}
+use Rattle.std.specs.Fmt.{decimal}
 use Rattle.std.specs.List.{position}
 use Rattle.std.specs.Cmp.Lexicographic.{pointwise}
-use Rattle.mqtt5_base.specs.Texts.{Utf8}
+use Rattle.mqtt5_base.specs.Texts.{Utf8, text_of}
 use Rattle.mqtt5_control.specs.declared.disconnect.DisconnectReasonCode.{DisconnectReasonCode}
-use Rattle.mqtt5_sessions.specs.Sessions.{Sessions, joins, loses, leaves, ends}
+use Rattle.mqtt5_sessions.specs.Sessions.{Sessions, joins, loses, leaves, ends, is_due}
+use Rattle.mqtt5_broker.specs.declared.bounds.Bounds.{Bounds}
 use Rattle.mqtt5_broker.specs.declared.member.Member.{Member}
-use Rattle.mqtt5_broker.specs.Connection.{Connection, told, with_connection}
+use Rattle.mqtt5_broker.specs.Moments.{seconds_after, has_come}
+use Rattle.mqtt5_broker.specs.Connection.{Connection, shut, told, with_connection}
+use Rattle.mqtt5_broker.specs.Connection.{connection_at}
 
 -- the sessions, numbered from 0; by the same numbers the client that has each, or none; the
--- connections; the greatest packet identifier that is used to a client (2.2.1); and the greatest
--- remaining length of what a client sends
+-- connections; the greatest packet identifier that is used to a client (2.2.1); the greatest
+-- remaining length of what a client sends; for how many milliseconds a connection may be open
+-- without a Connect, or 0 for any time; what may be kept at most; the last moment; and the number of
+-- the next name that a client is given
 pub record Broker : Type 0 where
   pub sessions : Sessions
   pub members : List (Option Member)
   pub connections : List Connection
   pub limit : ℕ
   pub longest : ℕ
+  pub wait : ℕ
+  pub bounds : Bounds
+  pub moment : ℕ
+  pub next_name : ℕ
+
+-- nothing is bounded
+abbrev pub no_bounds : Bounds
+no_bounds = record {
+  clients = 18446744073709551615;
+  subscriptions = 18446744073709551615;
+  retained = 18446744073709551615;
+  queued = 18446744073709551615;
+  bytes = 18446744073709551615;
+}
+
+-- a moment has come; an earlier one than the last is taken for that
+abbrev pub at_moment : ℕ → Broker → Broker
+at_moment at b = record b { moment = max at b.moment }
 
 -- ---- names
 
@@ -32,17 +56,82 @@ is_named name (Some m) = pointwise nat_eq m.name.bytes name.bytes
 abbrev pub number_of : Utf8 → List (Option Member) → Option ℕ
 number_of name ms = position (is_named name) ms
 
+-- the one of a number
+abbrev pub member_at : ℕ → List (Option Member) → Option Member
+member_at i ms = slice_index_or ms i None
+
+-- the name of a client, or nothing
+abbrev pub name_of : Option Member → List ℕ
+name_of None = []
+name_of (Some m) = m.name.bytes
+
+abbrev pub name_in : Option ℕ → List (Option Member) → List ℕ
+name_in None ms = []
+name_in (Some i) ms = name_of (member_at i ms)
+
+-- of the client of a connection
+abbrev pub name_at : ℕ → Broker → List ℕ
+name_at c b = name_in (connection_at c b.connections).client b.members
+
+-- the name that a client is given that says none, by its number, and the next one (3.1.3.1)
+abbrev pub assigned_name : ℕ → Utf8
+assigned_name n = text_of (codes "auto-" ++ decimal n)
+
+abbrev pub number_after : ℕ → ℕ
+number_after n = min (n + 1) 18446744073709551615
+
 -- a number that nobody has
 abbrev pub free_number : List (Option Member) → Option ℕ
 free_number ms = position is_none ms
 
+-- ---- how long a session stays
+
+-- whether it does when its connection ends (3.1.2.11.2)
 abbrev pub stays_of : Option Member → Bool
 stays_of None = false
-stays_of (Some m) = m.stays
+stays_of (Some m) = not (m.expiry == 0)
 
--- whether the session of a number stays
 abbrev pub stays_at : ℕ → List (Option Member) → Bool
-stays_at i ms = stays_of (slice_index_or ms i None)
+stays_at i ms = stays_of (member_at i ms)
+
+-- whether the moment has come at which it ends
+abbrev pub has_ended : ℕ → Option Member → Bool
+has_ended now None = false
+has_ended now (Some m) = has_come m.ends now
+
+-- whether the one has come at which its will is published, if that waits (3.1.3.2.2)
+abbrev pub will_is_due : ℕ → Option Member → Bool
+will_is_due now None = false
+will_is_due now (Some m) = has_come m.due now
+
+-- the moment at which it ends, of a client that goes away at another: 4294967295 seconds are no end
+abbrev pub end_of : ℕ → ℕ → Option ℕ
+end_of expiry at = if expiry == 4294967295 then None else Some (seconds_after expiry at)
+
+-- the one at which its will is published, if that has a delay (3.1.3.2.2)
+abbrev pub due_of : ℕ → ℕ → Option ℕ
+due_of delay at = if delay == 0 then None else Some (seconds_after delay at)
+
+-- it goes away
+abbrev pub away : ℕ → Member → Member
+away at m = record m { ends = end_of m.expiry at; due = due_of m.delay at }
+
+-- without its will
+abbrev pub gone : ℕ → Member → Member
+gone at m = record m { ends = end_of m.expiry at; due = None }
+
+-- another expiry (3.14.2.2.2)
+abbrev pub expiring : Option ℕ → Member → Member
+expiring None m = m
+expiring (Some expiry) m = record m { expiry = expiry }
+
+-- its will isn't due any more
+abbrev pub undue : Member → Member
+undue m = record m { due = None }
+
+-- one changes
+abbrev pub on_member : ℕ → (Member → Member) → List (Option Member) → List (Option Member)
+on_member i f ms = slice_set ms i (option_map f (member_at i ms))
 
 -- ---- connections
 
@@ -59,14 +148,26 @@ forgets i b = record b { sessions = ends i b.sessions; members = slice_set b.mem
 -- its connection is lost: its session stays, or ends (3.1.2.11.2)
 unfoldable pub loses_client : ℕ → Broker → Broker
 loses_client i b =
-    if stays_at i b.members then record b { sessions = loses i b.sessions } else forgets i b
+    if stays_at i b.members
+    then record b { sessions = loses i b.sessions; members = on_member i (away b.moment) b.members }
+    else forgets i b
 
 -- it leaves: the same, without its will (3.14.4)
 abbrev pub stays_or_ends : ℕ → Broker → Broker
-stays_or_ends i b = if stays_at i b.members then b else forgets i b
+stays_or_ends i b =
+    if stays_at i b.members
+    then record b { members = on_member i (gone b.moment) b.members }
+    else forgets i b
 
 unfoldable pub leaves_client : ℕ → Broker → Broker
 leaves_client i b = stays_or_ends i (record b { sessions = leaves i b.sessions })
+
+-- the will of one that is away is published (3.1.3.2.2)
+unfoldable pub publishes_will : ℕ → Broker → Broker
+publishes_will i b = record b {
+  sessions = is_due i b.sessions;
+  members = on_member i undue b.members;
+}
 
 -- a client is told why its connection ends, which is lost then (4.13)
 unfoldable pub refuses : ℕ → ℕ → DisconnectReasonCode → Broker → Broker
@@ -85,3 +186,16 @@ numbers m (Some i) b = record b { members = slice_set b.members i (Some m) }
 abbrev pub number_in : Option ℕ → Broker → ℕ
 number_in None b = length b.members
 number_in (Some i) b = i
+
+-- ---- connections that end
+
+-- one of a client, or of none, ends for a reason
+abbrev pub dismisses_of : Option ℕ → ℕ → DisconnectReasonCode → Broker → Broker
+dismisses_of None c reason b = on_connection c shut b
+dismisses_of (Some i) c reason b = refuses c i reason b
+
+-- so it does, where it is open
+unfoldable pub dismisses : ℕ → DisconnectReasonCode → Broker → Broker
+dismisses c reason b =
+    if (connection_at c b.connections).is_open
+    then dismisses_of (connection_at c b.connections).client c reason b else b

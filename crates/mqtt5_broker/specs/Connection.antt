@@ -1,4 +1,4 @@
--- What a broker keeps of a connection (MQTT 5.0 sections 3.1.2.11.4 and 4.2).
+-- What a broker keeps of a connection (MQTT 5.0 sections 3.1.2.10, 3.1.2.11.4 and 4.2).
 use Rattle.std.specs.Prelude.{ℕ, ◌==◌, Bool, true, false, List, [], ◌∷◌, ◌++◌, drop, Option, Some}
 use Rattle.std.specs.Prelude.{None, Result, Ok, Err, slice_index_or, slice_set, if◌then◌else◌}
 use Rattle.std.specs.List.{position}
@@ -7,27 +7,62 @@ use Rattle.mqtt5_control.specs.declared.disconnect.DisconnectReasonCode.{Disconn
 use Rattle.mqtt5_codec.specs.declared.packet.Packet.{Packet}
 use Rattle.mqtt5_codec.specs.declared.packet.Packet.TheVariants as packets
 use Rattle.mqtt5_codec.specs.Packets.{writing_under}
+use Rattle.mqtt5_broker.specs.Moments.{unless_zero}
 
 -- whether bytes of it are taken; the number of the client that connected on it; the longest packet
--- that this client takes; the bytes that came in and are no whole frame yet; and those to be sent
+-- that this client takes; the bytes that came in and are no whole frame yet; those to be sent; for
+-- how many milliseconds it may be silent, or 0 for any time; and the moment at which it was silent
+-- for too long, if it isn't heard before
 pub record Connection : Type 0 where
   pub is_open : Bool
   pub client : Option ℕ
   pub longest : Option ℕ
   pub held : List ℕ
   pub output : List ℕ
+  pub silence : ℕ
+  pub deadline : Option ℕ
 
 -- none
 abbrev pub closed : Connection
-closed = record { is_open = false; client = None; longest = None; held = []; output = [] }
+closed = record {
+  is_open = false;
+  client = None;
+  longest = None;
+  held = [];
+  output = [];
+  silence = 0;
+  deadline = None;
+}
 
--- one of which nothing came
-abbrev pub opened : Connection
-opened = record { is_open = true; client = None; longest = None; held = []; output = [] }
+-- one that begins at a moment, of which nothing came; it may be silent for so long
+abbrev pub opened : ℕ → ℕ → Connection
+opened silence at = record {
+  is_open = true;
+  client = None;
+  longest = None;
+  held = [];
+  output = [];
+  silence = silence;
+  deadline = unless_zero silence at;
+}
+
+-- it is heard at a moment (3.1.2.10)
+abbrev pub heard : ℕ → Connection → Connection
+heard at l = record l { deadline = unless_zero l.silence at }
+
+-- it is that of a client, which takes packets of this length at most, and may be silent for so long
+-- from a moment on
+abbrev pub taken_by : ℕ → Option ℕ → ℕ → ℕ → Connection → Connection
+taken_by i longest silence at l = record l {
+  client = Some i;
+  longest = longest;
+  silence = silence;
+  deadline = unless_zero silence at;
+}
 
 -- nothing more is taken of it; what was written is still to be sent
 abbrev pub shut : Connection → Connection
-shut l = record l { is_open = false; client = None; held = [] }
+shut l = record l { is_open = false; client = None; held = []; deadline = None }
 
 -- a packet is written to it; one that can't be written, or is longer than the client takes, isn't
 -- (3.1.2.11.4)

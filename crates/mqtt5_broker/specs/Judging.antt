@@ -12,9 +12,9 @@ use Rattle.mqtt5_subscribe.specs.declared.subscribe.SubscribeProperties.{Subscri
 use Rattle.mqtt5_connect.specs.declared.connect.Connect.{Connect}
 use Rattle.mqtt5_connect.specs.declared.connect.ConnectProperties.{ConnectProperties}
 use Rattle.mqtt5_connect.specs.declared.will.LastWill.{LastWill}
-use Rattle.mqtt5_connect.specs.declared.will.LastWillProperties.{LastWillProperties}
 use Rattle.mqtt5_control.specs.declared.connack.ConnectReturnCode.{ConnectReturnCode}
 use Rattle.mqtt5_control.specs.declared.connack.ConnectReturnCode.TheVariants as return_codes
+use Rattle.mqtt5_control.specs.declared.disconnect.DisconnectProperties.{DisconnectProperties}
 use Rattle.mqtt5_control.specs.declared.disconnect.DisconnectReasonCode.{DisconnectReasonCode}
 use Rattle.mqtt5_control.specs.declared.disconnect.DisconnectReasonCode.TheVariants as reasons
 use Rattle.mqtt5_codec.specs.declared.packet.Packet.{Packet}
@@ -88,6 +88,29 @@ packet_fault (packets.PingReq r) = None
 packet_fault (packets.Disconnect d) = None
 packet_fault other = Some reasons.ProtocolError
 
+-- a number that is 0 where it is left out
+abbrev pub is_zero_or_none : Option ℕ → Bool
+is_zero_or_none None = true
+is_zero_or_none (Some n) = n == 0
+
+-- after how many seconds the session is to end now, if a Disconnect says that (3.14.2.2.2)
+abbrev pub new_expiry : Option DisconnectProperties → Option ℕ
+new_expiry None = None
+new_expiry (Some set) = set.session_expiry_interval
+
+-- a session that ends with its connection can't stay by it
+abbrev pub expiry_fault : Bool → Option ℕ → Option DisconnectReasonCode
+expiry_fault stays expiry =
+    if stays || is_zero_or_none expiry then None else Some reasons.ProtocolError
+
+abbrev pub goodbye_fault : Bool → Packet → Option DisconnectReasonCode
+goodbye_fault stays (packets.Disconnect d) = expiry_fault stays (new_expiry d.properties)
+goodbye_fault stays other = None
+
+-- any packet of a client whose session stays when its connection ends, or doesn't
+abbrev pub client_fault : Bool → Packet → Option DisconnectReasonCode
+client_fault stays x = first_of (packet_fault x) (goodbye_fault stays x)
+
 -- ---- a Connect (3.1.2.11.3, 3.1.2.11.4, 3.1.3.1, 4.12)
 
 -- whether a number that may be left out is 0
@@ -95,35 +118,25 @@ abbrev pub is_zero : Option ℕ → Bool
 is_zero None = false
 is_zero (Some n) = n == 0
 
--- the same of one that is 0 where it is left out
-abbrev pub is_zero_or_none : Option ℕ → Bool
-is_zero_or_none None = true
-is_zero_or_none (Some n) = n == 0
+-- too short for the answer to a Connect, which has up to fourteen bytes, and up to 42 with a name
+-- that is given
+abbrev pub is_short : ℕ → Option ℕ → Bool
+is_short least None = false
+is_short least (Some n) = nat_lt n least
 
--- too short for the answer to a Connect, which has up to nineteen bytes
-abbrev pub is_short : Option ℕ → Bool
-is_short None = false
-is_short (Some n) = nat_lt n 19
-
-abbrev pub settings_fault : Option ConnectProperties → Option ConnectReturnCode
-settings_fault None = None
-settings_fault (Some set) =
+abbrev pub settings_fault : ℕ → Option ConnectProperties → Option ConnectReturnCode
+settings_fault least None = None
+settings_fault least (Some set) =
     if is_zero set.receive_maximum || is_zero set.max_packet_size
     then Some return_codes.ProtocolError
-    else if is_short set.max_packet_size then Some return_codes.PacketTooLarge
+    else if is_short least set.max_packet_size then Some return_codes.PacketTooLarge
     else if is_some set.authentication_method then Some return_codes.BadAuthenticationMethod
     else None
 
--- a will's topic is one (3.1.3.3), and this broker takes none with a delay (3.1.3.2.2)
-abbrev pub is_delayed : Option LastWillProperties → Bool
-is_delayed None = false
-is_delayed (Some set) = not (is_zero_or_none set.delay_interval)
-
+-- a will's topic is one (3.1.3.3)
 abbrev pub will_fault : Option LastWill → Option ConnectReturnCode
 will_fault None = None
-will_fault (Some w) =
-    if is_delayed w.properties then Some return_codes.ImplementationSpecificError
-    else if is_topic w.topic then None else Some return_codes.TopicNameInvalid
+will_fault (Some w) = if is_topic w.topic then None else Some return_codes.TopicNameInvalid
 
 -- the one, if there is one, and otherwise the other
 abbrev pub first_code : Option ConnectReturnCode → Option ConnectReturnCode
@@ -131,8 +144,10 @@ abbrev pub first_code : Option ConnectReturnCode → Option ConnectReturnCode
 first_code (Some code) other = Some code
 first_code None other = other
 
--- this broker takes no client without a name
+-- the length that the answer needs
+abbrev pub answer_length : Connect → ℕ
+answer_length k = if length k.client_id.bytes == 0 then 42 else 14
+
 abbrev pub connect_fault : Connect → Option LastWill → Option ConnectReturnCode
 connect_fault k will =
-    if length k.client_id.bytes == 0 then Some return_codes.ClientIdentifierNotValid
-    else first_code (will_fault will) (settings_fault k.properties)
+    first_code (will_fault will) (settings_fault (answer_length k) k.properties)

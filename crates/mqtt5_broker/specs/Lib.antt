@@ -1,8 +1,12 @@
 pub mod Cut
+pub mod Moments
 pub mod Connection
 pub mod Broker
 pub mod Wills
 pub mod Judging
+pub mod Clock
+pub mod Bounds
 pub mod Serving
 pub mod Receiving
 pub mod Acts
+pub mod Standing

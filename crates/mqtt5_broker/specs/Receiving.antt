@@ -7,9 +7,9 @@ use Rattle.mqtt5_control.specs.declared.disconnect.DisconnectReasonCode.{Disconn
 use Rattle.mqtt5_control.specs.declared.disconnect.DisconnectReasonCode.TheVariants as reasons
 use Rattle.mqtt5_codec.specs.declared.packet.Packet.{Packet}
 use Rattle.mqtt5_broker.specs.Cut.{Cut, Ending, Holds, Breaks, cut_up}
-use Rattle.mqtt5_broker.specs.Connection.{Connection, closed, opened, shut, emptied, holding}
+use Rattle.mqtt5_broker.specs.Connection.{Connection, closed, opened, emptied, holding}
 use Rattle.mqtt5_broker.specs.Connection.{connection_at}
-use Rattle.mqtt5_broker.specs.Broker.{Broker, on_connection, loses_client, refuses}
+use Rattle.mqtt5_broker.specs.Broker.{Broker, at_moment, on_connection, loses_client, dismisses}
 use Rattle.mqtt5_broker.specs.Serving.{takes}
 
 -- ---- bytes
@@ -24,17 +24,10 @@ abbrev pub reason_for : Error → DisconnectReasonCode
 reason_for (PayloadSizeLimitExceeded n max) = reasons.PacketTooLarge
 reason_for other = reasons.MalformedPacket
 
--- it ends so: a client that is connected is told why
-abbrev pub breaks_of : Option ℕ → ℕ → Error → Broker → Broker
-breaks_of None c e b = on_connection c shut b
-breaks_of (Some i) c e b = refuses c i (reason_for e) b
-
-abbrev pub breaks_at : Connection → ℕ → Error → Broker → Broker
-breaks_at l c e b = if l.is_open then breaks_of l.client c e b else b
-
+-- bytes are held, or a fault ends it: a client that is connected is told why
 abbrev pub ends_with : ℕ → Ending → Broker → Broker
 ends_with c (Holds held) b = on_connection c (holding held) b
-ends_with c (Breaks e) b = breaks_at (connection_at c b.connections) c e b
+ends_with c (Breaks e) b = dismisses c (reason_for e) b
 
 -- the packets of a stream come, and what is left is held, or its fault ends the connection
 abbrev pub comes_of : ℕ → Cut → Broker → Broker
@@ -47,21 +40,31 @@ receives_at l c bytes b =
     (on_connection c emptied b)
     else b
 
-unfoldable pub receives : ℕ → List ℕ → Broker → Broker
-receives c bytes b = receives_at (connection_at c b.connections) c bytes b
+unfoldable pub receives_now : ℕ → List ℕ → Broker → Broker
+receives_now c bytes b = receives_at (connection_at c b.connections) c bytes b
+
+-- at a moment
+abbrev pub receives : ℕ → ℕ → List ℕ → Broker → Broker
+receives at c bytes b = receives_now c bytes (at_moment at b)
 
 -- ---- connections
 
 -- one begins, in place of what was there
-abbrev pub opens : ℕ → Broker → Broker
-opens c b =
+abbrev pub opens_now : ℕ → Broker → Broker
+opens_now c b =
     if (connection_at c b.connections).is_open then b
-    else on_connection c (λ (l : Connection). opened) b
+    else on_connection c (λ (l : Connection). opened b.wait b.moment) b
+
+abbrev pub opens : ℕ → ℕ → Broker → Broker
+opens at c b = opens_now c (at_moment at b)
 
 -- its transport has ended: the client's connection is lost
 abbrev pub closes_of : Option ℕ → ℕ → Broker → Broker
 closes_of None c b = on_connection c (λ (l : Connection). closed) b
 closes_of (Some i) c b = on_connection c (λ (l : Connection). closed) (loses_client i b)
 
-unfoldable pub closes : ℕ → Broker → Broker
-closes c b = closes_of (connection_at c b.connections).client c b
+unfoldable pub closes_now : ℕ → Broker → Broker
+closes_now c b = closes_of (connection_at c b.connections).client c b
+
+abbrev pub closes : ℕ → ℕ → Broker → Broker
+closes at c b = closes_now c (at_moment at b)

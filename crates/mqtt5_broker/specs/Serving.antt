@@ -1,7 +1,8 @@
--- What a broker makes of the packets of its clients (MQTT 5.0 sections 3.1.4, 3.2, 3.12, 3.14 and
--- 4.13).
-use Rattle.std.specs.Prelude.{ℕ, ◌==◌, Bool, true, false, not, ◌||◌, List, [], ◌∷◌, Option, Some}
-use Rattle.std.specs.Prelude.{None, option_map, if◌then◌else◌, slice_set}
+-- What a broker makes of the packets of its clients (MQTT 5.0 sections 3.1.2.10, 3.1.4, 3.2, 3.12,
+-- 3.14 and 4.13).
+use Rattle.std.specs.Prelude.{ℕ, ◌*◌, ◌==◌, Bool, true, false, not, ◌||◌, List, [], ◌∷◌}
+use Rattle.std.specs.Prelude.{Option, Some, None, option_map, if◌then◌else◌, slice_set, length}
+use Rattle.mqtt5_base.specs.Texts.{Utf8}
 use Rattle.mqtt5_connect.specs.declared.connect.Connect.{Connect}
 use Rattle.mqtt5_connect.specs.declared.connect.ConnectProperties.{ConnectProperties}
 use Rattle.mqtt5_connect.specs.declared.will.LastWill.{LastWill}
@@ -19,12 +20,14 @@ use Rattle.mqtt5_broker.specs.declared.member.Member.{Member}
 use Rattle.mqtt5_broker.specs.declared.serving.Kind.{Kind}
 use Rattle.mqtt5_broker.specs.declared.serving.Kind.TheVariants as kinds
 use Rattle.mqtt5_broker.specs.Connection.{Connection, written, written_all, shut, told}
-use Rattle.mqtt5_broker.specs.Connection.{connection_at, connection_of}
-use Rattle.mqtt5_broker.specs.Broker.{Broker, number_of, free_number, on_connection}
-use Rattle.mqtt5_broker.specs.Broker.{loses_client, leaves_client, refuses, stays_at}
-use Rattle.mqtt5_broker.specs.Broker.{numbers, number_in}
-use Rattle.mqtt5_broker.specs.Wills.{will_of}
-use Rattle.mqtt5_broker.specs.Judging.{packet_fault, connect_fault}
+use Rattle.mqtt5_broker.specs.Connection.{connection_at, connection_of, heard, taken_by}
+use Rattle.mqtt5_broker.specs.Broker.{Broker, number_of, free_number, on_connection, on_member}
+use Rattle.mqtt5_broker.specs.Broker.{loses_client, leaves_client, refuses, stays_at, expiring}
+use Rattle.mqtt5_broker.specs.Broker.{member_at, has_ended, numbers, number_in}
+use Rattle.mqtt5_broker.specs.Broker.{assigned_name, number_after}
+use Rattle.mqtt5_broker.specs.Wills.{will_of, delay_in}
+use Rattle.mqtt5_broker.specs.Judging.{first_of, client_fault, connect_fault, new_expiry}
+use Rattle.mqtt5_broker.specs.Bounds.{has_room, quota_fault}
 
 -- ---- a client that is connected
 
@@ -39,20 +42,23 @@ abbrev pub goes : DisconnectReasonCode → ℕ → Broker → Broker
 goes reasons.NormalDisconnection i b = leaves_client i b
 goes other i b = loses_client i b
 
-unfoldable pub disconnects : ℕ → ℕ → DisconnectReasonCode → Broker → Broker
-disconnects c i reason b = on_connection c shut (goes reason i b)
+-- and its session ends after so many seconds, where it says so (3.14.2.2.2)
+unfoldable pub disconnects : ℕ → ℕ → DisconnectReasonCode → Option ℕ → Broker → Broker
+disconnects c i reason expiry b =
+    on_connection c shut
+    (goes reason i (record b { members = on_member i (expiring expiry) b.members }))
 
 -- what a packet asks for: an answer (3.12), the end of the connection (3.14), or something of the
 -- client's session
 abbrev pub kind_of : Packet → Kind
 kind_of (packets.PingReq r) = kinds.Ping
-kind_of (packets.Disconnect d) = kinds.Goodbye d.reason_code
+kind_of (packets.Disconnect d) = kinds.Goodbye d.reason_code (new_expiry d.properties)
 kind_of other = kinds.Message
 
 -- a packet that isn't refused
 abbrev pub serves_as : Kind → ℕ → ℕ → Packet → Broker → Broker
 serves_as kinds.Ping c i x b = on_connection c (written (packets.PingResp (record {}))) b
-serves_as (kinds.Goodbye reason) c i x b = disconnects c i reason b
+serves_as (kinds.Goodbye reason expiry) c i x b = disconnects c i reason expiry b
 serves_as kinds.Message c i x b = arrives_from c i x b
 
 -- one that may be
@@ -60,16 +66,20 @@ abbrev pub serves_by : Option DisconnectReasonCode → ℕ → ℕ → Packet �
 serves_by (Some reason) c i x b = refuses c i reason b
 serves_by None c i x b = serves_as (kind_of x) c i x b
 
+-- why one is refused, if it is: by itself, or since it asks for more than may be kept
+unfoldable pub fault_of : ℕ → Packet → Broker → Option DisconnectReasonCode
+fault_of i x b = first_of (client_fault (stays_at i b.members) x) (quota_fault x b)
+
 unfoldable pub serves : ℕ → ℕ → Packet → Broker → Broker
-serves c i x b = serves_by (packet_fault x) c i x b
+serves c i x b = serves_by (fault_of i x b) c i x b
 
 -- ---- a Connect
 
--- what it says of its session: after how many seconds that ends (3.1.2.11.2)
 abbrev pub or_else : ℕ → Option ℕ → ℕ
 or_else n None = n
 or_else n (Some m) = m
 
+-- what it says of its session: after how many seconds that ends (3.1.2.11.2)
 abbrev pub expiry_of : Option ConnectProperties → ℕ
 expiry_of None = 0
 expiry_of (Some set) = or_else 0 set.session_expiry_interval
@@ -84,37 +94,46 @@ abbrev pub longest_of : Option ConnectProperties → Option ℕ
 longest_of None = None
 longest_of (Some set) = set.max_packet_size
 
-abbrev pub member_of : Connect → Member
-member_of k = record { name = k.client_id; stays = not (expiry_of k.properties == 0) }
+-- for how many milliseconds it may be silent: one and a half times its keep alive (3.1.2.10)
+abbrev pub silence_of : Connect → ℕ
+silence_of k = 1500 * k.keep_alive
 
--- The Session Expiry Interval that is used, where it is another than the client's: a session that
--- doesn't end with its connection stays (3.2.2.3.2).
-abbrev pub kept_expiry : ℕ → Option ℕ
-kept_expiry seconds =
-    if seconds == 0 || seconds == 4294967295 then None else Some 4294967295
+-- by what it is known that says this
+abbrev pub member_of : Connect → Option LastWill → Member
+member_of k will = record {
+  name = k.client_id;
+  expiry = expiry_of k.properties;
+  delay = delay_in will;
+  ends = None;
+  due = None;
+}
 
 -- the longest packet that is taken (3.2.2.3.6)
 abbrev pub some_length : ℕ → Option ℕ
 some_length n = if n == 0 then None else Some n
 
+-- the name that the client is given, if it said none (3.2.2.3.7)
+abbrev pub given_name : Bool → Utf8 → Option Utf8
+given_name given name = if given then Some name else None
+
 -- what a ConnAck says: these, and that there are no subscription identifiers (3.2.2.3.12) and no
 -- shared subscriptions (3.2.2.3.13)
-abbrev pub offers : ℕ → Connect → ConnAckProperties
-offers longest k = record no_connack_properties {
-  session_expiry_interval = kept_expiry (expiry_of k.properties);
+abbrev pub offers : ℕ → Bool → Connect → ConnAckProperties
+offers longest given k = record no_connack_properties {
   max_packet_size = some_length longest;
+  assigned_client_identifier = given_name given k.client_id;
   subscription_identifiers_available = Some 0;
   shared_subscription_available = Some 0;
 }
 
 -- whether the broker has a session of the client (3.2.2.1.1)
-abbrev pub connack : ℕ → Bool → Connect → Packet
-connack longest present k =
+abbrev pub connack : ℕ → Bool → Bool → Connect → Packet
+connack longest present given k =
     packets.ConnAck
     (record {
       session_present = present;
       code = return_codes.Success;
-      properties = Some (offers longest k);
+      properties = Some (offers longest given k);
     })
 
 -- why it isn't taken (3.2.2.2)
@@ -122,19 +141,19 @@ abbrev pub refusal : ConnectReturnCode → Packet
 refusal code =
     packets.ConnAck (record { session_present = false; code = code; properties = None })
 
--- the connection is that of a client
-abbrev pub taken_by : ℕ → Connect → Connection → Connection
-taken_by i k l = record l { client = Some i; longest = longest_of k.properties }
+-- the first packets to a client that is taken: the answer, and what its session sends again (4.4)
+abbrev pub welcome : ℕ → Bool → Bool → Connect → Broker → List Packet
+welcome i present given k b =
+    connack b.longest present given k
+    ∷ sent_again i (Some (receive_max_of k.properties)) b.sessions
 
--- a client is taken, and sent what its session sends again (4.4)
-unfoldable pub comes_in : ℕ → ℕ → Bool → Connect → Option LastWill → Broker → Broker
-comes_in c i present k will b =
+-- it is taken, and sent these
+unfoldable pub comes_in : ℕ → ℕ → Bool → Bool → Connect → Option LastWill → Broker → Broker
+comes_in c i present given k will b =
     on_connection c
     (λ (l : Connection).
-    written_all
-    (connack b.longest present k
-    ∷ sent_again i (Some (receive_max_of k.properties)) b.sessions)
-    (taken_by i k l))
+    written_all (welcome i present given k b)
+    (taken_by i (longest_of k.properties) (silence_of k) b.moment l))
     (record b {
       sessions =
           comes i (Some (receive_max_of k.properties)) (option_map will_of will) b.sessions;
@@ -149,39 +168,63 @@ unfoldable pub displaces : ℕ → Broker → Broker
 displaces i b = displaced (connection_of i b.connections) b
 
 -- whether its session starts anew: it asks for that (3.1.2.4), or the one that it has ends with its
--- connection (3.1.2.11.2)
+-- connection, or should have ended by now (3.1.2.11.2)
 abbrev pub starts_anew : ℕ → Connect → Broker → Bool
-starts_anew i k b = k.clean_start || not (stays_at i b.members)
+starts_anew i k b =
+    k.clean_start || not (stays_at i b.members) || has_ended b.moment (member_at i b.members)
 
 -- then that one ends; and it is known by what it says now
-unfoldable pub begins : ℕ → Bool → Connect → Broker → Broker
-begins i anew k b = record b {
+unfoldable pub begins : ℕ → Bool → Connect → Option LastWill → Broker → Broker
+begins i anew k will b = record b {
   sessions = if anew then ends i b.sessions else b.sessions;
-  members = slice_set b.members i (Some (member_of k));
+  members = slice_set b.members i (Some (member_of k will));
 }
 
 -- one that is known
 abbrev pub returns : ℕ → ℕ → Connect → Option LastWill → Broker → Broker
 returns c i k will b =
-    comes_in c i (not (starts_anew i k b)) k will (begins i (starts_anew i k b) k (displaces i b))
+    comes_in c i (not (starts_anew i k b)) false k will
+    (begins i (starts_anew i k b) k will (displaces i b))
 
--- one that isn't
-unfoldable pub enters : ℕ → Connect → Option LastWill → Broker → Broker
-enters c k will b =
-    comes_in c (number_in (free_number b.members) b) false k will
-    (numbers (member_of k) (free_number b.members) b)
+-- one that isn't, which may have been given its name
+unfoldable pub enters : ℕ → Bool → Connect → Option LastWill → Broker → Broker
+enters c given k will b =
+    comes_in c (number_in (free_number b.members) b) false given k will
+    (numbers (member_of k will) (free_number b.members) b)
+
+-- a Connect is refused
+abbrev pub turns_away : ℕ → ConnectReturnCode → Broker → Broker
+turns_away c code b = on_connection c (λ (l : Connection). shut (written (refusal code) l)) b
+
+-- one more client enters, where there is room for it
+abbrev pub enters_if_room : ℕ → Bool → Connect → Option LastWill → Broker → Broker
+enters_if_room c given k will b =
+    if has_room b then enters c given k will b
+    else turns_away c return_codes.QuotaExceeded b
+
+-- one that says no name is given the next one, unless somebody has that (3.1.3.1)
+abbrev pub assigns_by : Option ℕ → ℕ → Connect → Option LastWill → Broker → Broker
+assigns_by (Some i) c k will b = turns_away c return_codes.ServerBusy b
+assigns_by None c k will b = enters_if_room c true k will b
+
+unfoldable pub assigns : ℕ → Connect → Option LastWill → Broker → Broker
+assigns c k will b =
+    assigns_by (number_of (assigned_name b.next_name) b.members) c
+    (record k { client_id = assigned_name b.next_name }) will
+    (record b { next_name = number_after b.next_name })
 
 abbrev pub admits_as : Option ℕ → ℕ → Connect → Option LastWill → Broker → Broker
 admits_as (Some i) c k will b = returns c i k will b
-admits_as None c k will b = enters c k will b
+admits_as None c k will b = enters_if_room c false k will b
 
 -- one that isn't refused
 unfoldable pub admits : ℕ → Connect → Option LastWill → Broker → Broker
-admits c k will b = admits_as (number_of k.client_id b.members) c k will b
+admits c k will b =
+    if length k.client_id.bytes == 0 then assigns c k will b
+    else admits_as (number_of k.client_id b.members) c k will b
 
 abbrev pub connects_by : Option ConnectReturnCode → ℕ → Connect → Option LastWill → Broker → Broker
-connects_by (Some code) c k will b =
-    on_connection c (λ (l : Connection). shut (written (refusal code) l)) b
+connects_by (Some code) c k will b = turns_away c code b
 connects_by None c k will b = admits c k will b
 
 unfoldable pub connects : ℕ → Connect → Option LastWill → Broker → Broker
@@ -198,9 +241,10 @@ abbrev pub takes_of : Option ℕ → ℕ → Packet → Broker → Broker
 takes_of None c x b = begins_with c x b
 takes_of (Some i) c x b = serves c i x b
 
--- on a connection that takes none it does nothing
+-- on a connection that takes none it does nothing; and otherwise that is heard
 abbrev pub takes_at : Connection → ℕ → Packet → Broker → Broker
-takes_at l c x b = if l.is_open then takes_of l.client c x b else b
+takes_at l c x b =
+    if l.is_open then takes_of l.client c x (on_connection c (heard b.moment) b) else b
 
 unfoldable pub takes : ℕ → Packet → Broker → Broker
 takes c x b = takes_at (connection_at c b.connections) c x b

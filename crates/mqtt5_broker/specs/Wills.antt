@@ -1,6 +1,6 @@
 -- What a broker publishes in a client's name once its connection is lost (MQTT 5.0 sections 3.1.2.5
 -- and 3.1.3.2).
-use Rattle.std.specs.Prelude.{false, option_map}
+use Rattle.std.specs.Prelude.{ℕ, ◌==◌, false, not, Option, Some, None, option_map}
 use Rattle.mqtt5_publish.specs.declared.publish.Publish.{Publish}
 use Rattle.mqtt5_publish.specs.declared.publish.PublishProperties.{PublishProperties}
 use Rattle.mqtt5_publish.specs.Publishes.{no_publish_properties}
@@ -31,6 +31,23 @@ published_by w = record {
   properties = option_map published_properties w.properties;
 }
 
--- the will of a connection: it has no delay
+-- after how many seconds (3.1.3.2.2)
+abbrev pub or_zero : Option ℕ → ℕ
+or_zero None = 0
+or_zero (Some n) = n
+
+abbrev pub delay_of : Option LastWillProperties → ℕ
+delay_of None = 0
+delay_of (Some set) = or_zero set.delay_interval
+
+-- of the will of a connection, if it has one
+abbrev pub delay_in : Option LastWill → ℕ
+delay_in None = 0
+delay_in (Some w) = delay_of w.properties
+
+-- the will of a connection
 abbrev pub will_of : LastWill → Will
-will_of w = record { publish = published_by w; delayed = false }
+will_of w = record {
+  publish = published_by w;
+  delayed = not (delay_of w.properties == 0);
+}

@@ -1,16 +1,17 @@
 //! A broker: bytes of connections in, bytes for connections out.
 
-ghost use Rattle.std.specs.Prelude.{◌≡◌, [], Some, not, nat_lt, ◌&&◌, ◌⊎◌, length, replicate, OnOk, OnErr, IfOk, IfErr};
+ghost use Rattle.std.specs.Prelude.{◌≡◌, [], Some, not, nat_lt, ◌&&◌, ◌⊎◌, length, max, replicate, OnOk, OnErr, IfOk, IfErr};
 ghost use Rattle.std.specs.NonZero.{non_zero_u16_get};
 ghost use Rattle.mqtt5_broker.specs.Cut.{cut_up, Holds, Breaks};
 ghost use Rattle.mqtt5_broker.specs.Connection.{closed, with_sent, connection_at};
-ghost use Rattle.mqtt5_broker.specs.Broker.{on_connection};
+ghost use Rattle.mqtt5_broker.specs.Broker.{no_bounds, at_moment, on_connection, name_at};
 ghost use Rattle.mqtt5_broker.specs.Serving.{passes_on, sent_of, has_any};
-ghost use Rattle.mqtt5_broker.specs.Receiving.{comes_of, receives, opens, closes, ends_with, reason_for};
+ghost use Rattle.mqtt5_broker.specs.Receiving.{comes_of, receives_now, receives, opens_now, opens, closes_now, closes, ends_with, reason_for};
 
+use crate::bounds::{Bounds, no_bounds};
 use crate::connection::Connection;
-use crate::connections::{client_at, hold_at, is_open_at, shut_at, write_some_at};
-use crate::member::Member;
+use crate::connections::{client_at, hold_at, is_open_at, write_some_at};
+use crate::member::{Member, name_in};
 use bytes::BytesMut;
 use mqtt5_base::{Error, front_laws};
 use mqtt5_codec::{Codec, frame_laws};
@@ -31,6 +32,8 @@ pub struct Limits {
     /// The greatest packet identifier that is used to a client, and so how many publishes of QoS 1 and 2 it is sent ahead of
     /// their acks at most (2.2.1).
     pub ids: NonZeroU16,
+    /// For how many milliseconds a connection may be open without a Connect; 0 is any time (3.1.4).
+    pub wait: u32,
 }
 
 /// A broker: the sessions of its clients, who has them, and its connections, which are numbers of the caller's (MQTT 5.0 section 4).
@@ -41,6 +44,10 @@ pub struct Broker {
     pub(super) connections: Vec<Connection>,
     pub(super) limit: NonZeroU16,
     pub(super) longest: u32,
+    pub(super) wait: u32,
+    pub(super) bounds: Bounds,
+    pub(super) moment: u64,
+    pub(super) next_name: u64,
 }
 
 impl Model for Broker {
@@ -66,6 +73,10 @@ impl Model for Broker {
       connections = a.connections.items;
       limit = non_zero_u16_get a.limit;
       longest = a.longest;
+      wait = a.wait;
+      bounds = a.bounds;
+      moment = a.moment;
+      next_name = a.next_name;
     } };
 }
 
@@ -91,7 +102,7 @@ fn reason_for(error: &Error) -> DisconnectReasonCode
 }
 
 impl Broker {
-    /// A broker without a client. Err where memory is refused.
+    /// A broker without a client, of which nothing else is bounded yet. Err where memory is refused.
     pub fn new(alloc: Global, limits: &Limits) -> Result<Broker, AllocError>
         ensures { IfOk result (λ b. b ≡ record {
           sessions = record { clients = []; retained = [] };
@@ -99,6 +110,10 @@ impl Broker {
           connections = replicate limits.now.connections closed;
           limit = non_zero_u16_get limits.now.ids;
           longest = limits.now.longest;
+          wait = limits.now.wait;
+          bounds = no_bounds;
+          moment = 0;
+          next_name = 0;
         }) }
     {
         Ok(Broker {
@@ -107,24 +122,36 @@ impl Broker {
             connections: none_of(alloc, limits.connections)?,
             limit: limits.ids,
             longest: limits.longest,
+            wait: limits.wait,
+            bounds: no_bounds(),
+            moment: 0,
+            next_name: 0,
         })
     }
 
-    /// A connection begins. Whether it does: not where one of that number is open, or there is no such number. What was still to be
-    /// sent on one that isn't open is dropped. Takes no memory.
-    pub fn open(&mut self, alloc: Global, connection: usize) -> bool
-        ensures opened { self.new ≡ opens connection self.old }
+    /// A moment has come; an earlier one than the last is taken for that.
+    pub(super) fn set_moment(&mut self, at: u64)
+        ensures { self.new ≡ at_moment at self.old }
+    {
+        self.moment = at.max(self.moment);
+    }
+
+    /// A connection begins at a moment. Whether it does: not where one of that number is open, or there is no such number. What was
+    /// still to be sent on one that isn't open is dropped. Takes no memory.
+    pub fn open(&mut self, alloc: Global, connection: usize, at: u64) -> bool
+        ensures opened { self.new ≡ opens at connection self.old }
         ensures begins { result
             ≡ (nat_lt connection (length self.old.connections)
             && not (connection_at connection self.old.connections).is_open) }
     {
+        self.set_moment(at);
         if connection >= self.connections.len() {
             return false;
         }
         if self.connections[connection].is_open() {
             return false;
         }
-        self.connections[connection] = Connection::opened(alloc);
+        self.connections[connection] = Connection::opened(alloc, self.wait, self.moment);
         true
     }
 
@@ -133,6 +160,14 @@ impl Broker {
         ensures { result ≡ (connection_at connection self.now.connections).is_open }
     {
         is_open_at(self.connections.as_slice(), connection)
+    }
+
+    /// The identifier of a connection's client; nothing where it has none.
+    pub fn client_name(&self, connection: usize) -> &str
+        ensures { result.now ≡ name_at connection self.now }
+    {
+        let client = client_at(self.connections.as_slice(), connection);
+        name_in(client, self.members.as_slice())
     }
 
     /// The bytes that are to be sent on a connection.
@@ -154,11 +189,21 @@ impl Broker {
         }
     }
 
-    /// A connection has ended: its client's connection is lost, whose session stays or ends, and its number is free (3.1.2.11.2).
-    /// S12, which leaves all as it was.
-    #[tactic(auto, unfolding(crate::specs::Receiving::closes))]
-    pub fn close(&mut self, alloc: Global, connection: usize) -> Result<(), StateError>
-        ensures ok { OnOk result (self.new ≡ closes connection self.old) }
+    /// A connection has ended at a moment: its client's connection is lost, whose session stays or ends, and its number is free
+    /// (3.1.2.11.2). S12, which leaves all as it was, but for the moment.
+    pub fn close(&mut self, alloc: Global, connection: usize, at: u64) -> Result<(), StateError>
+        ensures ok { OnOk result (self.new ≡ closes at connection self.old) }
+        ensures memory { IfErr result (λ e. e ≡ StateError.OutOfMemory) }
+        ensures left { OnErr result (self.new ≡ at_moment at self.old) }
+    {
+        self.set_moment(at);
+        self.close_now(alloc, connection)
+    }
+
+    /// It has ended now. S12, which leaves all as it was.
+    #[tactic(auto, unfolding(crate::specs::Receiving::closes_now))]
+    fn close_now(&mut self, alloc: Global, connection: usize) -> Result<(), StateError>
+        ensures ok { OnOk result (self.new ≡ closes_now connection self.old) }
         ensures memory { IfErr result (λ e. e ≡ StateError.OutOfMemory) }
         ensures left { OnErr result (self.new ≡ self.old) }
     {
@@ -192,17 +237,32 @@ impl Broker {
         Ok(some)
     }
 
-    /// Bytes come on a connection, in any pieces: each packet that is whole with them is taken, up to the first fault, which
-    /// ends the connection, and no other. Where bytes of it aren't taken it does nothing. S12: the connection is to be closed
-    /// then.
-    #[tactic(auto, unfolding(crate::specs::Receiving::receives))]
+    /// Bytes come on a connection at a moment, in any pieces: each packet that is whole with them is taken, up to the first fault,
+    /// which ends the connection, and no other. Where bytes of it aren't taken it does nothing. S12: the connection is to be
+    /// closed then.
     pub fn receive(
         &mut self,
         alloc: Global,
         connection: usize,
         bytes: &[u8],
+        at: u64,
     ) -> Result<(), StateError>
-        ensures ok { OnOk result (self.new ≡ receives connection bytes.now self.old) }
+        ensures ok { OnOk result (self.new ≡ receives at connection bytes.now self.old) }
+        ensures memory { IfErr result (λ e. e ≡ StateError.OutOfMemory) }
+    {
+        self.set_moment(at);
+        self.receive_now(alloc, connection, bytes)
+    }
+
+    /// They come now. S12.
+    #[tactic(auto, unfolding(crate::specs::Receiving::receives_now))]
+    fn receive_now(
+        &mut self,
+        alloc: Global,
+        connection: usize,
+        bytes: &[u8],
+    ) -> Result<(), StateError>
+        ensures ok { OnOk result (self.new ≡ receives_now connection bytes.now self.old) }
         ensures memory { IfErr result (λ e. e ≡ StateError.OutOfMemory) }
     {
         let connections = self.connections.as_slice();
@@ -233,7 +293,7 @@ impl Broker {
             }
             Err(Error::OutOfMemory) => Err(StateError::OutOfMemory),
             Err(error) => {
-                self.break_off(alloc, connection, error)?;
+                self.dismiss(alloc, connection, reason_for(&error))?;
                 Ok(())
             }
         }
@@ -266,30 +326,5 @@ impl Broker {
             };
         }
         Ok(())
-    }
-
-    /// A fault of its bytes ends a connection: a client that is connected is told why. S12.
-    fn break_off(
-        &mut self,
-        alloc: Global,
-        connection: usize,
-        error: Error,
-    ) -> Result<(), StateError>
-        ensures ok { OnOk result (self.new ≡ ends_with connection (Breaks error) self.old) }
-        ensures memory { IfErr result (λ e. e ≡ StateError.OutOfMemory) }
-    {
-        if !is_open_at(self.connections.as_slice(), connection) {
-            return Ok(());
-        }
-        match client_at(self.connections.as_slice(), connection) {
-            Some(client) => {
-                self.refuse(alloc, connection, client, reason_for(&error))?;
-                Ok(())
-            }
-            None => {
-                shut_at(&mut self.connections, connection);
-                Ok(())
-            }
-        }
     }
 }

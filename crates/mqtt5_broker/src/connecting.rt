@@ -1,39 +1,31 @@
 //! What a broker makes of the first packet of a connection.
 
-ghost use Rattle.std.specs.Prelude.{◌≡◌, Some, None, OnOk, OnErr, IfOk, IfErr, Bool, not};
+ghost use Rattle.std.specs.Prelude.{◌≡◌, ◌∷◌, Some, None, OnOk, OnErr, IfOk, IfErr, Bool, false, not, length, ◌==◌, if◌then◌else◌};
 ghost use Rattle.mqtt5_control.specs.declared.disconnect.DisconnectReasonCode.TheVariants as reasons;
 ghost use Rattle.mqtt5_codec.specs.declared.packet.Packet.TheVariants as packets;
 ghost use Rattle.mqtt5_broker.specs.declared.member.Member.{Member};
-ghost use Rattle.mqtt5_broker.specs.Connection.{Connection, shut, written};
-ghost use Rattle.mqtt5_broker.specs.Broker.{on_connection, numbers, number_in, free_number};
-ghost use Rattle.mqtt5_broker.specs.Serving.{kept_expiry, some_length, offers, connack, refusal, comes_in, displaced, displaces, begins, returns, enters, admits_as, admits, connects, begins_with, takes, takes_of};
+ghost use Rattle.mqtt5_broker.specs.Connection.{Connection, shut, written, written_all, heard, taken_by};
+ghost use Rattle.mqtt5_broker.specs.Broker.{on_connection, numbers, number_in, number_of, free_number, assigned_name, number_after};
+ghost use Rattle.mqtt5_broker.specs.Serving.{longest_of, silence_of, some_length, given_name, offers, connack, refusal, welcome, comes_in, displaced, displaces, begins, returns, enters, turns_away, enters_if_room, assigns_by, assigns, admits_as, admits, connects, begins_with, takes, takes_of};
 
 use crate::broker::Broker;
 use crate::connections::{
-    client_at, connection_of, is_open_at, refuse_at, shut_at, tell_at, welcome_at,
+    Terms, client_at, connection_of, hear_at, is_open_at, own_at, refuse_at, shut_at, tell_at,
+    welcome_at,
 };
 use crate::judging::connect_fault;
 use crate::member::{
-    Member, expiry_of, free_number, longest_of, member_of, number_of, receive_max_of, stays_at,
+    Member, assigned_name, free_number, has_ended_at, longest_of, member_of, number_after,
+    number_of, receive_max_of, silence_of, stays_at,
 };
 use crate::wills::will_of;
+use mqtt5_base::{Text, copied};
 use mqtt5_codec::Packet;
 use mqtt5_connect::{Connect, LastWill};
 use mqtt5_control::{ConnAck, ConnAckProperties, ConnectReturnCode, DisconnectReasonCode};
 use mqtt5_session::StateError;
-use std::alloc::Global;
-
-/// The Session Expiry Interval that is used, where it is another than the client's: a session that doesn't end with its connection
-/// stays (3.2.2.3.2).
-fn kept_expiry(seconds: u32) -> Option<u32>
-    ensures { result ≡ kept_expiry seconds }
-{
-    if seconds == 0 || seconds == 4_294_967_295 {
-        None
-    } else {
-        Some(4_294_967_295)
-    }
-}
+use std::alloc::{AllocError, Global};
+use std::collections::VecDeque;
 
 /// The longest packet that is taken (3.2.2.3.6).
 fn some_length(longest: u32) -> Option<u32>
@@ -42,28 +34,52 @@ fn some_length(longest: u32) -> Option<u32>
     if longest == 0 { None } else { Some(longest) }
 }
 
-/// What a ConnAck says: these, and that there are neither subscription identifiers nor shared subscriptions (3.2.2.3.12 and
-/// 3.2.2.3.13).
-fn offers(alloc: Global, longest: u32, connect: &Connect) -> ConnAckProperties
-    ensures { result ≡ offers longest connect.now }
+/// The name that a client is given, if it said none (3.2.2.3.7).
+fn given_name(given: bool, name: &Text) -> Result<Option<Text>, AllocError>
+    ensures { IfOk result (λ t. t ≡ given_name given name.now) }
 {
-    let mut offers = ConnAckProperties::new(alloc);
-    offers.session_expiry_interval = kept_expiry(expiry_of(&connect.properties));
-    offers.max_packet_size = some_length(longest);
-    offers.subscription_identifiers_available = Some(0);
-    offers.shared_subscription_available = Some(0);
-    offers
+    if given {
+        Ok(Some(copied(name)?))
+    } else {
+        Ok(None)
+    }
 }
 
-/// The answer to a client that is taken, and whether the broker has a session of it (3.2.2.1.1).
-fn connack(alloc: Global, longest: u32, present: bool, connect: &Connect) -> Packet
-    ensures { result ≡ connack longest present connect.now }
+/// What a ConnAck says: these, and that there are neither subscription identifiers nor shared subscriptions (3.2.2.3.12 and
+/// 3.2.2.3.13). Err where memory is refused.
+fn offers(
+    alloc: Global,
+    longest: u32,
+    given: bool,
+    connect: &Connect,
+) -> Result<ConnAckProperties, AllocError>
+    ensures { IfOk result (λ p. p ≡ offers longest given connect.now) }
 {
-    Packet::ConnAck(ConnAck {
+    let name = given_name(given, &connect.client_id)?;
+    let mut offers = ConnAckProperties::new(alloc);
+    offers.max_packet_size = some_length(longest);
+    offers.assigned_client_identifier = name;
+    offers.subscription_identifiers_available = Some(0);
+    offers.shared_subscription_available = Some(0);
+    Ok(offers)
+}
+
+/// The answer to a client that is taken, and whether the broker has a session of it (3.2.2.1.1). Err where memory is refused.
+fn connack(
+    alloc: Global,
+    longest: u32,
+    present: bool,
+    given: bool,
+    connect: &Connect,
+) -> Result<Packet, AllocError>
+    ensures { IfOk result (λ p. p ≡ connack longest present given connect.now) }
+{
+    let offers = offers(alloc, longest, given, connect)?;
+    Ok(Packet::ConnAck(ConnAck {
         session_present: present,
         code: ConnectReturnCode::Success,
-        properties: Some(offers(alloc, longest, connect)),
-    })
+        properties: Some(offers),
+    }))
 }
 
 /// The answer to one that isn't.
@@ -86,29 +102,79 @@ impl Broker {
         connection: usize,
         client: usize,
         present: bool,
+        given: bool,
         connect: &Connect,
         will: &Option<LastWill>,
     ) -> Result<(), StateError>
         ensures ok { OnOk result
-            (self.new ≡ comes_in connection client present connect.now will.now self.old) }
+            (self.new ≡ comes_in connection client present given connect.now will.now self.old) }
         ensures memory { IfErr result (λ e. e ≡ StateError.OutOfMemory) }
     {
         let max = receive_max_of(&connect.properties);
         let will = will_of(alloc, will)?;
         let packets = self.sessions.come(alloc, client, Some(max), will)?;
-        let welcome = connack(alloc, self.longest, present, connect);
+        let welcomed = self.welcome(alloc, connection, client, present, given, connect, &packets);
+        drop(packets);
+        welcomed?;
+        Ok(())
+    }
+
+    /// The same. S12: the connection is its own all the same, so it is lost when that is closed.
+    fn come_as(
+        &mut self,
+        alloc: Global,
+        connection: usize,
+        client: usize,
+        present: bool,
+        given: bool,
+        connect: &Connect,
+        will: &Option<LastWill>,
+    ) -> Result<(), StateError>
+        ensures ok { OnOk result
+            (self.new ≡ comes_in connection client present given connect.now will.now self.old) }
+        ensures memory { IfErr result (λ e. e ≡ StateError.OutOfMemory) }
+    {
+        match self.come_in(alloc, connection, client, present, given, connect, will) {
+            Ok(()) => Ok(()),
+            Err(fault) => {
+                own_at(&mut self.connections, connection, client, self.moment);
+                Err(fault)
+            }
+        }
+    }
+
+    /// The connection of a client that is taken is its own, and is sent the answer and these packets. Err where memory is refused.
+    fn welcome(
+        &mut self,
+        alloc: Global,
+        connection: usize,
+        client: usize,
+        present: bool,
+        given: bool,
+        connect: &Connect,
+        packets: &VecDeque<Packet>,
+    ) -> Result<(), AllocError>
+        ensures { OnOk result (self.new ≡ on_connection connection (λ (l : Connection).
+            written_all
+            (connack self.old.longest present given connect.now ∷ packets.now.items)
+            (taken_by client (longest_of connect.now.properties) (silence_of connect.now)
+            self.old.moment l)) self.old) }
+    {
+        let welcome = connack(alloc, self.longest, present, given, connect)?;
         let written = welcome_at(
             &mut self.connections,
             connection,
             client,
-            longest_of(&connect.properties),
+            Terms {
+                longest: longest_of(&connect.properties),
+                silence: silence_of(connect),
+            },
+            self.moment,
             &welcome,
-            &packets,
+            packets,
         );
         drop(welcome);
-        drop(packets);
-        written?;
-        Ok(())
+        written
     }
 
     /// The connection that a client has, if it has one, is told that another takes its place. S12, which leaves all as it was.
@@ -139,12 +205,13 @@ impl Broker {
         client: usize,
         anew: bool,
         connect: &Connect,
+        will: &Option<LastWill>,
     ) -> Result<(), StateError>
-        ensures ok { OnOk result (self.new ≡ begins client anew connect.now self.old) }
+        ensures ok { OnOk result (self.new ≡ begins client anew connect.now will.now self.old) }
         ensures memory { IfErr result (λ e. e ≡ StateError.OutOfMemory) }
         ensures left { OnErr result (self.new ≡ self.old) }
     {
-        let member = member_of(connect)?;
+        let member = member_of(connect, will)?;
         if anew {
             self.sessions.end(alloc, client)?;
         }
@@ -152,6 +219,31 @@ impl Broker {
             self.members[client] = Some(member);
         }
         Ok(())
+    }
+
+    /// A client that is known is taken on a connection, as its session starts anew or goes on. S12: the connection is its own all
+    /// the same, so it is lost when that is closed.
+    fn come_back(
+        &mut self,
+        alloc: Global,
+        connection: usize,
+        client: usize,
+        anew: bool,
+        connect: &Connect,
+        will: &Option<LastWill>,
+    ) -> Result<(), StateError>
+        ensures ok { OnOk result (self.new
+            ≡ comes_in connection client (not anew) false connect.now will.now
+            (begins client anew connect.now will.now self.old)) }
+        ensures memory { IfErr result (λ e. e ≡ StateError.OutOfMemory) }
+    {
+        match self.begin(alloc, client, anew, connect, will) {
+            Ok(()) => self.come_as(alloc, connection, client, !anew, false, connect, will),
+            Err(fault) => {
+                own_at(&mut self.connections, connection, client, self.moment);
+                Err(fault)
+            }
+        }
     }
 
     /// A client comes that is known. S12.
@@ -167,11 +259,12 @@ impl Broker {
             (self.new ≡ returns connection client connect.now will.now self.old) }
         ensures memory { IfErr result (λ e. e ≡ StateError.OutOfMemory) }
     {
-        let anew = connect.clean_start || !stays_at(client, self.members.as_slice());
+        let members = self.members.as_slice();
+        let anew = connect.clean_start
+            || !stays_at(client, members)
+            || has_ended_at(client, members, self.moment);
         self.displace(client)?;
-        self.begin(alloc, client, anew, connect)?;
-        self.come_in(alloc, connection, client, !anew, connect, will)?;
-        Ok(())
+        self.come_back(alloc, connection, client, anew, connect, will)
     }
 
     /// One more client is known: its number. S12, which leaves all as it was.
@@ -200,21 +293,89 @@ impl Broker {
         }
     }
 
-    /// A client comes that isn't known. S12.
+    /// A client comes that isn't known; `given` is whether it was given its name. S12.
     #[tactic(auto, unfolding(crate::specs::Serving::enters))]
     fn enter(
+        &mut self,
+        alloc: Global,
+        connection: usize,
+        given: bool,
+        connect: &Connect,
+        will: &Option<LastWill>,
+    ) -> Result<(), StateError>
+        ensures ok { OnOk result
+            (self.new ≡ enters connection given connect.now will.now self.old) }
+        ensures memory { IfErr result (λ e. e ≡ StateError.OutOfMemory) }
+    {
+        let member = member_of(connect, will)?;
+        let client = self.number(alloc, member)?;
+        self.come_as(alloc, connection, client, false, given, connect, will)
+    }
+
+    /// One more client enters, where there is room for it. S12.
+    fn enter_if_room(
+        &mut self,
+        alloc: Global,
+        connection: usize,
+        given: bool,
+        connect: &Connect,
+        will: &Option<LastWill>,
+    ) -> Result<(), StateError>
+        ensures ok { OnOk result
+            (self.new ≡ enters_if_room connection given connect.now will.now self.old) }
+        ensures memory { IfErr result (λ e. e ≡ StateError.OutOfMemory) }
+    {
+        if self.has_room() {
+            self.enter(alloc, connection, given, connect, will)?;
+            return Ok(());
+        }
+        self.turn_away(connection, ConnectReturnCode::QuotaExceeded)?;
+        Ok(())
+    }
+
+    /// One that has a name now enters, unless somebody has that. S12.
+    fn enter_named(
         &mut self,
         alloc: Global,
         connection: usize,
         connect: &Connect,
         will: &Option<LastWill>,
     ) -> Result<(), StateError>
-        ensures ok { OnOk result (self.new ≡ enters connection connect.now will.now self.old) }
+        ensures ok { OnOk result
+            (self.new ≡ assigns_by (number_of connect.now.client_id self.old.members)
+            connection connect.now will.now self.old) }
         ensures memory { IfErr result (λ e. e ≡ StateError.OutOfMemory) }
     {
-        let member = member_of(connect)?;
-        let client = self.number(alloc, member)?;
-        self.come_in(alloc, connection, client, false, connect, will)?;
+        match number_of(&connect.client_id, self.members.as_slice()) {
+            Some(_) => {
+                self.turn_away(connection, ConnectReturnCode::ServerBusy)?;
+                Ok(())
+            }
+            None => {
+                self.enter_if_room(alloc, connection, true, connect, will)?;
+                Ok(())
+            }
+        }
+    }
+
+    /// A client that says no name is given the next one. S12.
+    #[tactic(auto, unfolding(crate::specs::Serving::assigns))]
+    fn assign(
+        &mut self,
+        alloc: Global,
+        connection: usize,
+        connect: &Connect,
+        will: &Option<LastWill>,
+    ) -> Result<(), StateError>
+        ensures ok { OnOk result (self.new ≡ assigns connection connect.now will.now self.old) }
+        ensures memory { IfErr result (λ e. e ≡ StateError.OutOfMemory) }
+    {
+        let mut named = copied(connect)?;
+        named.client_id = assigned_name(alloc, self.next_name)?;
+        self.next_name = number_after(self.next_name);
+        let entered = self.enter_named(alloc, connection, &named, will);
+        drop(named);
+        entered?;
         Ok(())
     }
 
@@ -230,13 +391,16 @@ impl Broker {
         ensures ok { OnOk result (self.new ≡ admits connection connect.now will.now self.old) }
         ensures memory { IfErr result (λ e. e ≡ StateError.OutOfMemory) }
     {
+        if connect.client_id.as_bytes().is_empty() {
+            return self.assign(alloc, connection, connect, will);
+        }
         match number_of(&connect.client_id, self.members.as_slice()) {
             Some(client) => {
                 self.bring_back(alloc, connection, client, connect, will)?;
                 Ok(())
             }
             None => {
-                self.enter(alloc, connection, connect, will)?;
+                self.enter_if_room(alloc, connection, false, connect, will)?;
                 Ok(())
             }
         }
@@ -244,8 +408,7 @@ impl Broker {
 
     /// The first packet of a connection is refused. Err where memory is refused.
     fn turn_away(&mut self, connection: usize, code: ConnectReturnCode) -> Result<(), StateError>
-        ensures ok { OnOk result (self.new ≡ on_connection connection
-            (λ (l : Connection). shut (written (refusal code) l)) self.old) }
+        ensures ok { OnOk result (self.new ≡ turns_away connection code self.old) }
         ensures memory { IfErr result (λ e. e ≡ StateError.OutOfMemory) }
         ensures left { OnErr result (self.new ≡ self.old) }
     {
@@ -342,6 +505,7 @@ impl Broker {
             return Ok(());
         }
         let client = client_at(self.connections.as_slice(), connection);
+        hear_at(&mut self.connections, connection, self.moment);
         self.take_of(alloc, connection, client, packet)?;
         Ok(())
     }

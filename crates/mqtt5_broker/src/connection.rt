@@ -2,8 +2,9 @@
 
 ghost use Rattle.std.specs.Prelude.{◌≡◌, ◌≢◌, ◌∷◌, ◌++◌, Some, OnOk, OnErr, IfOk};
 ghost use Rattle.std.specs.Option.{option_to_list};
-ghost use Rattle.mqtt5_broker.specs.Connection.{closed, opened, shut, written, written_all, told, emptied, holding, with_sent};
+ghost use Rattle.mqtt5_broker.specs.Connection.{closed, opened, heard, taken_by, shut, written, written_all, told, emptied, holding, with_sent};
 
+use crate::moments::unless_zero;
 use bytes::BytesMut;
 use mqtt5_base::Error;
 use mqtt5_codec::Packet;
@@ -14,7 +15,8 @@ use std::marker::Model;
 use std::mem;
 
 /// A connection of a broker: whether bytes of it are taken, which client connected on it, the longest packet that this client
-/// takes, the bytes that came in and are no whole frame yet, and those to be sent (MQTT 5.0 sections 3.1.2.11.4 and 4.2).
+/// takes, the bytes that came in and are no whole frame yet, those to be sent, for how many milliseconds it may be silent, and the
+/// moment at which it was silent for too long (MQTT 5.0 sections 3.1.2.10, 3.1.2.11.4 and 4.2).
 #[derive(Debug, Drop)]
 pub struct Connection {
     is_open: bool,
@@ -22,6 +24,8 @@ pub struct Connection {
     longest: Option<u32>,
     held: BytesMut,
     output: BytesMut,
+    silence: u32,
+    deadline: Option<u64>,
 }
 
 impl Model for Connection {
@@ -35,6 +39,8 @@ impl Model for Connection {
       longest = a.longest;
       held = a.held.items;
       output = a.output.items;
+      silence = a.silence;
+      deadline = a.deadline;
     } };
 }
 
@@ -59,12 +65,14 @@ impl Connection {
             longest: None,
             held: BytesMut::new(alloc),
             output: BytesMut::new(alloc),
+            silence: 0,
+            deadline: None,
         }
     }
 
-    /// One of which nothing came. Takes no memory.
-    pub(super) fn opened(alloc: Global) -> Connection
-        ensures { result ≡ opened }
+    /// One that begins at a moment, of which nothing came; it may be silent for so long. Takes no memory.
+    pub(super) fn opened(alloc: Global, silence: u32, at: u64) -> Connection
+        ensures { result ≡ opened silence at }
     {
         Connection {
             is_open: true,
@@ -72,7 +80,23 @@ impl Connection {
             longest: None,
             held: BytesMut::new(alloc),
             output: BytesMut::new(alloc),
+            silence,
+            deadline: unless_zero(silence, at),
         }
+    }
+
+    /// It is heard at a moment.
+    pub(super) fn hear(&mut self, at: u64)
+        ensures { self.new ≡ heard at self.old }
+    {
+        self.deadline = unless_zero(self.silence, at);
+    }
+
+    /// The moment at which it was silent for too long.
+    pub(super) fn deadline(&self) -> Option<u64>
+        ensures { result ≡ self.now.deadline }
+    {
+        self.deadline
     }
 
     /// Whether bytes of it are taken.
@@ -114,14 +138,17 @@ impl Connection {
         self.is_open = false;
         self.client = None;
         self.held.clear();
+        self.deadline = None;
     }
 
-    /// It is that of a client, which takes packets of this length at most.
-    pub(super) fn take(&mut self, client: usize, longest: Option<u32>)
-        ensures { self.new ≡ record self.old { client = Some client; longest = longest } }
+    /// It is that of a client, which takes packets of this length at most, and may be silent for so long from a moment on.
+    pub(super) fn take(&mut self, client: usize, longest: Option<u32>, silence: u32, at: u64)
+        ensures { self.new ≡ taken_by client longest silence at self.old }
     {
         self.client = Some(client);
         self.longest = longest;
+        self.silence = silence;
+        self.deadline = unless_zero(silence, at);
     }
 
     /// Takes the bytes out that are held, with these behind them. Err where memory is refused, with the same held.
@@ -200,18 +227,20 @@ impl Connection {
         Ok(())
     }
 
-    /// It is that of a client, which takes packets of this length at most, and is sent these. Err where memory is refused.
+    /// It is that of a client, and is sent these. Err where memory is refused; it is that of the client all the same.
     pub(super) fn welcome(
         &mut self,
         client: usize,
         longest: Option<u32>,
+        silence: u32,
+        at: u64,
         welcome: &Packet,
         packets: &VecDeque<Packet>,
     ) -> Result<(), AllocError>
         ensures { OnOk result (self.new ≡ written_all (welcome.now ∷ packets.now.items)
-            (record self.old { client = Some client; longest = longest })) }
+            (taken_by client longest silence at self.old)) }
     {
-        self.take(client, longest);
+        self.take(client, longest, silence, at);
         self.write(welcome)?;
         self.write_all(packets)?;
         Ok(())

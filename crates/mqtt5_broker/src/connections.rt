@@ -1,8 +1,8 @@
 //! The connections of a broker, by their numbers.
 
-ghost use Rattle.std.specs.Prelude.{◌≡◌, ◌∷◌, OnOk, OnErr, Some};
+ghost use Rattle.std.specs.Prelude.{◌≡◌, ◌∷◌, OnOk, OnErr, Some, None};
 ghost use Rattle.std.specs.Option.{option_to_list};
-ghost use Rattle.mqtt5_broker.specs.Connection.{Connection, shut, written, written_all, told, holding, connection_at, with_connection, is_of, connection_of};
+ghost use Rattle.mqtt5_broker.specs.Connection.{Connection, heard, taken_by, shut, written, written_all, told, holding, connection_at, with_connection, is_of, connection_of};
 
 use crate::connection::Connection;
 use bytes::BytesMut;
@@ -45,6 +45,25 @@ pub(super) fn connection_of(client: usize, connections: &[Connection]) -> Option
     connections
         .iter()
         .position(|connection| is_of(client, connection))
+}
+
+/// A connection is heard at a moment.
+pub(super) fn hear_at(connections: &mut [Connection], connection: usize, at: u64)
+    ensures { connections.new ≡ with_connection connection (heard at) connections.old }
+{
+    if connection < connections.len() {
+        connections[connection].hear(at);
+    }
+}
+
+/// The moment at which it was silent for too long.
+pub(super) fn deadline_at(connections: &[Connection], connection: usize) -> Option<u64>
+    ensures { result ≡ (connection_at connection connections.now).deadline }
+{
+    if connection >= connections.len() {
+        return None;
+    }
+    connections[connection].deadline()
 }
 
 /// Nothing more is taken of a connection.
@@ -121,23 +140,48 @@ pub(super) fn refuse_at(
     Ok(())
 }
 
-/// A connection is that of a client, which is sent these packets. Err where memory is refused.
+/// How a client takes what it is sent: packets of this length at most, and it may be silent for so many milliseconds.
+#[derive(Clone, Copy)]
+pub(super) struct Terms {
+    pub(super) longest: Option<u32>,
+    pub(super) silence: u32,
+}
+
+/// A connection is that of a client from a moment on, which is sent these packets. Err where memory is refused.
 pub(super) fn welcome_at(
     connections: &mut [Connection],
     connection: usize,
     client: usize,
-    longest: Option<u32>,
+    terms: Terms,
+    at: u64,
     welcome: &Packet,
     packets: &VecDeque<Packet>,
 ) -> Result<(), AllocError>
     ensures { OnOk result (connections.new ≡ with_connection connection (λ (l : Connection).
         written_all (welcome.now ∷ packets.now.items)
-        (record l { client = Some client; longest = longest })) connections.old) }
+        (taken_by client terms.longest terms.silence at l)) connections.old) }
 {
     if connection < connections.len() {
-        connections[connection].welcome(client, longest, welcome, packets)?;
+        connections[connection].welcome(
+            client,
+            terms.longest,
+            terms.silence,
+            at,
+            welcome,
+            packets,
+        )?;
     }
     Ok(())
+}
+
+/// A connection is that of a client from a moment on, which may be silent for any time.
+pub(super) fn own_at(connections: &mut [Connection], connection: usize, client: usize, at: u64)
+    ensures { connections.new
+        ≡ with_connection connection (taken_by client None 0 at) connections.old }
+{
+    if connection < connections.len() {
+        connections[connection].take(client, None, 0, at);
+    }
 }
 
 /// Bytes are held on it, where more are taken.

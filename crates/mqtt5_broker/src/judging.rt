@@ -2,12 +2,12 @@
 
 ghost use Rattle.std.specs.Prelude.{◌≡◌};
 ghost use Rattle.std.specs.List.{list_any};
-ghost use Rattle.mqtt5_broker.specs.Judging.{is_topic_text, is_topic, properties_fault, topic_fault, publish_fault, is_shared, is_malformed, identifier_fault, filters_fault, subscribe_fault, packet_fault, is_zero, is_short, settings_fault, is_delayed, will_fault, connect_fault};
+ghost use Rattle.mqtt5_broker.specs.Judging.{is_topic_text, is_topic, properties_fault, topic_fault, publish_fault, is_shared, is_malformed, identifier_fault, filters_fault, subscribe_fault, packet_fault, is_zero_or_none, new_expiry, expiry_fault, goodbye_fault, client_fault, is_zero, is_short, settings_fault, will_fault, answer_length, connect_fault};
 
 use mqtt5_base::{valid_filter, valid_topic};
 use mqtt5_codec::Packet;
-use mqtt5_connect::{Connect, ConnectProperties, LastWill, LastWillProperties};
-use mqtt5_control::{ConnectReturnCode, DisconnectReasonCode};
+use mqtt5_connect::{Connect, ConnectProperties, LastWill};
+use mqtt5_control::{ConnectReturnCode, DisconnectProperties, DisconnectReasonCode};
 use mqtt5_publish::{Publish, PublishProperties};
 use mqtt5_subscribe::{Filter, Subscribe, SubscribeProperties};
 
@@ -128,8 +128,8 @@ fn subscribe_fault(subscribe: &Subscribe) -> Option<DisconnectReasonCode>
     }
 }
 
-/// Why a packet of a client that is connected is refused, if it is.
-pub(super) fn packet_fault(packet: &Packet) -> Option<DisconnectReasonCode>
+/// Why a packet of a client that is connected is refused by itself, if it is.
+fn packet_fault(packet: &Packet) -> Option<DisconnectReasonCode>
     ensures { result ≡ packet_fault packet.now }
 {
     match packet {
@@ -143,6 +143,55 @@ pub(super) fn packet_fault(packet: &Packet) -> Option<DisconnectReasonCode>
         | Packet::PingReq(_)
         | Packet::Disconnect(_) => None,
         _other => Some(DisconnectReasonCode::ProtocolError),
+    }
+}
+
+/// After how many seconds a session is to end now, if a Disconnect says that (3.14.2.2.2).
+pub(super) fn new_expiry(properties: &Option<DisconnectProperties>) -> Option<u32>
+    ensures { result ≡ new_expiry properties.now }
+{
+    match properties {
+        Some(set) => set.session_expiry_interval,
+        None => None,
+    }
+}
+
+fn is_zero_or_none(number: Option<u32>) -> bool
+    ensures { result ≡ is_zero_or_none number }
+{
+    match number {
+        Some(number) => number == 0,
+        None => true,
+    }
+}
+
+fn expiry_fault(stays: bool, expiry: Option<u32>) -> Option<DisconnectReasonCode>
+    ensures { result ≡ expiry_fault stays expiry }
+{
+    if stays || is_zero_or_none(expiry) {
+        None
+    } else {
+        Some(DisconnectReasonCode::ProtocolError)
+    }
+}
+
+fn goodbye_fault(stays: bool, packet: &Packet) -> Option<DisconnectReasonCode>
+    ensures { result ≡ goodbye_fault stays packet.now }
+{
+    match packet {
+        Packet::Disconnect(disconnect) => expiry_fault(stays, new_expiry(&disconnect.properties)),
+        _other => None,
+    }
+}
+
+/// Why a packet of a client that is connected is refused, if it is; `stays` is whether its session stays when its connection
+/// ends.
+pub(super) fn client_fault(stays: bool, packet: &Packet) -> Option<DisconnectReasonCode>
+    ensures { result ≡ client_fault stays packet.now }
+{
+    match packet_fault(packet) {
+        Some(reason) => Some(reason),
+        None => goodbye_fault(stays, packet),
     }
 }
 
@@ -164,25 +213,25 @@ fn is_zero_u32(number: Option<u32>) -> bool
     }
 }
 
-/// Whether packets of this length are too short for the answer to a Connect, which has up to nineteen bytes.
-fn is_short(length: Option<u32>) -> bool
-    ensures { result ≡ is_short length }
+/// Whether packets of this length are too short for the answer to a Connect.
+fn is_short(least: u32, length: Option<u32>) -> bool
+    ensures { result ≡ is_short least length }
 {
     match length {
-        Some(length) => length < 19,
+        Some(length) => length < least,
         None => false,
     }
 }
 
-fn settings_fault(properties: &Option<ConnectProperties>) -> Option<ConnectReturnCode>
-    ensures { result ≡ settings_fault properties.now }
+fn settings_fault(least: u32, properties: &Option<ConnectProperties>) -> Option<ConnectReturnCode>
+    ensures { result ≡ settings_fault least properties.now }
 {
     match properties {
         Some(set) => {
             if is_zero_u16(set.receive_maximum) || is_zero_u32(set.max_packet_size) {
                 return Some(ConnectReturnCode::ProtocolError);
             }
-            if is_short(set.max_packet_size) {
+            if is_short(least, set.max_packet_size) {
                 return Some(ConnectReturnCode::PacketTooLarge);
             }
             if set.authentication_method.is_some() {
@@ -194,26 +243,11 @@ fn settings_fault(properties: &Option<ConnectProperties>) -> Option<ConnectRetur
     }
 }
 
-fn is_delayed(properties: &Option<LastWillProperties>) -> bool
-    ensures { result ≡ is_delayed properties.now }
-{
-    match properties {
-        Some(set) => match set.delay_interval {
-            Some(seconds) => seconds != 0,
-            None => false,
-        },
-        None => false,
-    }
-}
-
 fn will_fault(will: &Option<LastWill>) -> Option<ConnectReturnCode>
     ensures { result ≡ will_fault will.now }
 {
     match will {
         Some(will) => {
-            if is_delayed(&will.properties) {
-                return Some(ConnectReturnCode::ImplementationSpecificError);
-            }
             if is_topic(will.topic.as_slice()) {
                 return None;
             }
@@ -223,16 +257,23 @@ fn will_fault(will: &Option<LastWill>) -> Option<ConnectReturnCode>
     }
 }
 
-/// Why a Connect is refused, if it is: ClientIdentifierNotValid; ImplementationSpecificError of a will with a delay,
-/// TopicNameInvalid of one; ProtocolError, PacketTooLarge, BadAuthenticationMethod.
+/// The length that the answer to a Connect needs: up to fourteen bytes, and up to 42 with a name that is given.
+fn answer_length(connect: &Connect) -> u32
+    ensures { result ≡ answer_length connect.now }
+{
+    if connect.client_id.as_bytes().is_empty() {
+        42
+    } else {
+        14
+    }
+}
+
+/// Why a Connect is refused, if it is: TopicNameInvalid of a will; ProtocolError, PacketTooLarge, BadAuthenticationMethod.
 pub(super) fn connect_fault(connect: &Connect, will: &Option<LastWill>) -> Option<ConnectReturnCode>
     ensures { result ≡ connect_fault connect.now will.now }
 {
-    if connect.client_id.as_bytes().is_empty() {
-        return Some(ConnectReturnCode::ClientIdentifierNotValid);
-    }
     match will_fault(will) {
         Some(code) => Some(code),
-        None => settings_fault(&connect.properties),
+        None => settings_fault(answer_length(connect), &connect.properties),
     }
 }

@@ -1,12 +1,16 @@
 //! What holds of the definitions of a broker.
 
-ghost use Rattle.std.specs.Prelude.{◌≡◌, ◌≢◌, ◌++◌, ℕ, List, Option, false};
+ghost use Rattle.std.specs.Prelude.{◌≡◌, ◌≢◌, ◌++◌, ℕ, List, Option, false, max, replicate};
 ghost use Rattle.mqtt5_base.specs.declared.error.Error.{Error};
 ghost use Rattle.mqtt5_broker.specs.Cut.{cut_up, goes_on_as, Breaks};
-ghost use Rattle.mqtt5_broker.specs.Connection.{connection_at};
-ghost use Rattle.mqtt5_broker.specs.Broker.{Broker};
+ghost use Rattle.mqtt5_broker.specs.Connection.{closed, with_sent, connection_at};
+ghost use Rattle.mqtt5_broker.specs.Moments.{has_come};
+ghost use Rattle.mqtt5_broker.specs.Broker.{Broker, at_moment, on_connection};
 ghost use Rattle.mqtt5_broker.specs.Serving.{passes_on};
-ghost use Rattle.mqtt5_broker.specs.Receiving.{receives, ends_with, closes};
+ghost use Rattle.mqtt5_broker.specs.Receiving.{receives, ends_with, opens, closes};
+ghost use Rattle.mqtt5_broker.specs.Clock.{ticks, next_moment, shuts_down};
+ghost use Rattle.mqtt5_broker.specs.Bounds.{trims_all};
+ghost use Rattle.mqtt5_broker.specs.Standing.{IsStanding};
 ghost use Rattle.mqtt5_broker.specs.Acts.{SessionEvent, after_events, Act, acts, events_in, output_at, Sends};
 
 use mqtt5_base::front_laws;
@@ -18,9 +22,9 @@ pub fn pieces_law()
     ensures cut { (limit : Option ℕ) (xs ys held : List ℕ)
         → cut_up limit (xs ++ ys) held
         ≡ goes_on_as (cut_up limit xs held) (λ left. cut_up limit ys left) }
-    // And a broker that receives one piece and then another is the broker that receives both at once.
-    ensures same { (c : ℕ) (xs ys : List ℕ) (b : Broker)
-        → receives c (xs ++ ys) b ≡ receives c ys (receives c xs b) }
+    // And a broker that receives one piece and then another at a moment is the broker that receives both at once.
+    ensures same { (at c : ℕ) (xs ys : List ℕ) (b : Broker)
+        → receives at c (xs ++ ys) b ≡ receives at c ys (receives at c xs b) }
 {
     front_laws();
 }
@@ -36,16 +40,45 @@ pub fn fault_law()
 /// A law, which does nothing when it is called: what a broker does is a list of acts. Of its sessions each is what an event of a
 /// network makes of them (`sessions_law` of `mqtt5_sessions`), or one more client; and what is sent on a connection are whole frames.
 pub fn acts_law()
-    // What comes of bytes, and of passing the first of a queue on.
-    ensures receive { (c : ℕ) (bytes : List ℕ) (b : Broker)
-        → (done : List Act) × (receives c bytes b ≡ acts done b) }
+    // What comes of bytes, of passing the first of a queue on, of what is due at a moment, of queues that are too long, and of the
+    // end of the broker.
+    ensures receive { (at c : ℕ) (bytes : List ℕ) (b : Broker)
+        → (done : List Act) × (receives at c bytes b ≡ acts done b) }
     ensures pass { (c : ℕ) (b : Broker) → (done : List Act) × (passes_on c b ≡ acts done b) }
+    ensures tick { (at : ℕ) (b : Broker) → (done : List Act) × (ticks at b ≡ acts done b) }
+    ensures trim { (b : Broker) → (done : List Act) × (trims_all b ≡ acts done b) }
+    ensures shut_down { (at : ℕ) (b : Broker)
+        → (done : List Act) × (shuts_down at b ≡ acts done b) }
     // And of the end of a connection.
-    ensures close { (c : ℕ) (b : Broker)
-        → (es : List SessionEvent) × ((closes c b).sessions ≡ after_events es b.sessions) }
+    ensures close { (at c : ℕ) (b : Broker)
+        → (es : List SessionEvent) × ((closes at c b).sessions ≡ after_events es b.sessions) }
     // What acts make of the sessions, and what they send on a connection.
     ensures sessions { (done : List Act) (b : Broker)
         → (acts done b).sessions ≡ after_events (events_in done) b.sessions }
     ensures frames { (c : ℕ) (done : List Act) (b : Broker)
         → Sends (output_at c b) (output_at c (acts done b)) }
+{}
+
+/// A law, which does nothing when it is called: before the next moment at which something is due a tick changes the moment alone
+/// (3.1.2.10, 3.1.2.11.2, 3.1.3.2.2).
+pub fn clock_law()
+    ensures { (at : ℕ) (b : Broker) → has_come (next_moment b) (max at b.moment) ≡ false
+        → ticks at b ≡ at_moment at b }
+{}
+
+/// A law, which does nothing when it is called: a client has one connection at most, and then it is known, and its session has no
+/// moment at which it ends (3.1.4, 4.1). So it is in a new broker, and each call leaves it so.
+pub fn connections_law()
+    ensures new { (count : ℕ) (b : Broker) → b.connections ≡ replicate count closed
+        → IsStanding b }
+    ensures open { (at c : ℕ) (b : Broker) → IsStanding b → IsStanding (opens at c b) }
+    ensures receive { (at c : ℕ) (bytes : List ℕ) (b : Broker)
+        → IsStanding b → IsStanding (receives at c bytes b) }
+    ensures pass { (c : ℕ) (b : Broker) → IsStanding b → IsStanding (passes_on c b) }
+    ensures sent { (c count : ℕ) (b : Broker)
+        → IsStanding b → IsStanding (on_connection c (with_sent count) b) }
+    ensures close { (at c : ℕ) (b : Broker) → IsStanding b → IsStanding (closes at c b) }
+    ensures tick { (at : ℕ) (b : Broker) → IsStanding b → IsStanding (ticks at b) }
+    ensures trim { (b : Broker) → IsStanding b → IsStanding (trims_all b) }
+    ensures shut_down { (at : ℕ) (b : Broker) → IsStanding b → IsStanding (shuts_down at b) }
 {}

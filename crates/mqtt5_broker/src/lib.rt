@@ -2,15 +2,19 @@
 //! MQTT 5.0.
 #![tactic(auto)]
 
+mod bounds;
 mod broker;
+mod clock;
 mod connecting;
 mod connection;
 mod connections;
 mod judging;
 mod laws;
 mod member;
+mod moments;
 mod serving;
 mod wills;
 
+pub use bounds::Bounds;
 pub use broker::{Broker, Limits};
-pub use laws::{acts_law, fault_law, pieces_law};
+pub use laws::{acts_law, clock_law, connections_law, fault_law, pieces_law};

@@ -1,22 +1,174 @@
 //! Who has the sessions of a broker, by name.
 
-ghost use Rattle.std.specs.Prelude.{◌≡◌, Some, None, is_none, IfOk};
+ghost use Rattle.std.specs.Prelude.{◌≡◌, ◌++◌, Some, None, is_none, IfOk, codes, string_bytes};
+ghost use Rattle.std.specs.Fmt.{decimal};
 ghost use Rattle.std.specs.List.{position};
 ghost use Rattle.mqtt5_base.specs.Texts.{Utf8};
-ghost use Rattle.mqtt5_broker.specs.Broker.{is_named, number_of, free_number, stays_at, stays_of};
-ghost use Rattle.mqtt5_broker.specs.Serving.{or_else, expiry_of, receive_max_of, longest_of, member_of};
+ghost use Rattle.mqtt5_broker.specs.Broker.{is_named, number_of, free_number, member_at, name_in, name_of, assigned_name, number_after, stays_at, stays_of, has_ended, will_is_due, end_of, due_of, away, gone, expiring, undue, on_member};
+ghost use Rattle.mqtt5_broker.specs.Serving.{or_else, expiry_of, receive_max_of, longest_of, silence_of, member_of};
 
+use crate::moments::{has_come, seconds_after};
+use crate::wills::delay_in;
 use mqtt5_base::{Text, copied};
-use mqtt5_connect::{Connect, ConnectProperties};
-use std::alloc::AllocError;
+use mqtt5_connect::{Connect, ConnectProperties, LastWill};
+use std::alloc::{AllocError, Global};
 
-/// A client that is known (MQTT 5.0 sections 3.1.3.1 and 3.1.2.11.2).
+/// A client that is known (MQTT 5.0 sections 3.1.2.11.2, 3.1.3.1 and 3.1.3.2.2).
 #[derive(Debug, Drop)]
 pub struct Member {
     /// Its client identifier.
     pub name: Text,
-    /// Whether its session stays when its connection ends.
-    pub stays: bool,
+    /// After how many seconds its session ends once its connection has: 0 is at once, 4294967295 never.
+    pub expiry: u32,
+    /// After how many seconds its will is published then, if it has one: 0 is at once.
+    pub delay: u32,
+    /// The moment at which its session ends, if it is away.
+    pub ends: Option<u64>,
+    /// The moment at which its will is published, if it is away.
+    pub due: Option<u64>,
+}
+
+impl Member {
+    /// It goes away at a moment.
+    fn go_away(&mut self, at: u64)
+        ensures { self.new ≡ away at self.old }
+    {
+        self.ends = end_of(self.expiry, at);
+        self.due = due_of(self.delay, at);
+    }
+
+    /// It goes away, without its will.
+    fn leave(&mut self, at: u64)
+        ensures { self.new ≡ gone at self.old }
+    {
+        self.ends = end_of(self.expiry, at);
+        self.due = None;
+    }
+}
+
+/// The moment at which a session ends of a client that goes away.
+fn end_of(expiry: u32, at: u64) -> Option<u64>
+    ensures { result ≡ end_of expiry at }
+{
+    if expiry == 4_294_967_295 {
+        None
+    } else {
+        Some(seconds_after(expiry, at))
+    }
+}
+
+/// The moment at which its will is published, if that has a delay.
+fn due_of(delay: u32, at: u64) -> Option<u64>
+    ensures { result ≡ due_of delay at }
+{
+    if delay == 0 {
+        None
+    } else {
+        Some(seconds_after(delay, at))
+    }
+}
+
+/// The client of a number goes away at a moment.
+pub(super) fn away_at(members: &mut [Option<Member>], client: usize, at: u64)
+    ensures { members.new ≡ on_member client (away at) members.old }
+{
+    if client < members.len() {
+        if let Some(member) = &mut members[client] {
+            member.go_away(at);
+        }
+    }
+}
+
+/// It goes away, without its will.
+pub(super) fn gone_at(members: &mut [Option<Member>], client: usize, at: u64)
+    ensures { members.new ≡ on_member client (gone at) members.old }
+{
+    if client < members.len() {
+        if let Some(member) = &mut members[client] {
+            member.leave(at);
+        }
+    }
+}
+
+/// Its session ends after so many seconds, if it says how many.
+pub(super) fn expiring_at(members: &mut [Option<Member>], client: usize, expiry: Option<u32>)
+    ensures { members.new ≡ on_member client (expiring expiry) members.old }
+{
+    if client < members.len() {
+        if let Some(member) = &mut members[client] {
+            if let Some(expiry) = expiry {
+                member.expiry = expiry;
+            }
+        }
+    }
+}
+
+/// Its will isn't due any more.
+pub(super) fn undue_at(members: &mut [Option<Member>], client: usize)
+    ensures { members.new ≡ on_member client undue members.old }
+{
+    if client < members.len() {
+        if let Some(member) = &mut members[client] {
+            member.due = None;
+        }
+    }
+}
+
+/// Whether the moment has come at which the session of a number ends.
+pub(super) fn has_ended_at(client: usize, members: &[Option<Member>], now: u64) -> bool
+    ensures { result ≡ has_ended now (member_at client members.now) }
+{
+    if client >= members.len() {
+        return false;
+    }
+    match &members[client] {
+        Some(member) => has_come(member.ends, now),
+        None => false,
+    }
+}
+
+/// Whether the one has come at which its will is published, if that waits.
+pub(super) fn will_is_due_at(client: usize, members: &[Option<Member>], now: u64) -> bool
+    ensures { result ≡ will_is_due now (member_at client members.now) }
+{
+    if client >= members.len() {
+        return false;
+    }
+    match &members[client] {
+        Some(member) => has_come(member.due, now),
+        None => false,
+    }
+}
+
+/// The name of a client, or nothing.
+pub(super) fn name_in(client: Option<usize>, members: &[Option<Member>]) -> &str
+    ensures { result.now ≡ name_in client members.now }
+{
+    let Some(client) = client else {
+        return "";
+    };
+    if client >= members.len() {
+        return "";
+    }
+    match &members[client] {
+        Some(member) => member.name.as_str(),
+        None => "",
+    }
+}
+
+/// The name that a client is given that says none, by its number. Err where memory is refused.
+pub(super) fn assigned_name(alloc: Global, number: u64) -> Result<Text, AllocError>
+    ensures { IfOk result (λ t. t ≡ assigned_name number) }
+{
+    let text = format!(in alloc; "auto-{number}")?;
+    Ok(Text::from(text))
+}
+
+/// The number of the next one.
+pub(super) fn number_after(number: u64) -> u64
+    ensures { result ≡ number_after number }
+{
+    number.saturating_add(1)
 }
 
 /// Whether somebody has this name.
@@ -51,7 +203,7 @@ pub(super) fn stays_at(client: usize, members: &[Option<Member>]) -> bool
         return false;
     }
     match &members[client] {
-        Some(member) => member.stays,
+        Some(member) => member.expiry != 0,
         None => false,
     }
 }
@@ -86,12 +238,22 @@ pub(super) fn longest_of(properties: &Option<ConnectProperties>) -> Option<u32>
     }
 }
 
+/// For how many milliseconds it may be silent: one and a half times its keep alive (3.1.2.10).
+pub(super) fn silence_of(connect: &Connect) -> u32
+    ensures { result ≡ silence_of connect.now }
+{
+    1500 * connect.keep_alive as u32
+}
+
 /// By what a client is known that sent this.
-pub(super) fn member_of(connect: &Connect) -> Result<Member, AllocError>
-    ensures { IfOk result (λ m. m ≡ member_of connect.now) }
+pub(super) fn member_of(connect: &Connect, will: &Option<LastWill>) -> Result<Member, AllocError>
+    ensures { IfOk result (λ m. m ≡ member_of connect.now will.now) }
 {
     Ok(Member {
         name: copied(&connect.client_id)?,
-        stays: expiry_of(&connect.properties) != 0,
+        expiry: expiry_of(&connect.properties),
+        delay: delay_in(will),
+        ends: None,
+        due: None,
     })
 }

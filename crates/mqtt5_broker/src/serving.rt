@@ -3,14 +3,14 @@
 ghost use Rattle.std.specs.Prelude.{◌≡◌, Some, OnOk, OnErr, IfErr};
 ghost use Rattle.std.specs.Option.{option_to_list};
 ghost use Rattle.mqtt5_control.specs.declared.disconnect.DisconnectReasonCode.TheVariants as reasons;
-ghost use Rattle.mqtt5_broker.specs.Connection.{written, written_all, shut};
-ghost use Rattle.mqtt5_broker.specs.Broker.{forgets, loses_client, leaves_client, refuses, on_connection};
-ghost use Rattle.mqtt5_broker.specs.Serving.{kind_of, arrives_from, disconnects, serves, serves_as};
+ghost use Rattle.mqtt5_broker.specs.Connection.{written, written_all, shut, told};
+ghost use Rattle.mqtt5_broker.specs.Broker.{forgets, loses_client, leaves_client, publishes_will, refuses, dismisses, dismisses_of, on_connection, stays_at};
+ghost use Rattle.mqtt5_broker.specs.Serving.{kind_of, arrives_from, disconnects, fault_of, serves, serves_as};
 
 use crate::broker::Broker;
-use crate::connections::{shut_at, tell_at, write_at, write_some_at};
-use crate::judging::packet_fault;
-use crate::member::stays_at;
+use crate::connections::{client_at, is_open_at, shut_at, tell_at, write_at, write_some_at};
+use crate::judging::{client_fault, new_expiry};
+use crate::member::{away_at, expiring_at, gone_at, stays_at, undue_at};
 use mqtt5_codec::Packet;
 use mqtt5_control::DisconnectReasonCode;
 use mqtt5_publish::PingResp;
@@ -22,8 +22,8 @@ use std::alloc::Global;
 pub enum Kind {
     /// An answer, to know that the broker is there (3.12).
     Ping,
-    /// The end of the connection (3.14).
-    Goodbye(DisconnectReasonCode),
+    /// The end of the connection (3.14), and after how many seconds the session is to end, if it says that (3.14.2.2.2).
+    Goodbye(DisconnectReasonCode, Option<u32>),
     /// Something of the client's session.
     Message,
 }
@@ -33,7 +33,9 @@ fn kind_of(packet: &Packet) -> Kind
 {
     match packet {
         Packet::PingReq(_) => Kind::Ping,
-        Packet::Disconnect(disconnect) => Kind::Goodbye(disconnect.reason_code),
+        Packet::Disconnect(disconnect) => {
+            Kind::Goodbye(disconnect.reason_code, new_expiry(&disconnect.properties))
+        }
         _other => Kind::Message,
     }
 }
@@ -41,7 +43,7 @@ fn kind_of(packet: &Packet) -> Kind
 impl Broker {
     /// The session of a client ends, and nobody has its number. S12, which leaves all as it was.
     #[tactic(auto, unfolding(crate::specs::Broker::forgets))]
-    fn forget(&mut self, alloc: Global, client: usize) -> Result<(), StateError>
+    pub(super) fn forget(&mut self, alloc: Global, client: usize) -> Result<(), StateError>
         ensures ok { OnOk result (self.new ≡ forgets client self.old) }
         ensures memory { IfErr result (λ e. e ≡ StateError.OutOfMemory) }
         ensures left { OnErr result (self.new ≡ self.old) }
@@ -62,6 +64,7 @@ impl Broker {
     {
         if stays_at(client, self.members.as_slice()) {
             self.sessions.lose(alloc, client)?;
+            away_at(&mut self.members, client, self.moment);
             return Ok(());
         }
         self.forget(alloc, client)?;
@@ -76,10 +79,42 @@ impl Broker {
     {
         self.sessions.leave(alloc, client)?;
         if stays_at(client, self.members.as_slice()) {
+            gone_at(&mut self.members, client, self.moment);
             return Ok(());
         }
         self.forget(alloc, client)?;
         Ok(())
+    }
+
+    /// The will of a client that is away is published. S12, which leaves all as it was.
+    #[tactic(auto, unfolding(crate::specs::Broker::publishes_will))]
+    pub(super) fn publish_will(&mut self, alloc: Global, client: usize) -> Result<(), StateError>
+        ensures ok { OnOk result (self.new ≡ publishes_will client self.old) }
+        ensures memory { IfErr result (λ e. e ≡ StateError.OutOfMemory) }
+        ensures left { OnErr result (self.new ≡ self.old) }
+    {
+        self.sessions.due(alloc, client)?;
+        undue_at(&mut self.members, client);
+        Ok(())
+    }
+
+    /// The client of a connection is told why that ends. S12: nothing more is taken of the connection all the same.
+    pub(super) fn tell(
+        &mut self,
+        connection: usize,
+        reason: DisconnectReasonCode,
+    ) -> Result<(), StateError>
+        ensures ok { OnOk result (self.new ≡ on_connection connection (told reason) self.old) }
+        ensures memory { IfErr result (λ e. e ≡ StateError.OutOfMemory) }
+        ensures left { OnErr result (self.new ≡ on_connection connection shut self.old) }
+    {
+        match tell_at(&mut self.connections, connection, reason) {
+            Ok(()) => Ok(()),
+            Err(refused) => {
+                shut_at(&mut self.connections, connection);
+                Err(StateError::from(refused))
+            }
+        }
     }
 
     /// A client is told why its connection ends, which is lost then. S12.
@@ -95,7 +130,48 @@ impl Broker {
         ensures memory { IfErr result (λ e. e ≡ StateError.OutOfMemory) }
     {
         self.lose(alloc, client)?;
-        tell_at(&mut self.connections, connection, reason)?;
+        self.tell(connection, reason)
+    }
+
+    /// The connection of a client, or of none, ends for a reason. S12.
+    fn dismiss_of(
+        &mut self,
+        alloc: Global,
+        connection: usize,
+        client: Option<usize>,
+        reason: DisconnectReasonCode,
+    ) -> Result<(), StateError>
+        ensures ok { OnOk result (self.new ≡ dismisses_of client connection reason self.old) }
+        ensures memory { IfErr result (λ e. e ≡ StateError.OutOfMemory) }
+    {
+        match client {
+            Some(client) => {
+                self.refuse(alloc, connection, client, reason)?;
+                Ok(())
+            }
+            None => {
+                shut_at(&mut self.connections, connection);
+                Ok(())
+            }
+        }
+    }
+
+    /// A connection ends for a reason, where it is open. S12.
+    #[tactic(auto, unfolding(crate::specs::Broker::dismisses))]
+    pub(super) fn dismiss(
+        &mut self,
+        alloc: Global,
+        connection: usize,
+        reason: DisconnectReasonCode,
+    ) -> Result<(), StateError>
+        ensures ok { OnOk result (self.new ≡ dismisses connection reason self.old) }
+        ensures memory { IfErr result (λ e. e ≡ StateError.OutOfMemory) }
+    {
+        if !is_open_at(self.connections.as_slice(), connection) {
+            return Ok(());
+        }
+        let client = client_at(self.connections.as_slice(), connection);
+        self.dismiss_of(alloc, connection, client, reason)?;
         Ok(())
     }
 
@@ -126,10 +202,13 @@ impl Broker {
         connection: usize,
         client: usize,
         reason: DisconnectReasonCode,
+        expiry: Option<u32>,
     ) -> Result<(), StateError>
-        ensures ok { OnOk result (self.new ≡ disconnects connection client reason self.old) }
+        ensures ok { OnOk result
+            (self.new ≡ disconnects connection client reason expiry self.old) }
         ensures memory { IfErr result (λ e. e ≡ StateError.OutOfMemory) }
     {
+        expiring_at(&mut self.members, client, expiry);
         match reason {
             DisconnectReasonCode::NormalDisconnection => self.leave(alloc, client)?,
             _other => self.lose(alloc, client)?,
@@ -160,15 +239,27 @@ impl Broker {
                 )?;
                 Ok(())
             }
-            Kind::Goodbye(reason) => {
+            Kind::Goodbye(reason, expiry) => {
                 drop(packet);
-                self.disconnect(alloc, connection, client, reason)?;
+                self.disconnect(alloc, connection, client, reason, expiry)?;
                 Ok(())
             }
             Kind::Message => {
                 self.arrive(alloc, connection, client, packet)?;
                 Ok(())
             }
+        }
+    }
+
+    /// Why a packet of a client is refused, if it is.
+    #[tactic(auto, unfolding(crate::specs::Serving::fault_of))]
+    fn fault_of(&self, client: usize, packet: &Packet) -> Option<DisconnectReasonCode>
+        ensures { result ≡ fault_of client packet.now self.now }
+    {
+        let stays = stays_at(client, self.members.as_slice());
+        match client_fault(stays, packet) {
+            Some(reason) => Some(reason),
+            None => self.quota_fault(packet),
         }
     }
 
@@ -184,7 +275,7 @@ impl Broker {
         ensures ok { OnOk result (self.new ≡ serves connection client packet self.old) }
         ensures memory { IfErr result (λ e. e ≡ StateError.OutOfMemory) }
     {
-        match packet_fault(&packet) {
+        match self.fault_of(client, &packet) {
             Some(reason) => {
                 drop(packet);
                 self.refuse(alloc, connection, client, reason)?;

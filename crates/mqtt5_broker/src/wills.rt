@@ -1,7 +1,7 @@
 //! What a broker publishes in a client's name once its connection is lost.
 
 ghost use Rattle.std.specs.Prelude.{◌≡◌, option_map, IfOk};
-ghost use Rattle.mqtt5_broker.specs.Wills.{published_properties, published_by, will_of};
+ghost use Rattle.mqtt5_broker.specs.Wills.{published_properties, published_by, or_zero, delay_of, delay_in, will_of};
 
 use mqtt5_base::copied;
 use mqtt5_connect::{LastWill, LastWillProperties};
@@ -57,14 +57,33 @@ fn published_by(alloc: Global, will: &LastWill) -> Result<Publish, AllocError>
     })
 }
 
-/// The will of a connection, if it has one: without a delay. Err where memory is refused.
+fn delay_of(properties: &Option<LastWillProperties>) -> u32
+    ensures { result ≡ delay_of properties.now }
+{
+    match properties {
+        Some(set) => set.delay_interval.unwrap_or(0),
+        None => 0,
+    }
+}
+
+/// After how many seconds the will of a connection is published, if it has one (3.1.3.2.2).
+pub(super) fn delay_in(will: &Option<LastWill>) -> u32
+    ensures { result ≡ delay_in will.now }
+{
+    match will {
+        Some(will) => delay_of(&will.properties),
+        None => 0,
+    }
+}
+
+/// The will of a connection, if it has one. Err where memory is refused.
 pub(super) fn will_of(alloc: Global, will: &Option<LastWill>) -> Result<Option<Will>, AllocError>
     ensures { IfOk result (λ w. w ≡ option_map will_of will.now) }
 {
     match will {
         Some(will) => Ok(Some(Will {
             publish: published_by(alloc, will)?,
-            delayed: false,
+            delayed: delay_of(&will.properties) != 0,
         })),
         None => Ok(None),
     }

@@ -4,36 +4,47 @@
 //! those of MQTT 5.0.
 
 use mqtt5_base::Error;
-use mqtt5_broker::{Broker, Limits};
+use mqtt5_broker::{Bounds, Broker, Limits};
 use mqtt5_session::StateError;
 use std::alloc::{AllocError, Global};
 use std::num::NonZeroU16;
 use std::test::Fail;
 
 /// `open` begins a connection, `is` says whether it takes bytes, `in` brings bytes of it, and answers what it sends then; `out`
-/// answers that without any, `pass` passes the first of a queue on, and `close` ends the connection. The broker has four
-/// connections, and takes packets of 64 bytes and fewer.
+/// answers that without any, `pass` passes the first of a queue on, `name` answers its client's name, and `close` ends the
+/// connection. `tick` says which moment it is, in milliseconds, at first 0; `next` answers the next at which something is due, and
+/// `end` ends the broker. `bound` says how many clients, subscriptions of a client, retained messages, publishes of a queue and bytes
+/// of these there may be, and `trim` ends sessions for which there is more. The broker has four connections, takes packets of 64
+/// bytes and fewer, and waits five seconds for a Connect.
 ///
 /// Of the first client the name is a, of the second b. First a message of QoS 2 from one to the other, a ping, and a Disconnect.
 /// Then a Connect in three pieces, and two packets in one. Then a session that stays while its client is away, which is sent what
-/// it missed, once more with `dup`; one that is taken over, and one that isn't, since it ends with its connection; one of 60
-/// seconds, which stays without end, as its client is told; one that a clean start ends; and one that ends with its connection.
+/// it missed, once more with `dup`; one that is taken over, and one that isn't, since it ends with its connection; one that a clean
+/// start ends; and one that ends with its connection.
 /// Then a client that takes one publish at a time, and one that takes packets of nineteen bytes. A retained message. Wills: of a
 /// connection that is lost, dropped by a Disconnect, published by one of reason 4; at a fault of the bytes; and one with
 /// properties.
 ///
-/// Then what ends a connection: a client without a name, an authentication method, a receive maximum and a maximum packet size of
-/// 0, one of eighteen, a will with a delay and one without a topic, and a first packet that is no Connect; of a client that is
+/// Then moments: a connection on which no Connect comes, keep alive, one that goes back, sessions that expire and one that never
+/// does, the expiry of a Disconnect, and wills with a delay: published after it, dropped by a client that comes back and by one
+/// that leaves, published when the session ends before. Then clients that say no name, one that has the next name already, and one
+/// that comes back by the name that it was given; the shortest packets that clients may ask for; and the end of the broker.
+///
+/// Then what ends a connection: an authentication method, a receive maximum and a maximum packet size of 0, one that is too short
+/// for the answer, also for one with a name, a will without a topic, and a first packet that is no Connect; of a client that is
 /// connected a second Connect, a topic alias, a subscription identifier, topics with a wildcard, without a byte and without text, a
 /// shared subscription, a subscription identifier, a filter that is none, an Auth, a packet that a server sends, one of type 0, and
 /// one that is too long.
+///
+/// Then bounds: one client, who is connected, who is away, and beside one that says no name; one subscription, which another
+/// replaces; one retained message, which another replaces and an empty one drops; and queues, of a client that is connected and of
+/// one that is away, by messages and by bytes.
 const ROWS: &str =
     "open:0=1; open:0=0; open:9=0; open:1=1; in:0:100E00044D5154540502000000000161=200C000009270000004029002A00; in:1:100E00044D5154540502000000000162=200C000009270000004029002A00; in:1:82090001000003612F6202=900400010002; in:0:34090003612F6200050078=50020005; out:1=-; pass:1=1; out:1=34090003612F6200010078; pass:1=0; in:1:50020001=62020001; in:1:70020001=-; in:0:62020005=70020005; in:0:C000=D000; in:0:E000=-; is:0=0; is:1=1; in:0:C000=-; close:0; open:0=1
 open:0=1; in:0:10=-; in:0:0E00044D5154540502=-; in:0:000000000161C000=200C000009270000004029002A00D000; in:0:C0=-; in:0:00C0=D000; in:0:00=D000
 open:0=1; open:1=1; in:0:101300044D515454050000000511FFFFFFFF000161=200C000009270000004029002A00; in:0:82090001000003612F6202=900400010002; close:0; in:1:100E00044D5154540502000000000162=200C000009270000004029002A00; in:1:32090003612F6200070078=40020007; open:0=1; in:0:101300044D515454050000000511FFFFFFFF000161=200C010009270000004029002A00; pass:0=1; out:0=32090003612F6200010078; close:0; open:2=1; in:2:101300044D515454050000000511FFFFFFFF000161=200C010009270000004029002A003A090003612F6200010078; in:2:40020001=-; pass:2=0
 open:0=1; open:1=1; in:0:101300044D515454050000000511FFFFFFFF000161=200C000009270000004029002A00; in:1:101300044D515454050000000511FFFFFFFF000161=200C010009270000004029002A00; out:0=E0028E00; is:0=0; is:1=1; close:0; in:1:C000=D000
 open:0=1; open:1=1; in:0:100E00044D5154540502000000000161=200C000009270000004029002A00; in:0:820700010000016100=900400010000; in:1:100E00044D5154540500000000000161=200C000009270000004029002A00; out:0=E0028E00; is:0=0; in:1:30050001610078=-; pass:1=0
-open:0=1; in:0:101300044D5154540502000005110000003C000161=201100000E11FFFFFFFF270000004029002A00; close:0; open:0=1; in:0:100E00044D5154540500000000000161=200C010009270000004029002A00
 open:0=1; open:1=1; in:0:101300044D515454050000000511FFFFFFFF000161=200C000009270000004029002A00; in:0:82090001000003612F6200=900400010000; close:0; open:0=1; in:0:101300044D515454050200000511FFFFFFFF000161=200C000009270000004029002A00; in:1:100E00044D5154540502000000000162=200C000009270000004029002A00; in:1:30070003612F620078=-; pass:0=0
 open:0=1; in:0:100E00044D5154540502000000000161=200C000009270000004029002A00; in:0:82090001000003612F6200=900400010000; close:0; open:0=1; in:0:100E00044D5154540500000000000161=200C000009270000004029002A00; in:0:30070003612F620078=-; pass:0=0
 open:0=1; open:1=1; in:0:101100044D5154540502000003210001000161=200C000009270000004029002A00; in:0:82090001000003612F6201=900400010001; in:1:100E00044D5154540502000000000162=200C000009270000004029002A00; in:1:32090003612F6200070078=40020007; in:1:32090003612F6200080079=40020008; pass:0=1; out:0=32090003612F6200010078; pass:0=0; in:0:40020001=32090003612F6200010079
@@ -42,12 +53,34 @@ open:0=1; open:1=1; in:0:100E00044D5154540502000000000161=200C000009270000004029
 open:0=1; open:1=1; in:1:100E00044D5154540502000000000162=200C000009270000004029002A00; in:1:820700010000017700=900400010000; in:0:101500044D515454050600000000016100000177000167=200C000009270000004029002A00; close:0; pass:1=1; out:1=30050001770067; open:0=1; in:0:101500044D515454050600000000016100000177000167=200C000009270000004029002A00; in:0:E000=-; close:0; pass:1=0; open:0=1; in:0:101500044D515454050600000000016100000177000167=200C000009270000004029002A00; in:0:E00104=-; pass:1=1; out:1=30050001770067
 open:0=1; open:1=1; in:1:100E00044D5154540502000000000162=200C000009270000004029002A00; in:1:820700010000017700=900400010000; in:0:101500044D515454050600000000016100000177000167=200C000009270000004029002A00; in:0:0000=E0028100; pass:1=1; out:1=30050001770067; pass:1=0
 open:0=1; open:1=1; in:1:100E00044D5154540502000000000162=200C000009270000004029002A00; in:1:820700010000017700=900400010000; in:0:102200044D515454050E0000000001610D0101030001742600016B000176000177000167=200C000009270000004029002A00; close:0; pass:1=1; out:1=30120001770D01012600016B0001760300017467
-open:0=1; in:0:100D00044D51545405020000000000=2003008500; is:0=0
+open:0=1; next=5000; tick:4999; is:0=1; tick:5000; is:0=0; out:0=-; next=-
+tick:100; open:0=1; next=5100; in:0:100E00044D5154540502000000000161=200C000009270000004029002A00; next=-; tick:99999; is:0=1
+open:0=1; in:0:100E00044D5154540502000100000161=200C000009270000004029002A00; next=1500; tick:1499; is:0=1; tick:1500; is:0=0; out:0=E0028D00; next=-
+open:0=1; in:0:100E00044D5154540502000100000161=200C000009270000004029002A00; tick:1000; in:0:C000=D000; next=2500; tick:2000; in:0:C0=-; next=2500; tick:2499; is:0=1; tick:2500; is:0=0; out:0=E0028D00
+tick:1000; open:0=1; tick:10; in:0:100E00044D5154540502000100000161=200C000009270000004029002A00; next=2500
+open:0=1; in:0:101300044D5154540502000005110000003C000161=200C000009270000004029002A00; next=-; close:0; next=60000; tick:59999; open:0=1; in:0:100E00044D5154540500000000000161=200C010009270000004029002A00
+open:0=1; in:0:101300044D5154540502000005110000003C000161=200C000009270000004029002A00; close:0; tick:60000; next=-; open:0=1; in:0:100E00044D5154540500000000000161=200C000009270000004029002A00
+open:0=1; in:0:101300044D515454050200000511FFFFFFFF000161=200C000009270000004029002A00; close:0; next=-; tick:18446744073709551615; open:0=1; in:0:100E00044D5154540500000000000161=200C010009270000004029002A00
+open:0=1; in:0:101300044D5154540502000005110000003C000161=200C000009270000004029002A00; in:0:E0070005110000000A=-; is:0=0; next=10000; close:0; next=10000; tick:9999; open:0=1; in:0:100E00044D5154540500000000000161=200C010009270000004029002A00
+open:0=1; in:0:101300044D5154540502000005110000003C000161=200C000009270000004029002A00; in:0:E00700051100000000=-; is:0=0; next=-; close:0; open:0=1; in:0:100E00044D5154540500000000000161=200C000009270000004029002A00
+open:0=1; in:0:100E00044D5154540502000000000161=200C000009270000004029002A00; in:0:E0070005110000000A=E0028200; is:0=0
+open:0=1; in:0:100E00044D5154540502000000000161=200C000009270000004029002A00; in:0:E00700051100000000=-; is:0=0
+open:0=1; open:1=1; in:1:100E00044D5154540502000000000162=200C000009270000004029002A00; in:1:820700010000017700=900400010000; in:0:101F00044D5154540506000005110000003C000161051800000001000177000167=200C000009270000004029002A00; close:0; pass:1=0; next=1000; tick:999; pass:1=0; tick:1000; pass:1=1; out:1=30050001770067; next=60000; tick:60000; pass:1=0
+open:0=1; open:1=1; in:1:100E00044D5154540502000000000162=200C000009270000004029002A00; in:1:820700010000017700=900400010000; in:0:101F00044D5154540506000005110000003C000161051800000001000177000167=200C000009270000004029002A00; close:0; tick:999; open:0=1; in:0:101300044D5154540500000005110000003C000161=200C010009270000004029002A00; next=-; tick:5000; pass:1=0
+open:0=1; open:1=1; in:1:100E00044D5154540502000000000162=200C000009270000004029002A00; in:1:820700010000017700=900400010000; in:0:101F00044D5154540506000005110000000100016105180000003C000177000167=200C000009270000004029002A00; close:0; next=1000; tick:1000; pass:1=1; out:1=30050001770067; next=-
+open:0=1; open:1=1; in:1:100E00044D5154540502000000000162=200C000009270000004029002A00; in:1:820700010000017700=900400010000; in:0:101A00044D5154540506000000000161051800000001000177000167=200C000009270000004029002A00; close:0; pass:1=1; out:1=30050001770067
+open:0=1; open:1=1; in:1:100E00044D5154540502000000000162=200C000009270000004029002A00; in:1:820700010000017700=900400010000; in:0:101F00044D5154540506000005110000003C000161051800000001000177000167=200C000009270000004029002A00; in:0:E000=-; close:0; next=60000; tick:60000; pass:1=0
+open:0=1; name:0=-; in:0:100D00044D51545405020000000000=201500001227000000401200066175746F2D3029002A00; name:0=6175746F2D30; open:1=1; in:1:100D00044D51545405020000000000=201500001227000000401200066175746F2D3129002A00; in:0:C000=D000; name:9=-
+open:0=1; in:0:101300044D515454050200000000066175746F2D30=200C000009270000004029002A00; open:1=1; in:1:100D00044D51545405020000000000=2003008900; is:1=0; close:1; open:1=1; in:1:100D00044D51545405020000000000=201500001227000000401200066175746F2D3129002A00; in:0:C000=D000
+open:0=1; in:0:101200044D5154540502000005110000003C0000=201500001227000000401200066175746F2D3029002A00; close:0; open:0=1; in:0:101300044D515454050000000000066175746F2D30=200C010009270000004029002A00
+open:0=1; in:0:101200044D5154540502000005270000002A0000=201500001227000000401200066175746F2D3029002A00
+open:0=1; in:0:101300044D5154540502000005270000000E000161=200C000009270000004029002A00
+open:0=1; open:1=1; open:2=1; in:0:100E00044D5154540502000000000161=200C000009270000004029002A00; in:1:100E00044D5154540502000000000162=200C000009270000004029002A00; end; is:0=0; is:1=0; is:2=0; out:0=E0028B00; out:1=E0028B00; out:2=-; in:0:C000=-
 open:0=1; in:0:101200044D51545405020000041500016D000161=2003008C00; is:0=0
 open:0=1; in:0:101100044D5154540502000003210000000161=2003008200; is:0=0
 open:0=1; in:0:101300044D51545405020000052700000000000161=2003008200; is:0=0
-open:0=1; in:0:101300044D51545405020000052700000012000161=2003009500; is:0=0
-open:0=1; in:0:101A00044D5154540506000000000161051800000001000177000167=2003008300; is:0=0
+open:0=1; in:0:101300044D5154540502000005270000000D000161=2003009500; is:0=0
+open:0=1; in:0:101200044D515454050200000527000000290000=2003009500; is:0=0
 open:0=1; in:0:101500044D515454050600000000016100000123000167=2003009000; is:0=0
 open:0=1; in:0:C000=-; is:0=0
 open:0=1; in:0:100E00044D5154540502000000000161=200C000009270000004029002A00; in:0:100E00044D5154540502000000000161=E0028200; is:0=0
@@ -63,6 +96,14 @@ open:0=1; in:0:100E00044D5154540502000000000161=200C000009270000004029002A00; in
 open:0=1; in:0:100E00044D5154540502000000000161=200C000009270000004029002A00; in:0:D000=E0028200; is:0=0
 open:0=1; in:0:100E00044D5154540502000000000161=200C000009270000004029002A00; in:0:0000=E0028100; is:0=0
 open:0=1; in:0:100E00044D5154540502000000000161=200C000009270000004029002A00; in:0:3041=E0029500; is:0=0
+bound:1,9,9,9,999; open:0=1; open:1=1; in:0:100E00044D5154540502000000000161=200C000009270000004029002A00; in:1:100E00044D5154540502000000000162=2003009700; is:1=0; close:0; open:1=1; in:1:100E00044D5154540502000000000162=200C000009270000004029002A00
+bound:1,9,9,9,999; open:0=1; open:1=1; in:0:101300044D515454050000000511FFFFFFFF000161=200C000009270000004029002A00; close:0; in:1:100E00044D5154540502000000000162=2003009700; open:0=1; in:0:101300044D515454050000000511FFFFFFFF000161=200C010009270000004029002A00
+bound:1,9,9,9,999; open:0=1; open:1=1; in:0:100E00044D5154540502000000000161=200C000009270000004029002A00; in:1:100D00044D51545405020000000000=2003009700; is:1=0
+bound:9,1,9,9,999; open:0=1; in:0:100E00044D5154540502000000000161=200C000009270000004029002A00; in:0:820700010000017702=900400010002; in:0:820700020000017700=900400020000; trim; is:0=1; in:0:82090003000003612F6202=900400030002; trim; is:0=0; out:0=E0029700
+bound:9,9,1,9,999; open:0=1; in:0:100E00044D5154540502000000000161=200C000009270000004029002A00; in:0:31050001610078=-; in:0:31050001610079=-; in:0:30050001620078=-; in:0:310400016100=-; in:0:31050001620078=-; in:0:31050001630078=E0029700; is:0=0
+bound:9,9,9,1,999; open:0=1; open:1=1; in:0:100E00044D5154540502000000000161=200C000009270000004029002A00; in:0:820700010000017700=900400010000; in:1:100E00044D5154540502000000000162=200C000009270000004029002A00; in:1:30050001770067=-; trim; is:0=1; in:1:30050001770067=-; trim; is:0=0; out:0=E0029700; in:1:C000=D000
+bound:9,9,9,1,999; open:0=1; open:1=1; in:0:101300044D515454050000000511FFFFFFFF000161=200C000009270000004029002A00; in:0:820700010000017700=900400010000; close:0; in:1:100E00044D5154540502000000000162=200C000009270000004029002A00; in:1:30050001770067=-; in:1:30050001770067=-; trim; open:0=1; in:0:101300044D515454050000000511FFFFFFFF000161=200C000009270000004029002A00; pass:0=0
+bound:9,9,9,9,13; open:0=1; open:1=1; in:0:100E00044D5154540502000000000161=200C000009270000004029002A00; in:0:820700010000017700=900400010000; in:1:100E00044D5154540502000000000162=200C000009270000004029002A00; in:1:30050001770067=-; trim; is:0=1; in:1:30050001770067=-; trim; is:0=0; out:0=E0029700
 ";
 
 /// What stands before the first mark of a text, and what behind it.
@@ -78,17 +119,42 @@ fn number_of(digits: &str) -> Result<usize, Error> {
     }
 }
 
+/// Five numbers; E16 where they aren't.
+fn bounds_of(numbers: &str) -> Result<Bounds, Error> {
+    let (clients, rest) = cut(numbers, ',');
+    let (subscriptions, rest) = cut(rest, ',');
+    let (retained, rest) = cut(rest, ',');
+    let (queued, bytes) = cut(rest, ',');
+    Ok(Bounds {
+        clients: number_of(clients)?,
+        subscriptions: number_of(subscriptions)?,
+        retained: number_of(retained)?,
+        queued: number_of(queued)?,
+        bytes: number_of(bytes)? as u64,
+    })
+}
+
 /// Bytes come on a connection; E16 where they aren't two digits each.
 fn brings(
     alloc: Global,
     broker: &mut Broker,
     connection: usize,
     digits: &str,
+    at: u64,
 ) -> Result<(), StateError> {
     let Ok(bytes) = hex::decode(alloc, digits) else {
         return Err(StateError::from(Error::MalformedPacket));
     };
-    broker.receive(alloc, connection, bytes.as_slice())
+    broker.receive(alloc, connection, bytes.as_slice(), at)
+}
+
+/// Adds bytes as an answer.
+fn adds(alloc: Global, bytes: &[u8], text: &mut String) -> Result<(), AllocError> {
+    if bytes.is_empty() {
+        return text.push_str("=-");
+    }
+    text.push('=')?;
+    text.push_str(hex::encode_upper(alloc, bytes)?.as_str())
 }
 
 /// Sends what there is to be sent, and adds it as an answer.
@@ -100,13 +166,17 @@ fn sends(
 ) -> Result<(), AllocError> {
     let output = broker.output(connection);
     let count = output.len();
-    if count == 0 {
-        return text.push_str("=-");
-    }
-    text.push('=')?;
-    text.push_str(hex::encode_upper(alloc, output)?.as_str())?;
+    adds(alloc, output, text)?;
     broker.sent(connection, count);
     Ok(())
+}
+
+/// Adds a moment as an answer, if there is one.
+fn adds_moment(alloc: Global, at: Option<u64>, text: &mut String) -> Result<(), AllocError> {
+    match at {
+        Some(at) => text.push_str(format!(in alloc; "={at}")?.as_str()),
+        None => text.push_str("=-"),
+    }
 }
 
 /// Adds an answer that is yes or no.
@@ -118,6 +188,7 @@ fn answers(yes: bool, text: &mut String) -> Result<(), AllocError> {
 fn calls(
     alloc: Global,
     broker: &mut Broker,
+    at: u64,
     call: &str,
     text: &mut String,
 ) -> Result<(), StateError> {
@@ -126,12 +197,12 @@ fn calls(
     let connection = number_of(digits)?;
     match word {
         "open" => {
-            let begun = broker.open(alloc, connection);
+            let begun = broker.open(alloc, connection, at);
             Ok(answers(begun, text)?)
         }
         "is" => Ok(answers(broker.is_open(connection), text)?),
         "in" => {
-            brings(alloc, broker, connection, bytes)?;
+            brings(alloc, broker, connection, bytes, at)?;
             Ok(sends(alloc, broker, connection, text)?)
         }
         "out" => Ok(sends(alloc, broker, connection, text)?),
@@ -139,8 +210,47 @@ fn calls(
             let passed = broker.pass(alloc, connection)?;
             Ok(answers(passed, text)?)
         }
-        "close" => broker.close(alloc, connection),
+        "name" => Ok(adds(alloc, broker.client_name(connection).as_bytes(), text)?),
+        "close" => broker.close(alloc, connection, at),
         _other => Err(StateError::from(Error::MalformedPacket)),
+    }
+}
+
+/// Makes a call of a connection, or of the broker, and adds its answer: which moment it is then.
+fn happens(
+    alloc: Global,
+    broker: &mut Broker,
+    at: u64,
+    call: &str,
+    text: &mut String,
+) -> Result<u64, StateError> {
+    let (word, digits) = cut(call, ':');
+    match word {
+        "tick" => {
+            let now = number_of(digits)? as u64;
+            broker.tick(alloc, now)?;
+            Ok(now)
+        }
+        "next" => {
+            adds_moment(alloc, broker.next_moment(), text)?;
+            Ok(at)
+        }
+        "end" => {
+            broker.shut_down(alloc, at)?;
+            Ok(at)
+        }
+        "bound" => {
+            broker.set_bounds(bounds_of(digits)?);
+            Ok(at)
+        }
+        "trim" => {
+            broker.trim(alloc)?;
+            Ok(at)
+        }
+        _other => {
+            calls(alloc, broker, at, call, text)?;
+            Ok(at)
+        }
     }
 }
 
@@ -151,13 +261,14 @@ fn walks(
     row: &str,
     text: &mut String,
 ) -> Result<(), StateError> {
+    let mut at = 0;
     for part in row.split("; ") {
         if !text.is_empty() {
             text.push_str("; ")?;
         }
         let (call, _answer) = cut(part, '=');
         text.push_str(call)?;
-        calls(alloc, broker, call, text)?;
+        at = happens(alloc, broker, at, call, text)?;
     }
     Ok(())
 }
@@ -168,6 +279,7 @@ fn walked(alloc: Global, row: &str) -> Result<String, StateError> {
         connections: 4,
         longest: 64,
         ids: NonZeroU16::MAX,
+        wait: 5000,
     };
     let mut broker = Broker::new(alloc, &limits)?;
     let mut text = String::new(alloc);

@@ -7,4 +7,4 @@ pub returns-clause-cut : goal.returns-clause-cut
 returns-clause-cut c = λ limit xs ys held. pieces limit xs ys held
 
 pub returns-clause-same : goal.returns-clause-same
-returns-clause-same c = λ i xs ys b. same i xs ys b (c.front_laws.ensures.found (Some b.longest)) (c.front_laws.ensures.stays (Some b.longest))
+returns-clause-same c = λ at i xs ys b. same at i xs ys b (c.front_laws.ensures.found (Some b.longest)) (c.front_laws.ensures.stays (Some b.longest))

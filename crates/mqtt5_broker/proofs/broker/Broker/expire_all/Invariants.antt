@@ -1,0 +1,6 @@
+use Rattle.std.proofs.Common.{◌≡◌}
+use Rattle.mqtt5_broker.specs.Clock.{for_each, expires}
+use Rattle.mqtt5_broker.proofs.broker.Broker.expire_all.Given as goal
+
+abbrev pub invariant-loop-client : goal.invariant-loop-client
+invariant-loop-client l = l.self ≡ for_each l.client expires l.initial.self

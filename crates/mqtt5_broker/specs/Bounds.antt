@@ -1,0 +1,63 @@
+-- What an operator bounds, and what comes of more than that: reason 0x97, Quota exceeded (MQTT 5.0
+-- sections 3.2.2.2, 3.14.2.1 and 4.13).
+use Rattle.std.specs.Prelude.{ℕ, ◌==◌, nat_lt, nat_le, Bool, false, not, ◌&&◌, ◌||◌, length, Option}
+use Rattle.std.specs.Prelude.{Some, None, is_some, if◌then◌else◌}
+use Rattle.std.specs.List.{list_any}
+use Rattle.mqtt5_publish.specs.declared.publish.Publish.{Publish}
+use Rattle.mqtt5_control.specs.declared.disconnect.DisconnectReasonCode.{DisconnectReasonCode}
+use Rattle.mqtt5_control.specs.declared.disconnect.DisconnectReasonCode.TheVariants as reasons
+use Rattle.mqtt5_codec.specs.declared.packet.Packet.{Packet}
+use Rattle.mqtt5_codec.specs.declared.packet.Packet.TheVariants as packets
+use Rattle.mqtt5_network.specs.Retained.{is_to}
+use Rattle.mqtt5_sessions.specs.declared.counts.Counts.{Counts}
+use Rattle.mqtt5_sessions.specs.Counts.{counts}
+use Rattle.mqtt5_broker.specs.declared.bounds.Bounds.{Bounds}
+use Rattle.mqtt5_broker.specs.Connection.{told, connection_of}
+use Rattle.mqtt5_broker.specs.Broker.{Broker, free_number, on_connection, forgets}
+use Rattle.mqtt5_broker.specs.Clock.{for_each}
+
+-- other bounds from now on
+abbrev pub bounded : Bounds → Broker → Broker
+bounded bounds b = record b { bounds = bounds }
+
+-- whether one more client may be known
+abbrev pub has_room : Broker → Bool
+has_room b =
+    is_some (free_number b.members) || nat_lt (length b.members) b.bounds.clients
+
+-- whether a publish would be retained in place of none (3.3.1.3)
+abbrev pub adds_retained : Publish → Broker → Bool
+adds_retained p b =
+    p.retain && not (length p.payload == 0) && not (list_any (is_to p.topic) b.sessions.retained)
+
+-- whether a packet of a client asks for one retained message more than there may be
+abbrev pub asks_too_much : Packet → Broker → Bool
+asks_too_much (packets.Publish p) b =
+    adds_retained p b && nat_le b.bounds.retained (length b.sessions.retained)
+asks_too_much other b = false
+
+abbrev pub quota_fault : Packet → Broker → Option DisconnectReasonCode
+quota_fault x b = if asks_too_much x b then Some reasons.QuotaExceeded else None
+
+-- ---- sessions
+
+-- whether more is kept for a client than may be
+abbrev pub exceeds : Counts → Bounds → Bool
+exceeds n bounds =
+    nat_lt bounds.subscriptions n.subscriptions || nat_lt bounds.queued n.queued
+    || nat_lt bounds.bytes n.bytes
+
+-- its connection ends, if it has one
+abbrev pub ends_of : Option ℕ → Broker → Broker
+ends_of None b = b
+ends_of (Some c) b = on_connection c (told reasons.QuotaExceeded) b
+
+-- then its session ends, and its connection
+unfoldable pub trims : ℕ → Broker → Broker
+trims i b =
+    if exceeds (counts i b.sessions) b.bounds
+    then ends_of (connection_of i b.connections) (forgets i b) else b
+
+-- of all clients
+abbrev pub trims_all : Broker → Broker
+trims_all b = for_each (length b.members) trims b

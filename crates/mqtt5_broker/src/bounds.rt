@@ -1,0 +1,158 @@
+//! What an operator bounds.
+
+ghost use Rattle.std.specs.Prelude.{◌≡◌, OnOk, IfOk, IfErr, Some, is_some};
+ghost use Rattle.std.specs.List.{list_any};
+ghost use Rattle.mqtt5_network.specs.Retained.{is_to};
+ghost use Rattle.mqtt5_sessions.specs.declared.counts.Counts.{Counts};
+ghost use Rattle.mqtt5_broker.specs.Broker.{no_bounds};
+ghost use Rattle.mqtt5_broker.specs.Connection.{connection_of};
+ghost use Rattle.mqtt5_broker.specs.Bounds.{bounded, has_room, adds_retained, asks_too_much, quota_fault, exceeds, ends_of, trims, trims_all};
+
+use crate::broker::Broker;
+use crate::connections::connection_of;
+use crate::member::free_number;
+use mqtt5_codec::Packet;
+use mqtt5_control::DisconnectReasonCode;
+use mqtt5_publish::Publish;
+use mqtt5_session::StateError;
+use mqtt5_sessions::Counts;
+use std::alloc::Global;
+
+/// What may be kept at most. More is refused, or ends the session of who has it, by QuotaExceeded (MQTT 5.0 section 4.13).
+#[derive(Debug, Clone, Copy, PartialEq, Eq)]
+pub struct Bounds {
+    /// How many clients are known at once, connected or away; where it was more once, as many.
+    pub clients: usize,
+    /// How many subscriptions a client has, when `trim` is called.
+    pub subscriptions: usize,
+    /// How many messages are retained; a will is retained all the same.
+    pub retained: usize,
+    /// How many publishes wait in its queue then.
+    pub queued: usize,
+    /// And how many bytes the frames of these have.
+    pub bytes: u64,
+}
+
+/// Nothing is bounded.
+pub(super) fn no_bounds() -> Bounds
+    ensures { result ≡ no_bounds }
+{
+    Bounds {
+        clients: usize::MAX,
+        subscriptions: usize::MAX,
+        retained: usize::MAX,
+        queued: usize::MAX,
+        bytes: u64::MAX,
+    }
+}
+
+/// Whether a publish is to a topic.
+fn is_to(topic: &[u8], publish: &Publish) -> bool
+    ensures { result ≡ is_to topic.now publish.now }
+{
+    publish.topic.as_slice() == topic
+}
+
+/// Whether a message of a topic is retained.
+fn is_retained(topic: &[u8], retained: &[Publish]) -> bool
+    ensures { result ≡ list_any (is_to topic.now) retained.now }
+{
+    retained.iter().any(|publish| is_to(topic, publish))
+}
+
+/// Whether more is kept for a client than may be.
+fn exceeds(counts: &Counts, bounds: &Bounds) -> bool
+    ensures { result ≡ exceeds counts.now bounds.now }
+{
+    bounds.subscriptions < counts.subscriptions
+        || bounds.queued < counts.queued
+        || bounds.bytes < counts.bytes
+}
+
+impl Broker {
+    /// These are the bounds from now on; at first there are none.
+    pub fn set_bounds(&mut self, bounds: Bounds)
+        ensures { self.new ≡ bounded bounds self.old }
+    {
+        self.bounds = bounds;
+    }
+
+    /// Whether one more client may be known.
+    pub(super) fn has_room(&self) -> bool
+        ensures { result ≡ has_room self.now }
+    {
+        free_number(self.members.as_slice()).is_some() || self.members.len() < self.bounds.clients
+    }
+
+    /// Whether a publish would be retained in place of none.
+    fn adds_retained(&self, publish: &Publish) -> bool
+        ensures { result ≡ adds_retained publish.now self.now }
+    {
+        publish.retain
+            && !publish.payload.is_empty()
+            && !is_retained(publish.topic.as_slice(), self.sessions.retained())
+    }
+
+    /// Whether a packet of a client asks for one retained message more than there may be.
+    fn asks_too_much(&self, packet: &Packet) -> bool
+        ensures { result ≡ asks_too_much packet.now self.now }
+    {
+        match packet {
+            Packet::Publish(publish) => {
+                self.adds_retained(publish)
+                    && self.bounds.retained <= self.sessions.retained().len()
+            }
+            _other => false,
+        }
+    }
+
+    /// Why it is refused then.
+    pub(super) fn quota_fault(&self, packet: &Packet) -> Option<DisconnectReasonCode>
+        ensures { result ≡ quota_fault packet.now self.now }
+    {
+        if self.asks_too_much(packet) {
+            Some(DisconnectReasonCode::QuotaExceeded)
+        } else {
+            None
+        }
+    }
+
+    /// A connection ends, if there is one. S12.
+    fn end_of(&mut self, connection: Option<usize>) -> Result<(), StateError>
+        ensures ok { OnOk result (self.new ≡ ends_of connection self.old) }
+        ensures memory { IfErr result (λ e. e ≡ StateError.OutOfMemory) }
+    {
+        match connection {
+            Some(connection) => self.tell(connection, DisconnectReasonCode::QuotaExceeded),
+            None => Ok(()),
+        }
+    }
+
+    /// The session of a client ends, and its connection, where more is kept for it than may be. S12.
+    #[tactic(auto, unfolding(crate::specs::Bounds::trims))]
+    fn trim_one(&mut self, alloc: Global, client: usize) -> Result<(), StateError>
+        ensures ok { OnOk result (self.new ≡ trims client self.old) }
+        ensures memory { IfErr result (λ e. e ≡ StateError.OutOfMemory) }
+    {
+        let counts = self.sessions.count(alloc, client)?;
+        if !exceeds(&counts, &self.bounds) {
+            return Ok(());
+        }
+        let connection = connection_of(client, self.connections.as_slice());
+        self.forget(alloc, client)?;
+        self.end_of(connection)?;
+        Ok(())
+    }
+
+    /// The session of each client ends for which more is kept than may be: one that is connected is told QuotaExceeded, and nothing
+    /// more is taken of its connection. S12.
+    pub fn trim(&mut self, alloc: Global) -> Result<(), StateError>
+        ensures ok { OnOk result (self.new ≡ trims_all self.old) }
+        ensures memory { IfErr result (λ e. e ≡ StateError.OutOfMemory) }
+    {
+        for client in 0..self.members.len() {
+            self.trim_one(alloc, client)?;
+        }
+        Ok(())
+    }
+}
