@@ -44,7 +44,7 @@ warn_of_kit() {
 need_cc() {
     local cc=${CC:-cc} made
     if ! command -v "$cc" > /dev/null 2>&1; then
-        lack "the C compiler $cc is not on the path, and tests/refused_memory needs one: install gcc or clang, or name one in CC"
+        lack "the C compiler $cc is not on the path, and ${1:-tests/refused_memory} needs one: install gcc or clang, or name one in CC"
         return
     fi
     made=$(mktemp 2> /dev/null) || return 0

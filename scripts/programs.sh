@@ -16,6 +16,7 @@ mqtt5 bench           tries the vectors
 mqtt5 show OPTIONS    prints each packet of a capture, one direction's bytes, as a line
 mqtt5 pub OPTIONS     publishes to a broker; mqtt5 pub --help has the options
 mqtt5 sub OPTIONS     subscribes at a broker; mqtt5 sub --help has the options
+mqtt5 broker OPTIONS  is a broker on this machine; mqtt5 broker --help has the options
 END
 }
 
@@ -26,6 +27,7 @@ program_of() {
         world | bytes) echo mqtt5_player ;;
         network) echo mqtt5_network_player ;;
         show) echo mqtt5_show ;;
+        broker) echo mqtt5_broker ;;
         *) echo mqtt5_program ;;
     esac
 }
@@ -159,6 +161,8 @@ answer_words() {
             exit
             ;;
         drive | world | bytes | network | bench | show | pub | sub) ;;
+        # (its own program says so)
+        broker) return ;;
         *)
             [ -z "${1-}" ] || echo "$me: no word '$1'" >&2
             say_words >&2
@@ -201,6 +205,7 @@ run_program() {
             fi
             exec "$program" "$1" "${rest[@]}"
             ;;
+        broker) exec "$program" "${@:2}" ;;
     esac
     exec "$program" "$@"
 }

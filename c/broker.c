@@ -1,0 +1,598 @@
+/* An MQTT 5.0 server: sockets and a clock around the broker of mqtt5_broker.h. The broker is proved (docs/PROVED.md); this file
+   isn't, it is only tested (tests/broker). One thread, poll and sockets that never block. docs/BROKER.md says how it is used. */
+#define _POSIX_C_SOURCE 200809L
+#include "mqtt5_broker.h"
+
+#include <arpa/inet.h>
+#include <errno.h>
+#include <fcntl.h>
+#include <limits.h>
+#include <netdb.h>
+#include <netinet/in.h>
+#include <netinet/tcp.h>
+#include <poll.h>
+#include <signal.h>
+#include <stdarg.h>
+#include <stdio.h>
+#include <stdlib.h>
+#include <string.h>
+#include <sys/resource.h>
+#include <sys/socket.h>
+#include <time.h>
+#include <unistd.h>
+
+/* ---- What an operator sets. ---- */
+
+static unsigned long port = 1883, most = 1024, longest = 1048576, ids = 1024, wait_for = 10;
+static unsigned long clients = 10000, subscriptions = 1000, retained = 10000, queued = 100000, queued_bytes = 67108864;
+static const char *bound = "127.0.0.1";
+static bool quiet;
+
+/* ---- Limits of its own. ---- */
+
+enum {
+    PIECE = 65536,         /* bytes that are read, and sent, at a time */
+    TURNS = 8,             /* pieces of one connection before the next one has its turn */
+    PASSES = 16,           /* publishes passed before the waiting output is looked at, at most */
+    UNREAD = 4194304,      /* bytes that are read of a client while its own socket takes nothing */
+    REST = 1000,           /* milliseconds for the last bytes of a connection that has ended, and between measures of queues */
+    AGAIN = 100            /* milliseconds after which a call that had no memory is tried again */
+};
+
+enum state {
+    UNUSED,
+    OPEN,
+    ENDING,  /* the broker takes no more of it, and its last bytes are being sent */
+    DRAINED, /* all is sent: what still comes is dropped, so that no reset overtakes the last packet */
+    LEAVING  /* its socket is closed, and the broker has still to be told */
+};
+
+struct connection {
+    enum state state;
+    int socket;
+    uint64_t number;   /* counts all connections, for the log */
+    uint64_t deadline; /* of ENDING and DRAINED */
+    bool is_client;    /* whether a client has connected on it */
+    bool waits;        /* its socket takes no more bytes for now */
+    size_t unread;     /* bytes that were read since then, but for those that were sent */
+    /* The frame that is being sent, as far as it is known, and the last reason that was sent in a ConnAck or a Disconnect. */
+    enum { FIRST, LENGTH, BODY } part;
+    uint8_t first;
+    uint32_t length, at;
+    unsigned shift;
+    int reason;
+};
+
+static mqtt5_broker broker;
+static struct connection *connections;
+static struct pollfd *polled; /* the listener, the signals, and then each connection by its number */
+static size_t used;           /* all connections from this number on are unused */
+static uint64_t now, count;
+static uint64_t due_at;                        /* when the broker has something to do */
+static uint64_t tries_at, listens_at, ends_by; /* when it does that and takes connections again, and waits no longer */
+static uint64_t measures_at;                   /* when it measures what is kept again */
+static int listener, signals[2];
+static bool ends, grows;  /* whether it ends, and something may have come into any queue since these were measured */
+static bool came, others; /* in this round: what may be in any queue, and what may have ended any connection */
+static uint8_t in[PIECE], out[PIECE];
+
+static void say(const char *format, ...) {
+    va_list words;
+    if (quiet) return;
+    va_start(words, format);
+    vfprintf(stderr, format, words);
+    va_end(words);
+}
+
+static void fail(const char *what) {
+    fprintf(stderr, "broker: %s: %s\n", what, strerror(errno));
+    exit(1);
+}
+
+static uint64_t moment(void) {
+    struct timespec t;
+    clock_gettime(CLOCK_MONOTONIC, &t);
+    return (uint64_t)t.tv_sec * 1000 + (uint64_t)t.tv_nsec / 1000000;
+}
+
+/* ---- Reasons (MQTT 5.0 section 2.4). ---- */
+
+/* From 0x80 on, by number. */
+static const char *const reasons[] = {
+    "Unspecified error", "Malformed Packet", "Protocol Error", "Implementation specific error",
+    "Unsupported Protocol Version", "Client Identifier not valid", "Bad User Name or Password", "Not authorized",
+    "Server unavailable", "Server busy", "Banned", "Server shutting down", "Bad authentication method", "Keep Alive timeout",
+    "Session taken over", "Topic Filter invalid", "Topic Name invalid", "reason", "reason", "Receive Maximum exceeded",
+    "Topic Alias invalid", "Packet too large", "Message rate too high", "Quota exceeded", "Administrative action",
+    "Payload format invalid", "Retain not supported", "QoS not supported", "Use another server", "Server moved",
+    "Shared Subscriptions not supported", "Connection rate exceeded", "Maximum connect time",
+    "Subscription Identifiers not supported", "Wildcard Subscriptions not supported",
+};
+
+/* Follows the frames that are sent (2.1), to know why a connection ends: the reason of a ConnAck is the second byte of its body
+   (3.2.2.2), and that of a Disconnect the first, or 0 where it has no body (3.14.2.1). */
+static void follow(struct connection *k, const uint8_t *bytes, size_t len) {
+    for (size_t i = 0; i < len;) {
+        if (k->part == BODY && k->at >= 2) {
+            size_t rest = k->length - k->at, step = rest < len - i ? rest : len - i;
+            k->at += (uint32_t)step;
+            i += step;
+        } else if (k->part == BODY) {
+            if ((k->first >> 4 == 2 && k->at == 1) || (k->first >> 4 == 14 && k->at == 0)) k->reason = bytes[i];
+            k->at++;
+            i++;
+        } else if (k->part == LENGTH) {
+            k->length |= (uint32_t)(bytes[i] & 127) << k->shift;
+            k->shift += 7;
+            if (bytes[i++] < 128) k->part = BODY;
+        } else {
+            k->first = bytes[i++];
+            k->length = k->at = k->shift = 0;
+            k->part = LENGTH;
+        }
+        if (k->part == BODY && k->at == k->length) {
+            if (k->first >> 4 == 14 && k->length == 0) k->reason = 0;
+            k->part = FIRST;
+        }
+    }
+}
+
+/* ---- A connection ends. ---- */
+
+/* Its socket is closed, and the broker is told; where that has no memory for a will, it is told again later. */
+static void leave(size_t c) {
+    struct connection *k = &connections[c];
+    if (k->socket >= 0) close(k->socket);
+    k->socket = -1;
+    k->state = LEAVING;
+    came = grows = true; /* (its will) */
+    if (mqtt5_broker_close(&broker, c, now) != MQTT5_BROKER_DONE) return;
+    k->state = UNUSED;
+    while (used > 0 && connections[used - 1].state == UNUSED) used--;
+}
+
+/* Memory was refused for it. */
+static void drop(size_t c) {
+    say("%llu: ended: out of memory\n", (unsigned long long)connections[c].number);
+    leave(c);
+}
+
+static void say_lost(const struct connection *k, int fault) {
+    bool is_peer = fault == 0 || fault == ECONNRESET || fault == EPIPE;
+    say("%llu: ended: %s\n", (unsigned long long)k->number, is_peer ? "closed by peer" : strerror(fault));
+}
+
+static void say_ended(const struct connection *k) {
+    unsigned long long number = k->number;
+    const char *other = k->is_client || k->reason == 0 ? "the client disconnected" : "without a Connect";
+    int i = k->reason - 0x80;
+    const char *name = i >= 0 && i < (int)(sizeof reasons / sizeof *reasons) ? reasons[i] : "reason";
+    if (k->reason > 0) say("%llu: ended: %s (0x%02X)\n", number, name, (unsigned)k->reason);
+    else say("%llu: ended: %s\n", number, other);
+}
+
+/* Whether the broker takes nothing more of it: then its last bytes are sent, for a while. */
+static bool has_ended(size_t c) {
+    struct connection *k = &connections[c];
+    bool is_open = false;
+    if (k->state != OPEN) return true;
+    mqtt5_broker_is_open(&broker, c, &is_open);
+    if (is_open) return false;
+    k->state = ENDING;
+    k->deadline = now + REST;
+    return true;
+}
+
+/* Its last byte is sent. */
+static void finish(size_t c) {
+    struct connection *k = &connections[c];
+    say_ended(k);
+    k->state = DRAINED;
+    k->waits = false;
+    k->unread = 0;
+    shutdown(k->socket, SHUT_WR);
+}
+
+/* ---- What is sent. ---- */
+
+/* Publishes of its client's queue go into its output, until there are none, or a piece waits. Whether there may be more; how much
+   waits, up to a piece, is copied to `out`. */
+static bool fill(size_t c, size_t *waiting) {
+    struct connection *k = &connections[c];
+    bool some = k->state == OPEN && k->is_client;
+    mqtt5_broker_output(&broker, c, out, sizeof out, waiting);
+    for (int batch = 1; some && *waiting < sizeof out; batch = batch < PASSES ? 2 * batch : batch) {
+        for (int i = 0; some && i < batch; i++) {
+            if (mqtt5_broker_pass(&broker, c, &some) == MQTT5_BROKER_DONE) continue;
+            drop(c);
+            return false;
+        }
+        mqtt5_broker_output(&broker, c, out, sizeof out, waiting);
+    }
+    return some;
+}
+
+/* Sends what waits on it and in its client's queue, as long as its socket takes it and others needn't wait long. A client that
+   reads nothing has at most a piece and a few publishes in its output, and answers to as much as is read of it: the rest stays in
+   its queue, and is not read. */
+static void serve(size_t c) {
+    struct connection *k = &connections[c];
+    if (k->state != OPEN && k->state != ENDING) return;
+    k->waits = true;
+    for (int turn = 0;; turn++) {
+        size_t waiting;
+        bool more = fill(c, &waiting);
+        if (k->state != OPEN && k->state != ENDING) return;
+        if (waiting == 0) break;
+        if (turn == TURNS) return;
+        ssize_t sent = send(k->socket, out, waiting, MSG_NOSIGNAL);
+        if (sent < 0 && errno != EAGAIN && errno != EWOULDBLOCK && errno != EINTR) {
+            say_lost(k, errno);
+            leave(c);
+            return;
+        }
+        if (sent > 0) {
+            follow(k, out, (size_t)sent);
+            k->unread -= k->unread < (size_t)sent ? k->unread : (size_t)sent;
+            mqtt5_broker_sent(&broker, c, (size_t)sent);
+        }
+        if (sent < (ssize_t)waiting) return;
+        if (!more && waiting < sizeof out) break;
+    }
+    k->waits = false;
+    k->unread = 0;
+    if (k->state == ENDING) finish(c);
+}
+
+/* ---- What comes in. ---- */
+
+static void say_client(size_t c) {
+    uint8_t name[65];
+    char shown[4 * sizeof name + 1], *end = shown;
+    size_t len = 0;
+    mqtt5_broker_client(&broker, c, name, sizeof name, &len);
+    if (len == 0) return;
+    connections[c].is_client = true;
+    for (size_t i = 0; i < len && i < 64; i++) {
+        if (name[i] >= ' ' && name[i] <= '~' && name[i] != '"' && name[i] != '\\') *end++ = (char)name[i];
+        else end += sprintf(end, "\\x%02x", name[i]);
+    }
+    *end = 0;
+    say("%llu: client \"%s\"%s\n", (unsigned long long)connections[c].number, shown, len == sizeof name ? " .." : "");
+}
+
+/* Reads a piece, and hands it in. */
+static void hear(size_t c) {
+    struct connection *k = &connections[c];
+    ssize_t len = recv(k->socket, in, sizeof in, 0);
+    if (len < 0 && (errno == EAGAIN || errno == EWOULDBLOCK || errno == EINTR)) return;
+    if (k->state != OPEN && len > 0) return;
+    if (len <= 0) {
+        if (k->state != DRAINED) say_lost(k, len == 0 ? 0 : errno);
+        leave(c);
+        return;
+    }
+    came = true;
+    if (k->waits) k->unread += (size_t)len;
+    if (mqtt5_broker_receive(&broker, c, in, (size_t)len, now) != MQTT5_BROKER_DONE) {
+        others = true;
+        drop(c);
+        return;
+    }
+    bool was_client = k->is_client;
+    if (!was_client) say_client(c);
+    if ((has_ended(c) || k->is_client) && !was_client) others = true;
+    serve(c);
+}
+
+/* ---- Connections begin. ---- */
+
+/* The first number that is free, or that of a connection that waits for nothing but its client's end. */
+static bool free_number(size_t *c) {
+    size_t drained = most;
+    for (*c = 0; *c < most; (*c)++) {
+        if (connections[*c].state == UNUSED) return true;
+        if (connections[*c].state == DRAINED && drained == most) drained = *c;
+    }
+    *c = drained;
+    if (drained < most) leave(drained);
+    return drained < most && connections[drained].state == UNUSED;
+}
+
+static void say_address(const struct sockaddr_storage *a, socklen_t len, const char *what) {
+    char host[64] = "?", at[16] = "?";
+    getnameinfo((const struct sockaddr *)a, len, host, sizeof host, at, sizeof at, NI_NUMERICHOST | NI_NUMERICSERV);
+    say(strchr(host, ':') ? "%llu: %s [%s]:%s\n" : "%llu: %s %s:%s\n", (unsigned long long)count, what, host, at);
+}
+
+static void set_flags(int s) {
+    if (fcntl(s, F_SETFL, O_NONBLOCK) < 0 || fcntl(s, F_SETFD, FD_CLOEXEC) < 0) fail("fcntl");
+}
+
+/* Takes a connection. Whether there was one. */
+static bool take(void) {
+    struct sockaddr_storage address;
+    socklen_t len = sizeof address;
+    size_t c;
+    bool begun = false;
+    int one = 1, s = accept(listener, (struct sockaddr *)&address, &len);
+    if (s < 0) {
+        if (errno == EMFILE || errno == ENFILE || errno == ENOBUFS || errno == ENOMEM) {
+            say("no connection is taken for a moment: %s\n", strerror(errno));
+            listens_at = now + AGAIN;
+        }
+        return errno == EINTR || errno == ECONNABORTED;
+    }
+    count++;
+    set_flags(s);
+    setsockopt(s, IPPROTO_TCP, TCP_NODELAY, &one, sizeof one);
+    if (free_number(&c)) mqtt5_broker_open(&broker, c, now, &begun);
+    if (!begun) {
+        say_address(&address, len, "refused, since all connections are taken:");
+        close(s);
+        return true;
+    }
+    say_address(&address, len, "connection from");
+    connections[c] = (struct connection){.state = OPEN, .socket = s, .number = count, .reason = -1};
+    if (c >= used) used = c + 1;
+    return true;
+}
+
+/* ---- The loop. ---- */
+
+static void note_signal(int number) {
+    int kept = errno;
+    (void)number;
+    if (write(signals[1], "", 1) < 0) errno = kept; /* (where the pipe is full one is noted already) */
+}
+
+/* The milliseconds until a moment, and no more than those before. */
+static int sooner(int before, uint64_t at) {
+    uint64_t left = at > now ? at - now : 0;
+    if (left > INT_MAX) left = INT_MAX;
+    return before >= 0 && before < (int)left ? before : (int)left;
+}
+
+/* What each connection waits for; until when there is nothing to do but by them. */
+static int plan(void) {
+    int timeout = -1;
+    uint64_t at;
+    bool some = false;
+    mqtt5_broker_next_moment(&broker, &at, &some);
+    due_at = some ? at : UINT64_MAX;
+    if (some) timeout = sooner(timeout, at < tries_at ? tries_at : at);
+    if (grows) timeout = sooner(timeout, measures_at);
+    polled[0] = (struct pollfd){.fd = ends || now < listens_at ? -1 : listener, .events = POLLIN};
+    if (!ends && now < listens_at) timeout = sooner(timeout, listens_at);
+    polled[1] = (struct pollfd){.fd = signals[0], .events = POLLIN};
+    for (size_t c = 0; c < used; c++) {
+        struct connection *k = &connections[c];
+        short events = (short)((k->unread > UNREAD ? 0 : POLLIN) | (k->waits ? POLLOUT : 0));
+        polled[c + 2] = (struct pollfd){.fd = k->state == UNUSED || k->state == LEAVING ? -1 : k->socket, .events = events};
+        if (k->state == ENDING || k->state == DRAINED) timeout = sooner(timeout, k->deadline);
+        if (k->state == LEAVING) timeout = sooner(timeout, now + AGAIN);
+    }
+    return timeout;
+}
+
+/* All that is due: at the broker, and of connections whose last bytes nobody takes. */
+static void do_due(void) {
+    if (due_at <= now && tries_at <= now) {
+        came = others = true;
+        if (mqtt5_broker_tick(&broker, now) != MQTT5_BROKER_DONE) {
+            say("no memory for what is due\n");
+            tries_at = now + AGAIN;
+        }
+    }
+    for (size_t c = used; c-- > 0;) {
+        struct connection *k = &connections[c];
+        bool is_over = (k->state == ENDING || k->state == DRAINED) && k->deadline <= now;
+        if (is_over && k->state == ENDING) say("%llu: ended: its last bytes were not taken\n", (unsigned long long)k->number);
+        if (is_over || k->state == LEAVING) leave(c);
+    }
+}
+
+/* The broker tells each client that it ends. */
+static void begin_end(void) {
+    char noted[16];
+    if (read(signals[0], noted, sizeof noted) < 0 || ends) return;
+    ends = true;
+    ends_by = now + 2 * REST;
+    close(listener);
+    if (mqtt5_broker_shut_down(&broker, now) != MQTT5_BROKER_DONE) say("no memory to tell all clients of the end\n");
+    for (size_t c = used; c-- > 0;) {
+        if (connections[c].state != OPEN) continue;
+        has_ended(c);
+        connections[c].state = ENDING;
+        connections[c].deadline = now + REST;
+        serve(c);
+    }
+}
+
+/* A publish or a will that came may be in any client's queue, and the broker has no list of these: all are looked at once, for
+   all that came in a round. Those whose sockets take nothing are looked at when they do. Whether a connection has ended beside
+   the one that something came on is asked where that can be: a client that connects may displace another. */
+static void pass_all(void) {
+    for (size_t c = 0; c < used; c++) {
+        struct connection *k = &connections[c];
+        bool some = false;
+        if (k->state != OPEN) continue;
+        if (others && has_ended(c)) serve(c);
+        if (k->state != OPEN || k->waits || !k->is_client) continue;
+        if (mqtt5_broker_pass(&broker, c, &some) != MQTT5_BROKER_DONE) drop(c);
+        else if (some) serve(c);
+    }
+}
+
+/* Ends the sessions for which more is kept than may be: now and then, since it looks at all that is. Whether it did that. */
+static bool measure(void) {
+    if (!grows || now < measures_at) return false;
+    grows = mqtt5_broker_trim(&broker) != MQTT5_BROKER_DONE;
+    measures_at = moment() + REST + 9 * (moment() - now);
+    return came = others = true;
+}
+
+/* One round: what came is handed in, and what there is to send goes out. */
+static void turn(void) {
+    size_t all = used;
+    int timeout = plan(), ready = poll(polled, all + 2, timeout);
+    now = moment();
+    came = others = false;
+    if (ready < 0 && errno != EINTR) fail("poll");
+    for (size_t c = 0; ready > 0 && c < all; c++) {
+        short events = polled[c + 2].revents;
+        if (events & POLLOUT) serve(c);
+        if (events & ~POLLOUT && connections[c].socket == polled[c + 2].fd) hear(c);
+    }
+    for (int i = 0; ready > 0 && polled[0].revents && i < 64 && take(); i++) {}
+    if (ready > 0 && polled[1].revents) begin_end();
+    do_due();
+    grows = grows || came;
+    do {
+        for (; came; pass_all()) came = false; /* (a client that is lost by that may have a will) */
+    } while (measure());
+}
+
+/* ---- It begins. ---- */
+
+static const char help[] =
+    "usage: mqtt5 broker [OPTIONS]\n"
+    "An MQTT 5.0 broker on this machine's own addresses.\n"
+    "\n"
+    "  -p, --port PORT          the port, else 1883; 0 takes a free one, and the first line of the log says which\n"
+    "  --bind ADDRESS           the address, else 127.0.0.1; one of 127.0.0.0/8, ::1, or localhost, since there are no users yet\n"
+    "  --max-connections N      how many connections there are at once, else 1024\n"
+    "  --max-packet-size N      the greatest remaining length of a packet that is taken, in bytes, else 1048576\n"
+    "  --max-inflight N         how many messages of QoS 1 and 2 a client is sent ahead of their acks, else 1024\n"
+    "  --max-sessions N         how many clients have a session, connected or away, else 10000\n"
+    "  --max-subscriptions N    how many subscriptions a client has, else 1000\n"
+    "  --max-retained N         how many messages are retained, else 10000\n"
+    "  --max-queued-messages N  how many messages wait for a client, else 100000\n"
+    "  --max-queued-bytes N     and how many bytes these have, else 67108864\n"
+    "  --wait SECONDS           how long a connection may be open without a Connect, else 10; 0 for any time\n"
+    "  -q, --quiet              no log\n"
+    "  --help                   this text\n"
+    "\n"
+    "docs/BROKER.md says more of each.\n";
+
+static _Noreturn void refuse(const char *word, const char *why) {
+    fprintf(stderr, "broker: %s: %s\n", word, why);
+    exit(2);
+}
+
+static const struct number {
+    const char *option;
+    unsigned long *value, least, greatest;
+} numbers[] = {
+    {"-p", &port, 0, 65535}, {"--port", &port, 0, 65535}, {"--wait", &wait_for, 0, 4294967},
+    {"--max-connections", &most, 1, 1000000}, {"--max-packet-size", &longest, 1, 268435455}, {"--max-inflight", &ids, 1, 65535},
+    {"--max-sessions", &clients, 1, ULONG_MAX}, {"--max-subscriptions", &subscriptions, 0, ULONG_MAX},
+    {"--max-retained", &retained, 0, ULONG_MAX}, {"--max-queued-messages", &queued, 0, ULONG_MAX},
+    {"--max-queued-bytes", &queued_bytes, 0, ULONG_MAX}, {NULL, NULL, 0, 0},
+};
+
+static void set_number(const char *option, const char *text) {
+    const struct number *k = numbers;
+    char *end, why[80];
+    while (k->option && strcmp(option, k->option)) k++;
+    if (!k->option) refuse(option, "no such option; --help has them all");
+    errno = 0;
+    *k->value = text && *text >= '0' && *text <= '9' ? strtoul(text, &end, 10) : (end = "?", 0);
+    snprintf(why, sizeof why, "takes a number of %lu to %lu", k->least, k->greatest);
+    if (errno || *end || *k->value < k->least || *k->value > k->greatest) refuse(option, why);
+}
+
+static void read_options(char **words) {
+    for (; *words; words++) {
+        const char *option = *words;
+        if (!strcmp(option, "--help") || !strcmp(option, "-h")) {
+            fputs(help, stdout);
+            exit(0);
+        }
+        if (!strcmp(option, "-q") || !strcmp(option, "--quiet")) {
+            quiet = true;
+            continue;
+        }
+        const char *value = words[1];
+        if (strcmp(option, "--bind")) set_number(option, value);
+        else if (!(bound = value)) refuse(option, "takes an address");
+        words++;
+    }
+}
+
+/* The address to listen at: one that only this machine reaches. */
+static socklen_t find_address(struct sockaddr_storage *a) {
+    struct sockaddr_in *four = (void *)a;
+    struct sockaddr_in6 *six = (void *)a;
+    const char *text = strcmp(bound, "localhost") ? bound : "127.0.0.1";
+    memset(a, 0, sizeof *a);
+    if (inet_pton(AF_INET, text, &four->sin_addr) == 1 && ntohl(four->sin_addr.s_addr) >> 24 == 127) {
+        four->sin_family = AF_INET;
+        four->sin_port = htons((uint16_t)port);
+        return sizeof *four;
+    }
+    if (inet_pton(AF_INET6, text, &six->sin6_addr) == 1 && IN6_IS_ADDR_LOOPBACK(&six->sin6_addr)) {
+        six->sin6_family = AF_INET6;
+        six->sin6_port = htons((uint16_t)port);
+        return sizeof *six;
+    }
+    refuse(bound, "the broker has no users yet, so it takes only addresses of this machine: 127.0.0.0/8, ::1, localhost");
+}
+
+static void listen_there(void) {
+    struct sockaddr_storage a;
+    socklen_t len = find_address(&a);
+    int one = 1;
+    bool is_six = a.ss_family == AF_INET6;
+    listener = socket(a.ss_family, SOCK_STREAM, 0);
+    if (listener < 0) fail("socket");
+    setsockopt(listener, SOL_SOCKET, SO_REUSEADDR, &one, sizeof one);
+    set_flags(listener);
+    if (bind(listener, (struct sockaddr *)&a, len) < 0 || listen(listener, 1024) < 0) fail(bound);
+    if (getsockname(listener, (struct sockaddr *)&a, &len) < 0) fail("getsockname");
+    port = ntohs(is_six ? ((struct sockaddr_in6 *)&a)->sin6_port : ((struct sockaddr_in *)&a)->sin_port);
+    say(is_six ? "listening on [%s]:%lu\n" : "listening on %s:%lu\n", strcmp(bound, "localhost") ? bound : "127.0.0.1", port);
+}
+
+/* There must be as many files as connections. */
+static void raise_files(void) {
+    struct rlimit files;
+    rlim_t wanted = most + 16;
+    if (getrlimit(RLIMIT_NOFILE, &files) < 0) fail("getrlimit");
+    if (files.rlim_cur >= wanted) return;
+    if (files.rlim_max < wanted) refuse("--max-connections", "more than the files that a process may have open (ulimit -Hn)");
+    files.rlim_cur = wanted;
+    if (setrlimit(RLIMIT_NOFILE, &files) < 0) fail("setrlimit");
+}
+
+static void catch_signals(void) {
+    struct sigaction noted = {.sa_handler = note_signal}, ignored = {.sa_handler = SIG_IGN};
+    if (pipe(signals) < 0) fail("pipe");
+    set_flags(signals[0]);
+    set_flags(signals[1]);
+    if (sigaction(SIGINT, &noted, NULL) < 0 || sigaction(SIGTERM, &noted, NULL) < 0 || sigaction(SIGPIPE, &ignored, NULL) < 0)
+        fail("sigaction");
+}
+
+int main(int argc, char **argv) {
+    if (argc > 0) read_options(argv + 1);
+    /* (no socket gets the number of a log that is closed) */
+    int s = 0;
+    while (s >= 0 && s < 3) s = open("/dev/null", O_RDWR);
+    close(s);
+    raise_files();
+    connections = calloc(most, sizeof *connections);
+    polled = calloc(most + 2, sizeof *polled);
+    uint32_t made = mqtt5_broker_new(&broker, most, (uint32_t)longest, (uint16_t)ids, (uint32_t)wait_for * 1000);
+    if (!connections || !polled || made != MQTT5_BROKER_DONE) {
+        fprintf(stderr, "broker: no memory for %lu connections\n", most);
+        return 1;
+    }
+    mqtt5_broker_bound(&broker, clients, subscriptions, retained, queued, queued_bytes);
+    catch_signals();
+    listen_there();
+    now = moment();
+    while (!ends || (used > 0 && now < ends_by)) turn();
+    mqtt5_broker_free(&broker);
+    return 0;
+}

@@ -1,0 +1,98 @@
+/* An MQTT 5.0 broker without sockets and without a clock: bytes of connections come in, bytes for connections go out. A
+   connection is a number of the caller's, below the count that the broker was made for; a moment is a number of
+   milliseconds of any clock that doesn't go back. docs/BROKER.md says how it is linked and what the caller owes. */
+#ifndef MQTT5_BROKER_H
+#define MQTT5_BROKER_H
+
+#include <stdbool.h>
+#include <stddef.h>
+#include <stdint.h>
+
+#ifdef __cplusplus
+extern "C" {
+#endif
+
+/* What every call answers. A call writes to a place of the caller's, as `begun` or `buffer`, only where it answers 0. */
+enum {
+    MQTT5_BROKER_DONE = 0,
+    /* Memory was refused; each call says what is to be done then. The handle has its broker all the same, if it had one. */
+    MQTT5_BROKER_OUT_OF_MEMORY = 12,
+    /* The handle has no broker. */
+    MQTT5_BROKER_NONE = 200,
+    /* mqtt5_broker_new with `ids` 0, which makes no broker. */
+    MQTT5_BROKER_BAD_ARGUMENT = 201,
+    /* mqtt5_broker_new of a handle that has a broker, which stays. */
+    MQTT5_BROKER_THERE = 202
+};
+
+/* A place for a broker. All zero is a place without one. It is not copied while it has one. */
+typedef struct {
+    bool live;
+    void *broker;
+} mqtt5_broker;
+
+/* Makes a broker in an empty handle, for connections of the numbers 0 to connections - 1. `longest` is the greatest
+   remaining length of a packet that a client may send; `ids`, at least 1, how many publishes of QoS 1 and 2 a client is
+   sent ahead of their acks at most; and `wait` for how many milliseconds a connection may be open without a Connect, or
+   0 for any time. Where memory is refused the handle stays empty. */
+uint32_t mqtt5_broker_new(mqtt5_broker *b, size_t connections, uint32_t longest, uint16_t ids, uint32_t wait);
+
+/* What may be kept at most, from now on; before that there is no bound. How many clients are known at once, connected or
+   away, and how many messages are retained: one more is refused with Quota exceeded (0x97), but a will is retained all the
+   same, and as many clients are taken as there once were. How many subscriptions a client has, how many publishes wait in its queue, and how many bytes these have as frames:
+   mqtt5_broker_trim ends the sessions of clients that have more. */
+uint32_t mqtt5_broker_bound(
+    mqtt5_broker *b, size_t clients, size_t subscriptions, size_t retained, size_t queued, uint64_t bytes);
+
+/* Lets the broker go, with all that it holds; the handle is empty again. */
+uint32_t mqtt5_broker_free(mqtt5_broker *b);
+
+/* A connection begins: `begun` tells whether it does, which it doesn't where one of that number is open, or where there is
+   no such number. What was still to be sent on one that isn't open is dropped. */
+uint32_t mqtt5_broker_open(mqtt5_broker *b, size_t connection, uint64_t at, bool *begun);
+
+/* Takes bytes of a connection, in any pieces. Where memory is refused the connection is to be closed. */
+uint32_t mqtt5_broker_receive(mqtt5_broker *b, size_t connection, const uint8_t *bytes, size_t len, uint64_t at);
+
+/* Whether bytes of it are taken. Where none are, its output is to be sent, and then it is to be closed. */
+uint32_t mqtt5_broker_is_open(mqtt5_broker *b, size_t connection, bool *is_open);
+
+/* Copies the first bytes of what is to be sent on it, as many as fit, and tells how many. They stay until
+   mqtt5_broker_sent. */
+uint32_t mqtt5_broker_output(mqtt5_broker *b, size_t connection, uint8_t *buffer, size_t buffer_len, size_t *count);
+uint32_t mqtt5_broker_sent(mqtt5_broker *b, size_t connection, size_t count);
+
+/* The first publish of the queue of its client is taken out and goes into its output, if there is one and it may be sent:
+   `some` tells whether there is. One that is longer than the client takes isn't written. Where memory is refused the
+   connection is to be closed. */
+uint32_t mqtt5_broker_pass(mqtt5_broker *b, size_t connection, bool *some);
+
+/* Ends the sessions of all clients for which more is kept than may be: those that are connected are told Quota exceeded
+   (0x97), and no more bytes of them are taken. It looks at all that waits. Where memory is refused some may not have ended:
+   the call may be made again. */
+uint32_t mqtt5_broker_trim(mqtt5_broker *b);
+
+/* Its transport has ended, or was ended: its number is free. Where memory is refused all is as before, and the call may be
+   made again. */
+uint32_t mqtt5_broker_close(mqtt5_broker *b, size_t connection, uint64_t at);
+
+/* All that is due at this moment happens: keep alive, wills with a delay, and sessions that end. Where memory is refused
+   some of it may not have happened: the call may be made again. */
+uint32_t mqtt5_broker_tick(mqtt5_broker *b, uint64_t at);
+
+/* The first moment at which something is due, if `some` says that there is one. */
+uint32_t mqtt5_broker_next_moment(mqtt5_broker *b, uint64_t *at, bool *some);
+
+/* Tells each client that the broker ends (reason 0x8B), and takes no more bytes of any connection. Where memory is refused
+   some may not be told: the call may be made again. */
+uint32_t mqtt5_broker_shut_down(mqtt5_broker *b, uint64_t at);
+
+/* Copies the beginning of the identifier of the connection's client, as much as fits, and tells how many bytes; 0 where
+   it has no client. */
+uint32_t mqtt5_broker_client(mqtt5_broker *b, size_t connection, uint8_t *buffer, size_t buffer_len, size_t *count);
+
+#ifdef __cplusplus
+}
+#endif
+
+#endif

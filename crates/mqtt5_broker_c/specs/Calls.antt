@@ -1,0 +1,72 @@
+-- What a call leaves of a handle's broker, what it writes to C's places, and the number that it
+-- answers.
+use Rattle.std.specs.Prelude.{◌≡◌, ◌⊎◌, ℕ, Bool, not, nat_lt, ◌&&◌, List, [], ◌++◌, length, min}
+use Rattle.std.specs.Prelude.{take, drop, replicate, Option, None, Some, IsSome, option_map}
+use Rattle.mqtt5_broker.specs.Broker.{Broker, no_bounds}
+use Rattle.mqtt5_broker.specs.Connection.{closed, connection_at}
+use Rattle.mqtt5_broker_c.specs.Numbers.{done, no_broker, out_of_memory}
+
+-- the number of a call that is done, or that there is no broker for
+abbrev pub done_of : Option Broker → ℕ
+done_of None = no_broker
+done_of (Some b) = done
+
+-- It is done: the broker changed so. Without a broker there is still none.
+abbrev pub Does : (Broker → Broker) → Option Broker → ℕ → Option Broker → Type 0
+Does changes before code after = (code ≡ done_of before) × (after ≡ option_map changes before)
+
+-- nothing is changed
+abbrev pub Looks : Option Broker → ℕ → Option Broker → Type 0
+Looks before code after = (code ≡ done_of before) × (after ≡ before)
+
+-- memory was refused to a broker, and there still is one, of which nothing is said
+abbrev pub IsRefused : Option Broker → ℕ → Option Broker → Type 0
+IsRefused before code after = (code ≡ out_of_memory) × IsSome before × IsSome after
+
+-- it is done, or memory was refused
+abbrev pub DoesOrIsRefused : (Broker → Broker) → Option Broker → ℕ → Option Broker → Type 0
+DoesOrIsRefused changes before code after =
+    Does changes before code after ⊎ IsRefused before code after
+
+-- memory was refused to a broker, which changed so
+abbrev pub IsLeft : (Broker → Broker) → Option Broker → ℕ → Option Broker → Type 0
+IsLeft changes before code after =
+    (code ≡ out_of_memory) × IsSome before × (after ≡ option_map changes before)
+
+-- it is done, or memory was refused and the broker changed otherwise
+abbrev pub DoesOrLeaves : (Broker → Broker) → (Broker → Broker) → Option Broker → ℕ → Option Broker
+    → Type 0
+DoesOrLeaves changes otherwise before code after =
+    Does changes before code after ⊎ IsLeft otherwise before code after
+
+-- what is at a place of C's after a call: what the broker tells, or else what was there
+abbrev pub told : {A : Type 0} → (Broker → A) → Option Broker → A → A
+told tells None was = was
+told tells (Some b) was = tells b
+
+-- how many of these bytes a buffer has room for
+abbrev pub fitting : List ℕ → List ℕ → ℕ
+fitting bytes buffer = min (length bytes) (length buffer)
+
+-- a buffer with these bytes over its beginning, as many as fit
+abbrev pub over : List ℕ → List ℕ → List ℕ
+over bytes buffer = take (fitting bytes buffer) bytes ++ drop (fitting bytes buffer) buffer
+
+-- whether a connection of this number would begin
+abbrev pub may_begin : ℕ → Broker → Bool
+may_begin c b =
+    nat_lt c (length b.connections) && not (connection_at c b.connections).is_open
+
+-- a broker with no client, for so many connections
+abbrev pub fresh : ℕ → ℕ → ℕ → ℕ → Broker
+fresh connections longest ids wait = record {
+  sessions = record { clients = []; retained = [] };
+  members = [];
+  connections = replicate connections closed;
+  limit = ids;
+  longest = longest;
+  wait = wait;
+  bounds = no_bounds;
+  moment = 0;
+  next_name = 0;
+}

@@ -1,0 +1,4 @@
+pub mod Owned
+pub mod Handles
+pub mod Numbers
+pub mod Calls

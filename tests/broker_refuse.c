@@ -1,0 +1,263 @@
+/* The calls of c/mqtt5_broker.h, with each request for memory refused in turn, over a dialogue of three clients. It is linked
+   with --wrap of malloc, realloc and free, and best under the address sanitizer. A call answers 0, or 12 where a request of
+   it was refused; then its connection is closed, or the call is made again, and the dialogue goes on. Where no call answers
+   12, all is sent as with none refused. What the library takes must be given back once the broker is let go. Prints what it
+   did, or what is wrong. */
+#include "../c/mqtt5_broker.h"
+
+#include <stdio.h>
+#include <stdlib.h>
+#include <string.h>
+
+/* The library's memory. The request of this number is refused, counted from 1; none is for 0. */
+static long refused;
+static long requests;
+static long blocks;
+
+static bool is_refused(void) { return ++requests == refused; }
+
+void *__real_malloc(size_t size);
+void *__real_realloc(void *block, size_t size);
+void __real_free(void *block);
+
+void *__wrap_malloc(size_t size) {
+    void *block = is_refused() ? NULL : __real_malloc(size);
+    blocks += block != NULL;
+    return block;
+}
+
+void *__wrap_realloc(void *old, size_t size) {
+    void *block = is_refused() ? NULL : __real_realloc(old, size);
+    blocks += block != NULL && old == NULL;
+    return block;
+}
+
+void __wrap_free(void *block) {
+    blocks -= block != NULL;
+    __real_free(block);
+}
+
+static int failures;
+
+#define EXPECT(got, wanted)                                                                              \
+    do {                                                                                                 \
+        unsigned long long got_ = (got), wanted_ = (wanted);                                             \
+        if (got_ != wanted_) {                                                                           \
+            printf("line %d, request %ld refused: %s is %llu, not %llu\n", __LINE__, refused, #got, got_, wanted_); \
+            failures++;                                                                                  \
+        }                                                                                                \
+    } while (0)
+
+#define BYTES(literal) (const uint8_t *)(literal), sizeof(literal) - 1
+
+/* Packets of MQTT 5.0 (sections 3.1 to 3.14), by hand. The first client, s, has a keep alive of 10 seconds and a will for
+   the topic w with the payload g; the others, p and r, have none of these. */
+#define CONNECT_S "\x10\x15\0\x04MQTT\x05\x06\0\x0a\0\0\x01s\0\0\x01w\0\x01g"
+#define CONNECT_P "\x10\x0e\0\x04MQTT\x05\x02\0\0\0\0\x01p"
+#define CONNECT_R "\x10\x0e\0\x04MQTT\x05\x02\0\0\0\0\x01r"
+#define SUBSCRIBE "\x82\x07\0\x01\0\0\x01" "a" "\x01"
+#define SUBSCRIBE_TO_WILLS "\x82\x07\0\x01\0\0\x01" "w" "\0"
+#define SUBACK_OF_1 "\x90\x04\0\x01\0\x01"
+#define SUBACK_OF_0 "\x90\x04\0\x01\0\0"
+#define PUBLISH_OF_P "\x32\x07\0\x01" "a" "\0\x09\0" "x"
+#define PUBACK_TO_P "\x40\x02\0\x09"
+#define PUBLISH_TO_S "\x32\x07\0\x01" "a" "\0\x01\0" "x"
+#define PUBACK_OF_S "\x40\x02\0\x01"
+#define LAST "\x30\x05\0\x01" "a" "\0" "y"
+#define WILL "\x30\x05\0\x01" "w" "\0" "g"
+
+/* What came out of a dialogue: the bytes of each connection, what else was told, and how often memory was refused. */
+typedef struct {
+    uint8_t bytes[3][128];
+    size_t len[3];
+    uint64_t moment;
+    bool moments, passed[4];
+    int refusals;
+} told;
+
+/* A connection of whose call memory was refused: it is closed, and its number begins anew. */
+static void lose(mqtt5_broker *b, size_t connection, told *t) {
+    bool begun = false;
+    t->refusals++;
+    EXPECT(mqtt5_broker_close(b, connection, 1), MQTT5_BROKER_DONE);
+    EXPECT(mqtt5_broker_open(b, connection, 1, &begun), MQTT5_BROKER_DONE);
+    EXPECT(begun, true);
+}
+
+static void comes(mqtt5_broker *b, size_t connection, const uint8_t *bytes, size_t len, uint64_t at, told *t) {
+    uint32_t code = mqtt5_broker_receive(b, connection, bytes, len, at);
+    if (code == MQTT5_BROKER_OUT_OF_MEMORY) lose(b, connection, t);
+    else EXPECT(code, MQTT5_BROKER_DONE);
+}
+
+static void passes(mqtt5_broker *b, size_t connection, bool *some, told *t) {
+    uint32_t code = mqtt5_broker_pass(b, connection, some);
+    if (code == MQTT5_BROKER_OUT_OF_MEMORY) lose(b, connection, t);
+    else EXPECT(code, MQTT5_BROKER_DONE);
+}
+
+/* A call that may be made again where memory is refused. */
+#define TWICE(call)                                            \
+    do {                                                       \
+        uint32_t code_ = (call);                               \
+        if (code_ == MQTT5_BROKER_OUT_OF_MEMORY) {             \
+            t->refusals++;                                     \
+            code_ = (call);                                    \
+        }                                                      \
+        EXPECT(code_, MQTT5_BROKER_DONE);                      \
+    } while (0)
+
+/* Sends what there is, in pieces of three bytes at most. */
+static void sends(mqtt5_broker *b, size_t connection, told *t) {
+    size_t count = 1;
+    while (count > 0 && t->len[connection] + 3 <= sizeof t->bytes[connection]) {
+        EXPECT(mqtt5_broker_output(b, connection, t->bytes[connection] + t->len[connection], 3, &count), MQTT5_BROKER_DONE);
+        EXPECT(mqtt5_broker_sent(b, connection, count), MQTT5_BROKER_DONE);
+        t->len[connection] += count;
+    }
+    EXPECT(count, 0);
+}
+
+/* Makes the broker; without memory the handle is empty, and may be tried again. */
+static void begins(mqtt5_broker *b, told *t) {
+    bool some = false;
+    uint32_t code = mqtt5_broker_new(b, 3, 64, 10, 0);
+    if (code == MQTT5_BROKER_OUT_OF_MEMORY) {
+        t->refusals++;
+        EXPECT(mqtt5_broker_pass(b, 0, &some), MQTT5_BROKER_NONE);
+        code = mqtt5_broker_new(b, 3, 64, 10, 0);
+    }
+    EXPECT(code, MQTT5_BROKER_DONE);
+    EXPECT(mqtt5_broker_bound(b, 3, 1, 0, 1, 100), MQTT5_BROKER_DONE);
+    for (size_t connection = 0; connection < 3; connection++) {
+        bool begun = false;
+        EXPECT(mqtt5_broker_open(b, connection, 0, &begun), MQTT5_BROKER_DONE);
+        EXPECT(begun, true);
+    }
+}
+
+/* s subscribes, p publishes to it, s falls silent, and its will is published. r comes, also where what was due is not yet done
+   for want of memory, and has its own message. Then the broker ends. */
+static void plays(mqtt5_broker *b, told *t) {
+    bool is_open, is_late;
+    uint32_t code;
+    int before;
+    begins(b, t);
+    comes(b, 0, BYTES(CONNECT_S), 1, t);
+    comes(b, 1, BYTES(CONNECT_P), 2, t);
+    comes(b, 0, BYTES(SUBSCRIBE), 3, t);
+    comes(b, 1, BYTES(SUBSCRIBE_TO_WILLS), 4, t);
+    comes(b, 1, (const uint8_t *)PUBLISH_OF_P, 4, 5, t);
+    comes(b, 1, (const uint8_t *)PUBLISH_OF_P + 4, sizeof PUBLISH_OF_P - 5, 5, t);
+    TWICE(mqtt5_broker_trim(b));
+    passes(b, 0, &t->passed[0], t);
+    sends(b, 0, t);
+    comes(b, 0, BYTES(PUBACK_OF_S), 100, t);
+    passes(b, 0, &t->passed[1], t);
+    EXPECT(mqtt5_broker_next_moment(b, &t->moment, &t->moments), MQTT5_BROKER_DONE);
+    before = t->refusals;
+    code = mqtt5_broker_tick(b, 15100);
+    is_late = code == MQTT5_BROKER_OUT_OF_MEMORY;
+    t->refusals += is_late;
+    comes(b, 2, BYTES(CONNECT_R), 15100, t);
+    comes(b, 2, BYTES(SUBSCRIBE), 15100, t);
+    if (is_late) code = mqtt5_broker_tick(b, 15100);
+    EXPECT(code, MQTT5_BROKER_DONE);
+    passes(b, 1, &t->passed[2], t);
+    EXPECT(mqtt5_broker_is_open(b, 0, &is_open), MQTT5_BROKER_DONE);
+    if (before == 0) EXPECT(is_open, false);
+    sends(b, 0, t);
+    TWICE(mqtt5_broker_close(b, 0, 15101));
+    comes(b, 1, BYTES(LAST), 15101, t);
+    passes(b, 2, &t->passed[3], t);
+    if (is_late) EXPECT(t->passed[3], true);
+    TWICE(mqtt5_broker_shut_down(b, 15102));
+    sends(b, 1, t);
+    sends(b, 2, t);
+    EXPECT(mqtt5_broker_free(b), MQTT5_BROKER_DONE);
+    EXPECT(blocks, 0);
+}
+
+/* Takes these bytes off the front of what was sent. */
+static void expect_bytes(const uint8_t **at, const uint8_t *end, const uint8_t *wanted, size_t len, int line) {
+    if ((size_t)(end - *at) < len || memcmp(*at, wanted, len)) {
+        printf("line %d: other bytes are sent\n", line);
+        failures++;
+        return;
+    }
+    *at += len;
+}
+
+#define SENT(literal) expect_bytes(&at, end, BYTES(literal), __LINE__)
+
+/* Takes a ConnAck off, of success and without a session (3.2.2.1, 3.2.2.2), whatever its properties; and a Disconnect of a
+   reason (3.14.2.1), with or without a length of properties. */
+static void expect_connack(const uint8_t **at, const uint8_t *end) {
+    EXPECT(end - *at > 4 && (*at)[1] >= 3 && end - *at >= 2 + (*at)[1], true);
+    if (failures) return;
+    EXPECT((*at)[0], 0x20);
+    EXPECT((*at)[2], 0);
+    EXPECT((*at)[3], 0);
+    *at += 2 + (*at)[1];
+}
+
+static void expect_disconnect(const uint8_t *at, const uint8_t *end, uint8_t reason) {
+    EXPECT(end - at >= 3 && end - at == 2 + at[1], true);
+    if (failures) return;
+    EXPECT(at[0], 0xe0);
+    EXPECT(at[2], reason);
+}
+
+/* With no request refused: each packet in its turn, the will of s after one and a half times its keep alive (3.1.2.10). */
+static void expect_whole(const told *t) {
+    const uint8_t *at = t->bytes[0], *end = at + t->len[0];
+    expect_connack(&at, end);
+    SENT(SUBACK_OF_1);
+    SENT(PUBLISH_TO_S);
+    expect_disconnect(at, end, 0x8d);
+    at = t->bytes[1], end = at + t->len[1];
+    expect_connack(&at, end);
+    SENT(SUBACK_OF_0);
+    SENT(PUBACK_TO_P);
+    SENT(WILL);
+    expect_disconnect(at, end, 0x8b);
+    at = t->bytes[2], end = at + t->len[2];
+    expect_connack(&at, end);
+    SENT(SUBACK_OF_1);
+    SENT(LAST);
+    expect_disconnect(at, end, 0x8b);
+    EXPECT(t->passed[0], true);
+    EXPECT(t->passed[1], false);
+    EXPECT(t->passed[2], true);
+    EXPECT(t->passed[3], true);
+    EXPECT(t->moments, true);
+    EXPECT(t->moment, 100 + 15000);
+    EXPECT(t->refusals, 0);
+}
+
+static bool is_same(const told *t, const told *other) {
+    return !memcmp(t->bytes, other->bytes, sizeof t->bytes) && !memcmp(t->len, other->len, sizeof t->len)
+        && !memcmp(t->passed, other->passed, sizeof t->passed) && t->moment == other->moment && t->moments == other->moments;
+}
+
+int main(void) {
+    told whole = {0};
+    mqtt5_broker first = {0};
+    long all, refusals = 0;
+    plays(&first, &whole);
+    all = requests;
+    expect_whole(&whole);
+    EXPECT(all > 0, true);
+    for (refused = 1; refused <= all && !failures; refused++) {
+        told t = {0};
+        mqtt5_broker b = {0};
+        requests = 0;
+        plays(&b, &t);
+        EXPECT(t.refusals <= 1, true);
+        if (t.refusals == 0) EXPECT(is_same(&t, &whole), true);
+        refusals += t.refusals;
+    }
+    EXPECT(refusals > 0, true);
+    if (!failures) printf("each of %ld requests for memory refused in turn, %ld told\n", all, refusals);
+    return failures != 0;
+}

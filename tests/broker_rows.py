@@ -1,0 +1,1271 @@
+"""Rows of tests/broker: each is a few clients at a broker, with what MQTT 5.0 says that comes of it. All rows of a broker run side
+by side. Usage: broker_rows.py FOLDER BROKER [ROW..], where the broker is mosquitto or the path of this repository's server, and
+the folder takes logs. A row whose name isn't in the list of one of the brokers has no word of it, for the reason beside it."""
+
+import asyncio
+import os
+import random
+import signal
+import socket
+import sys
+import time
+import traceback
+from contextlib import asynccontextmanager
+
+from broker_client import (
+    PINGRESP, PUBACK, PUBCOMP, PUBLISH, PUBREC, PUBREL, SUBACK, Client, Ended, Will, ack_frame, connect_frame,
+    disconnect_frame, expiry, frame, message_of, number, properties_of, publish_frame, receive_maximum, subscribe_frame, text)
+
+FOLDER, BROKER = sys.argv[1], sys.argv[2]
+WANTED = sys.argv[3:]
+IS_OURS = BROKER != "mosquitto"
+# How many seconds a row may take.
+LIMIT = 60
+# The most bytes of a packet that both brokers are told to take.
+LONGEST = 1048576
+# The hostile frames, and the moments of kills, are the same each time.
+SEED = int(os.environ.get("SEED", "5"))
+KEPT = dict(clean=False, properties=expiry(1000))
+
+ROWS = []
+
+
+def row(ours=True, mosquitto=True):
+    def note(function):
+        if ours if IS_OURS else mosquitto:
+            ROWS.append(function)
+        return function
+    return note
+
+
+# ---- A broker. ----
+
+
+class Server:
+    def __init__(self, process, port, log):
+        self.process, self.port, self.log = process, port, log
+
+    def client(self, name, **words):
+        return Client(self.port, name, **words)
+
+    @asynccontextmanager
+    async def connected(self, name, **settings):
+        """A client that is connected; at the end its connection is lost."""
+        client = Client(self.port, name)
+        client.present = await client.connect(**settings)
+        try:
+            yield client
+        finally:
+            client.cut()
+
+    def logged(self):
+        with open(self.log, errors="replace") as log:
+            return log.read()
+
+    async def says(self, line, within=5):
+        """Its log has this in a line."""
+        end = time.monotonic() + within
+        while line not in self.logged():
+            assert time.monotonic() < end and self.process.returncode is None, f"no '{line}' in {self.logged()[-2000:]}"
+            await asyncio.sleep(0.02)
+
+
+COUNT = 0
+
+
+async def start(*words, program=BROKER):
+    """Starts a broker: words are this server's own."""
+    global COUNT
+    COUNT += 1
+    path = f"{FOLDER}/log.{COUNT}"
+    port, command, is_up = 0, [program, "-p", "0", *words], "listening on "
+    if not IS_OURS:
+        port, command, is_up = free_port(), ["mosquitto", "-v", "-c", f"{FOLDER}/conf.{COUNT}"], " running\n"
+        with open(command[-1], "w") as conf:
+            conf.write(f"listener {port} 127.0.0.1\nallow_anonymous true\nmax_queued_messages 0\nmax_inflight_messages 1000\n"
+                       f"max_packet_size {LONGEST}\n")
+    with open(path, "w") as log:
+        process = await asyncio.create_subprocess_exec(*command, stdout=log, stderr=log)
+    server = Server(process, port, path)
+    await server.says(is_up, 20)
+    if IS_OURS:
+        server.port = int(server.logged().split("\n")[0].rsplit(":", 1)[1])
+    return server
+
+
+def free_port():
+    with socket.socket() as s:
+        s.bind(("127.0.0.1", 0))
+        return s.getsockname()[1]
+
+
+async def stop(server, sign=signal.SIGTERM):
+    """Stops a broker, whose memory was in order, and answers its status."""
+    if server.process.returncode is None:
+        server.process.send_signal(sign)
+    status = await asyncio.wait_for(server.process.wait(), 10)
+    assert "Sanitizer" not in server.logged() and "runtime error" not in server.logged(), server.logged()[-4000:]
+    assert not IS_OURS or status == 0, f"status {status}: {server.logged()[-2000:]}"
+    return status
+
+
+@asynccontextmanager
+async def started(*words, program=BROKER):
+    server = await start(*words, program=program)
+    try:
+        yield server
+    finally:
+        await stop(server)
+
+
+# ---- Messages. ----
+
+
+@row()
+async def qualities(b):
+    """Each QoS of a message to each QoS of a subscription (3.8.4, 4.3)."""
+    for granted in (0, 1, 2):
+        async with b.connected(f"qualities-{granted}") as sub, b.connected("qualities-pub") as pub:
+            assert await sub.subscribe((f"qualities/{granted}/+", granted)) == [granted]
+            for qos in (0, 1, 2):
+                for payload in (b"", b"\x00\xff bytes", b"x" * 100000):
+                    assert await pub.publish(f"qualities/{granted}/x", payload, qos) == 0
+                    got = await sub.take()
+                    assert (got.topic, got.payload, got.qos) == (f"qualities/{granted}/x", payload, min(qos, granted))
+                    assert (got.retain, got.dup) == (0, 0)
+
+
+@row()
+async def order(b):
+    """Messages of one QoS come in the order in which they were published (4.6)."""
+    async with b.connected("order-sub") as sub, b.connected("order-pub") as pub:
+        await sub.subscribe("order/#")
+        for qos in (0, 1, 2):
+            for i in range(300):
+                pub.send(publish_frame("order/x", b"%d" % i, qos, id=i + 1 if qos else 0))
+            for i in range(300 if qos else 0):
+                body = await pub.answer(PUBACK if qos == 1 else PUBREC)
+                if qos == 2:
+                    pub.send(ack_frame(PUBREL, int.from_bytes(body[:2], "big")))
+            for i in range(300 if qos == 2 else 0):
+                await pub.answer(PUBCOMP)
+            assert await sub.payloads(300) == [b"%d" % i for i in range(300)]
+
+
+@row()
+async def properties(b):
+    """What a message has beside its text is forwarded as it is (3.3.2.3)."""
+    given = [(0x01, 1), (0x03, b"text/plain"), (0x08, b"answer/to"), (0x09, b"\x00\x07"), (0x26, (b"k", b"v")), (0x26, (b"k", b"w"))]
+    laid = (b"\x01\x01\x03" + text("text/plain") + b"\x08" + text("answer/to") + b"\x09" + text(b"\x00\x07") +
+            b"\x26" + text("k") + text("v") + b"\x26" + text("k") + text("w"))
+    async with b.connected("properties-sub") as sub, b.connected("properties-pub") as pub:
+        await sub.subscribe("properties")
+        for qos in (0, 1, 2):
+            await pub.publish("properties", b"x", qos, properties=laid)
+            got = properties_of((await sub.take()).properties)
+            assert sorted(got, key=lambda item: item[0]) == given, got
+
+
+@row()
+async def topics(b):
+    """Which filters match (4.7), a subscription that ends (3.10), and one that takes another's place (3.8.4)."""
+    matches = [("topics/+/c", "topics/b/c"), ("topics/#", "topics"), ("topics//+", "topics//"), ("topics/é", "topics/é")]
+    others = [("topics/+", "topics/b/c"), ("topics/b", "topics/B"), ("topics/+/c", "topics/c")]
+    async with b.connected("topics-pub") as pub:
+        for filter, topic in matches + others:
+            async with b.connected("topics-sub") as sub:
+                await sub.subscribe(filter, "topics-end")
+                await pub.publish(topic, b"x", 1)
+                await pub.publish("topics-end", b"end", 1)
+                assert await sub.payloads(2 if (filter, topic) in matches else 1) == [b"x", b"end"][-2 if (filter, topic) in matches else -1:]
+        async with b.connected("topics-sub") as sub:
+            # (of filters that are no subscription the answer is No subscription existed: 3.11.3)
+            assert await sub.subscribe(("topics/a", 0), ("topics/b", 1)) == [0, 1]
+            assert await sub.subscribe(("topics/a", 2)) == [2]
+            await pub.publish("topics/a", b"x", 2)
+            assert (await sub.take()).qos == 2
+            assert await sub.unsubscribe("topics/a", "topics/none") == [0, 0x11]
+            await pub.publish("topics/a", b"x", 2)
+            await pub.publish("topics/b", b"y", 1)
+            assert (await sub.take()).payload == b"y"
+
+
+@row()
+async def dollar(b):
+    """A filter that starts with a wildcard matches no topic that starts with a dollar sign (4.7.2)."""
+    async with b.connected("dollar-sub") as sub, b.connected("dollar-pub") as pub:
+        await sub.subscribe(("#", 0), ("+/dollar", 0))
+        await pub.publish("$dollar/dollar", b"x", 1)
+        await pub.publish("z/dollar", b"end", 1)
+        seen = set()
+        while b"end" not in seen:
+            got = await sub.take()
+            assert not got.topic.startswith("$")
+            seen.add(got.payload)
+
+
+@row()
+async def no_local(b):
+    """What a client publishes doesn't come back to it under No Local (3.8.3.1)."""
+    async with b.connected("local-one") as one, b.connected("local-two") as two:
+        await one.subscribe(("local/not", 2 | 4), ("local/too", 2))
+        for topic, who, comes in (("local/not", one, False), ("local/not", two, True), ("local/too", one, True)):
+            await who.publish(topic, b"x", 1)
+            await two.publish("local/too", b"end", 1)
+            assert await one.payloads(2 if comes else 1) == ([b"x"] if comes else []) + [b"end"]
+
+
+@row()
+async def retained(b):
+    """A retained message goes to a new subscription as such, to one that stands as any, and is cleared by an empty one
+    (3.3.1.3)."""
+    async with b.connected("retained-sub") as sub, b.connected("retained-pub") as pub:
+        await sub.subscribe("retained/+")
+        await pub.publish("retained/a", b"old", 1, retain=1)
+        await pub.publish("retained/a", b"new", 1, retain=1)
+        await pub.publish("retained/b", b"other", 2, retain=1)
+        got = [await sub.take() for _ in range(3)]
+        assert [(m.payload, m.retain) for m in got] == [(b"old", 0), (b"new", 0), (b"other", 0)]
+        async with b.connected("retained-late") as late:
+            await late.subscribe(("retained/#", 1))
+            got = sorted([await late.take(), await late.take()], key=lambda m: m.topic)
+            assert [(m.topic, m.payload, m.retain, m.qos) for m in got] == [("retained/a", b"new", 1, 1), ("retained/b", b"other", 1, 1)]
+        await pub.publish("retained/a", b"", 1, retain=1)
+        assert (await sub.take()).payload == b""
+        await pub.publish("retained/b", b"", 0, retain=1)
+        assert (await sub.take()).payload == b""
+        async with b.connected("retained-last") as last:
+            await last.subscribe("retained/#")
+            await pub.publish("retained/end", b"end", 1)
+            assert (await last.take()).payload == b"end"
+
+
+@row()
+async def retain_handling(b):
+    """When a Subscribe brings retained messages (3.8.3.1)."""
+    async with b.connected("handling-sub") as sub, b.connected("handling-pub") as pub:
+        await pub.publish("handling", b"kept", 1, retain=1)
+        for handling, again, comes in ((2, False, False), (1, True, False), (0, True, True), (1, False, True), (0, False, True)):
+            if not again:
+                await sub.unsubscribe("handling")
+            await sub.subscribe(("handling", 1 | handling << 4))
+            if comes:
+                got = await sub.take()
+                assert (got.payload, got.retain) == (b"kept", 1)
+            await sub.is_quiet(0.1)
+        await pub.publish("handling", b"", 1, retain=1)
+
+
+@row()
+async def receive_max(b):
+    """No more publishes of QoS 1 and 2 than a client's Receive Maximum are sent ahead of their acks (3.3.4); those of QoS 2 are
+    under way until PubComp (4.9)."""
+    async with b.connected("maximum-pub") as pub, b.connected("maximum-sub", properties=receive_maximum(2)) as sub:
+        await sub.subscribe("maximum")
+        sub.manual = True
+        for qos in (1, 2):
+            for i in range(5):
+                await pub.publish("maximum", b"%d" % i, qos)
+            ids = [(await sub.take()).id for _ in range(2)]
+            await sub.is_quiet(0.2)
+            if not IS_OURS:
+                # (mosquitto 2.0.11 sends one too many once an ack came)
+                return
+            for i in range(5):
+                if qos == 1:
+                    sub.send(ack_frame(PUBACK, ids.pop(0)))
+                else:
+                    sub.send(ack_frame(PUBREC, ids[0]))
+                    assert (await sub.answer(PUBREL))[:2] == ids[0].to_bytes(2, "big")
+                    await sub.is_quiet(0.1)
+                    sub.send(ack_frame(PUBCOMP, ids.pop(0)))
+                if i < 3:
+                    got = await sub.take()
+                    assert got.payload == b"%d" % (i + 2)
+                    ids.append(got.id)
+                await sub.is_quiet(0.1)
+
+
+@row()
+async def longest_of_client(b):
+    """A packet longer than a client takes isn't sent to it, and the others are (3.1.2.11.4)."""
+    async with b.connected("long-sub", properties=b"\x27" + (100).to_bytes(4, "big")) as sub, b.connected("long-pub") as pub:
+        await sub.subscribe("long")
+        for qos in (0, 1, 2):
+            await pub.publish("long", b"x" * 200, qos)
+            await pub.publish("long", b"y", qos)
+            assert (await sub.take()).payload == b"y"
+
+
+@row()
+async def pieces(b):
+    """Bytes come in any pieces: one at a time, and all at once."""
+    async def by_bytes():
+        slow = await b.client("pieces-slow").dial()
+        frames = connect_frame("pieces-slow") + subscribe_frame(1, [("pieces/slow", 1)]) + publish_frame("pieces/slow", b"slow", 1, id=7)
+        for byte in frames:
+            slow.send(bytes([byte]))
+            await asyncio.sleep(0.01)
+        assert (await slow.frame())[0] == 0x20
+        assert [await slow.answer(SUBACK), await slow.answer(PUBACK)] == [b"\0\1\0\1", b"\0\7"]
+        assert (await slow.take()).payload == b"slow"
+        await slow.disconnect()
+
+    async def at_once():
+        fast = await b.client("pieces-fast").dial()
+        fast.send(connect_frame("pieces-fast") + subscribe_frame(1, [("pieces/fast", 0)]) +
+                  b"".join(publish_frame("pieces/fast", b"%d" % i) for i in range(5000)) + b"\xc0\0" + disconnect_frame())
+        assert (await fast.frame())[0] == 0x20
+        await fast.answer(SUBACK)
+        await fast.answer(PINGRESP)
+
+    await asyncio.gather(by_bytes(), at_once())
+
+
+# ---- Wills. ----
+
+
+async def cut_with(b, name, will, properties=b""):
+    """A client with a will loses its connection."""
+    async with b.connected(name, will=will, properties=properties):
+        pass
+
+
+@row()
+async def wills(b):
+    """A will is published once the connection is lost, with its properties, and retained where it asks for it (3.1.2.5)."""
+    async with b.connected("wills-sub") as sub:
+        await sub.subscribe("wills/#")
+        for qos in (0, 1, 2):
+            laid = b"\x01\x01\x03" + text("text") + b"\x26" + text("k") + text("v")
+            await cut_with(b, "wills-one", Will("wills/x", b"gone", qos, qos & 1, properties=laid))
+            got = await sub.take()
+            assert (got.topic, got.payload, got.qos, got.retain) == ("wills/x", b"gone", qos, 0)
+            assert sorted(properties_of(got.properties)) == [(1, 1), (3, b"text"), (0x26, (b"k", b"v"))]
+        async with b.connected("wills-late") as late:
+            await late.subscribe("wills/#")
+            assert (await late.take()).retain == 1
+            await late.publish("wills/x", b"", 1, retain=1)
+            assert (await late.take()).payload == b""
+
+
+@row()
+async def will_after_disconnect(b):
+    """A Disconnect of reason 0 drops the will; one of reason 4 doesn't (3.14.2.1), nor does an end without a word."""
+    async with b.connected("said-sub") as sub:
+        await sub.subscribe("said/#")
+        for reason, comes in ((0, False), (4, True)):
+            one = b.client("said-one")
+            await one.connect(will=Will("said/x", b"gone", 1))
+            await one.disconnect(reason)
+            if comes:
+                assert (await sub.take()).payload == b"gone"
+            await sub.is_quiet(0.2)
+
+
+@row()
+async def will_delay(b):
+    """A will with a delay comes that much later (3.1.3.2.2); not where its client is back before, with its session; and at once
+    where the session ends before."""
+    # (mosquitto looks once a second)
+    slack = 0.0 if IS_OURS else 1.0
+
+    async def late():
+        async with b.connected("delay-sub1") as sub:
+            await sub.subscribe("delay/late")
+            begun = time.monotonic()
+            await cut_with(b, "delay-late", Will("delay/late", b"late", 1, delay=2), expiry(100))
+            assert (await sub.take()).payload == b"late"
+            assert 2 - slack <= time.monotonic() - begun <= 6, time.monotonic() - begun
+
+    async def back():
+        async with b.connected("delay-sub2") as sub:
+            await sub.subscribe("delay/back")
+            await cut_with(b, "delay-back", Will("delay/back", b"back", 1, delay=2), expiry(100))
+            async with b.connected("delay-back", clean=False, properties=expiry(100)) as one:
+                assert one.present == 1
+                await sub.is_quiet(3.5)
+                await one.disconnect()
+
+    async def over():
+        async with b.connected("delay-sub3") as sub:
+            await sub.subscribe("delay/over")
+            await cut_with(b, "delay-over", Will("delay/over", b"over", 1, delay=50))
+            assert (await sub.take(3)).payload == b"over"
+
+    # (mosquitto 2.0.11 lets that will wait)
+    await asyncio.gather(late(), back(), *([over()] if IS_OURS else []))
+
+
+# ---- Sessions. ----
+
+
+@row()
+async def sessions(b):
+    """What a session keeps (4.1), whether it is present (3.2.2.1.1), and a clean start (3.1.2.4)."""
+    async with b.connected("sessions-pub") as pub:
+        for settings, present in ((KEPT, 0), (KEPT, 1), (dict(KEPT, clean=True), 0), (KEPT, 1), (dict(clean=False), 1), (KEPT, 0)):
+            async with b.connected("sessions-one", **settings) as one:
+                assert one.present == present, (settings, one.present)
+                await one.disconnect()
+        async with b.connected("sessions-two", **KEPT) as two:
+            assert await two.subscribe("sessions/x", ("sessions/y", 1)) == [2, 1]
+            await two.disconnect()
+        for i in range(20):
+            await pub.publish("sessions/x" if i & 1 else "sessions/y", b"%d" % i, 1 + (i >> 1 & 1))
+        two = b.client("sessions-two")
+        assert await two.connect(**KEPT) == 1
+        got = [await two.take() for _ in range(20)]
+        assert [m.payload for m in got if m.topic == "sessions/x"] == [b"%d" % i for i in range(1, 20, 2)]
+        assert [m.payload for m in got if m.topic == "sessions/y"] == [b"%d" % i for i in range(0, 20, 2)]
+        await two.ping()
+        await two.disconnect()
+        async with b.connected("sessions-two", properties=expiry(1000)) as two:
+            assert two.present == 0
+            await pub.publish("sessions/x", b"x", 1)
+            await two.ping()
+            assert not two.inbox
+            await two.disconnect(0, expiry(0))
+
+
+@row()
+async def resent(b):
+    """What wasn't acknowledged comes again on the next connection: a publish under its own identifier with dup, and of one that was
+    received its release (4.4)."""
+    async with b.connected("resent-pub") as pub:
+        sub = b.client("resent-sub")
+        sub.manual = True
+        await sub.connect(**KEPT)
+        await sub.subscribe("resent")
+        for qos in (1, 2, 2):
+            await pub.publish("resent", b"%d" % qos, qos)
+        first, second, third = [await sub.take() for _ in range(3)]
+        sub.send(ack_frame(PUBREC, third.id))
+        await sub.answer(PUBREL)
+        for _ in range(3):
+            sub.cut()
+            assert await sub.connect(**KEPT) == 1
+            frames = [await sub.frame() for _ in range(3)]
+            again = {m.id: m for m in (message_of(*f) for f in frames if f[0] >> 4 == PUBLISH)}
+            assert again.keys() == {first.id, second.id}
+            assert all(m.dup == 1 for m in again.values())
+            assert (again[first.id].qos, again[second.id].qos) == (1, 2)
+            assert [f[1][:2] for f in frames if f[0] == 0x62] == [third.id.to_bytes(2, "big")]
+            await sub.is_quiet(0.1)
+        sub.send(ack_frame(PUBACK, first.id) + ack_frame(PUBREC, second.id) + ack_frame(PUBCOMP, third.id))
+        await sub.answer(PUBREL)
+        sub.send(ack_frame(PUBCOMP, second.id))
+        await sub.ping()
+        sub.cut()
+        assert await sub.connect(**KEPT) == 1
+        await sub.is_quiet(0.2)
+        await sub.disconnect(0, expiry(0))
+
+
+@row()
+async def session_expiry(b):
+    """A session ends so many seconds after its connection, and not before (3.1.2.11.2); a Disconnect may say another time
+    (3.14.2.2.2)."""
+    async def comes_back(name, first, last, after, present):
+        one = b.client(name)
+        await one.connect(clean=False, properties=expiry(first))
+        await one.subscribe("expiry/none")
+        await one.disconnect(0, b"" if last is None else expiry(last))
+        await asyncio.sleep(after)
+        got = await one.connect(clean=False, properties=expiry(0))
+        assert got == present, f"{name}: session present {got}"
+        await one.disconnect()
+
+    # (mosquitto looks at sessions every few seconds, so the row gives it time)
+    long = 2.2 if IS_OURS else 8
+    await asyncio.gather(
+        comes_back("expiry-over", 1, None, long, 0), comes_back("expiry-there", 60, None, 2.2, 1),
+        comes_back("expiry-shorter", 60, 1, long, 0), comes_back("expiry-none", 60, 0, 0.1, 0),
+        comes_back("expiry-longer", 1, 60, 2.2, 1), comes_back("expiry-ever", 0xFFFFFFFF, None, 2.2, 1))
+
+
+@row(mosquitto=False)  # (mosquitto 2.0 takes that Disconnect)
+async def expiry_from_zero(b):
+    """A session that ends with its connection can't be kept by the Disconnect: a protocol error (3.14.2.2.2)."""
+    one = b.client("from-zero")
+    await one.connect()
+    one.send(disconnect_frame(0, expiry(10)))
+    await one.ends_by(0x82)
+
+
+@row()
+async def take_over(b):
+    """A second connection of a client ends the first one, which is told so (3.1.4), and its will is published (3.1.3.2.2)."""
+    async with b.connected("over-sub") as sub:
+        await sub.subscribe("over/will")
+        one, two = b.client("over-one"), b.client("over-one")
+        await one.connect(clean=False, properties=expiry(100), will=Will("over/will", b"gone", 1))
+        await one.subscribe("over/x")
+        assert await two.connect(**KEPT) == 1
+        # (mosquitto 2.0.11 doesn't say why, and publishes no will then)
+        await (one.ends_by(0x8E) if IS_OURS else until_end(one))
+        if IS_OURS:
+            assert (await sub.take()).payload == b"gone"
+        await sub.publish("over/x", b"x", 1)
+        assert (await two.take()).payload == b"x"
+        await two.disconnect(0, expiry(0))
+
+
+# ---- Time. ----
+
+
+@row()
+async def keep_alive(b):
+    """A client that is silent for one and a half times its keep alive is ended, and its will is published; one that pings isn't
+    (3.1.2.10)."""
+    async def silent():
+        async with b.connected("alive-sub") as sub:
+            await sub.subscribe("alive/will")
+            one, begun = b.client("alive-silent"), time.monotonic()
+            await one.connect(keep=1, will=Will("alive/will", b"gone", 1))
+            # (mosquitto 2.0.11 looks every few seconds, and doesn't say why)
+            await (one.ends_by(0x8D) if IS_OURS else until_end(one))
+            took = time.monotonic() - begun
+            assert 1.5 <= took <= (5 if IS_OURS else 10), took
+            assert (await sub.take()).payload == b"gone"
+
+    async def pings():
+        async with b.connected("alive-pings", keep=2) as one:
+            for _ in range(10):
+                await one.ping()
+                await asyncio.sleep(0.5)
+
+    async def is_off():
+        async with b.connected("alive-off") as one:
+            await asyncio.sleep(4)
+            await one.ping()
+
+    await asyncio.gather(silent(), pings(), is_off())
+
+
+@row(mosquitto=False)  # (mosquitto has no option for it)
+async def wait_for_connect(_):
+    """A connection on which no Connect comes is closed after the wait (--wait)."""
+    async with started("--wait", "3") as b:
+        async with b.connected("wait-client") as client:
+            none, part, begun = b.client("wait-none"), b.client("wait-part"), time.monotonic()
+            await none.dial()
+            await part.dial()
+            part.send(connect_frame("wait-part")[:5])
+            await asyncio.gather(none.ends(), part.ends())
+            assert 3 <= time.monotonic() - begun <= 9, time.monotonic() - begun
+            await client.ping()
+
+
+# ---- Refusals. ----
+
+
+@row()
+async def empty_identifier(b):
+    """A client that says no identifier is given one of its own, by which it can come back (3.1.3.1, 3.2.2.3.7)."""
+    one, two = b.client(""), b.client("")
+    await one.connect(properties=expiry(100))
+    await two.connect()
+    names = [client.connack[0x12].decode() for client in (one, two)]
+    assert all(names) and names[0] != names[1], names
+    await one.disconnect()
+    await two.disconnect()
+    async with b.connected(names[0], clean=False, properties=expiry(100)) as back:
+        assert back.present == 1
+    async with b.connected(names[1], clean=False) as back:
+        assert back.present == 0
+
+
+@row()
+async def refusals(b):
+    """Connects that a broker refuses: an authentication method that it doesn't know (4.12), and maxima of 0 (3.1.2.11.3,
+    3.1.2.11.4). Mosquitto closes without a word, or names another error, as it may."""
+    for properties, reason in ((b"\x15" + text("none"), 0x8C), (receive_maximum(0), 0x82), (b"\x27\0\0\0\0", 0x82)):
+        one = await b.client("refused").dial()
+        one.send(connect_frame("refused", properties=properties))
+        if IS_OURS or reason == 0x8C:
+            await one.is_refused(reason)
+        else:
+            await until_end(one)
+
+
+@row()
+async def first_packet(b):
+    """The first packet is a Connect, and there is one of them (3.1.0); other versions aren't spoken (3.1.2.2)."""
+    for data in (b"\xc0\0", publish_frame("first", b"x"), b"GET / HTTP/1.1\r\nHost: localhost\r\nUser-Agent: one of those that try each port\r\n\r\n",
+                 connect_frame("first", version=6), b"\x00\x00"):
+        one = await b.client("first").dial()
+        one.send(data)
+        # (mosquitto answers the version as in MQTT 3.1.1)
+        await until_end(one, 0x84, *([] if IS_OURS else [1]))
+    one = b.client("first")
+    await one.connect()
+    one.send(connect_frame("first"))
+    await (one.ends_by(0x82) if IS_OURS else until_end(one))
+
+
+async def until_end(one, *reasons):
+    """The connection ends, behind a ConnAck or Disconnect at most, whose reason is an error."""
+    try:
+        while True:
+            first, body = await one.frame()
+            assert first in (0x20, 0xE0), f"{first:02x} {body.hex()}"
+            reason = body[1] if first == 0x20 else body[0]
+            assert reason in reasons or (reason >= 0x80 and not reasons), f"{first:02x} {body.hex()}"
+    except Ended:
+        one.cut()
+
+
+MALFORMED = {
+    "a QoS of 3 (3.3.1.2)": frame(0x36, text("m") + b"\0\1\0x"),
+    "a length of five bytes (1.5.5)": b"\x30\xff\xff\xff\xff\x01",
+    "properties past the end of the packet (2.2.2.1)": frame(0x30, text("m") + b"\x05\x01\x01"),
+    "a property that a Publish hasn't (2.2.2.2)": frame(0x30, text("m") + b"\x05" + expiry(1)),
+    "a topic past the end of the packet (1.5.4)": frame(0x30, b"\x00\x09m"),
+    "an ack without an identifier (3.4.2)": frame(0x40, b"\x00"),
+    "filters that are cut short (3.8.3)": frame(0x82, b"\0\1\0" + text("m") + b"\0" + b"\0\7m"),
+}
+
+
+@row()
+async def malformed(b):
+    """A frame that can't be read ends its connection with Malformed Packet (4.13.1), and no other one. (Mosquitto closes after some
+    of them without a word, and takes others for protocol errors.)"""
+    async with b.connected("malformed-other") as other:
+        await other.subscribe("malformed")
+        for what, data in MALFORMED.items():
+            one = b.client("malformed-one")
+            await one.connect()
+            one.send(data)
+            try:
+                await (one.ends_by(0x81) if IS_OURS else until_end(one))
+            except (AssertionError, Ended, asyncio.TimeoutError) as fault:
+                raise AssertionError(f"{what}: {fault!r}") from fault
+            await other.publish("malformed", what.encode(), 1)
+            assert (await other.take()).payload == what.encode()
+
+
+@row()
+async def protocol_errors(b):
+    """Packets that a client may not send end its connection with their reasons (4.13.1)."""
+    cases = [
+        (frame(0x20, b"\0\0\0"), 0x82),                                     # a ConnAck (3.2)
+        (frame(0xF0, b"\x18\0"), 0x82),                                      # an Auth without a method (4.12)
+        (publish_frame("errors/#", b"x"), 0x90),                             # a wildcard in a topic (3.3.2.1)
+        (publish_frame("errors", b"x", properties=b"\x23\xff\xff"), 0x94),   # an alias over the maximum (3.3.2.3.4)
+    ]
+    if IS_OURS:
+        # (mosquitto takes them)
+        cases.append((frame(0x90, b"\0\1\0\0"), 0x82))                       # a SubAck (3.9)
+        cases.append((publish_frame("errors", b"x", properties=b"\x0b\x01"), 0x82))  # a subscription's identifier (3.3.4)
+    for data, reason in cases:
+        one = b.client("errors")
+        await one.connect()
+        one.send(data)
+        # (mosquitto calls some of them protocol errors, or closes without a word)
+        await (one.ends_by(reason) if IS_OURS else until_end(one))
+
+
+@row()
+async def too_long(b):
+    """A packet over the maximum that the ConnAck says ends its connection (3.2.2.3.6), before it has come whole; and the word of
+    that comes, whatever is still being sent."""
+    for more in (0, 10, 100000, 1000000):
+        one = b.client("too-long")
+        await one.connect()
+        assert one.connack.get(0x27) == LONGEST, one.connack
+        one.send(b"\x30" + number(LONGEST + 1) + text("too-long"))
+        await one.writer.drain()
+        one.send(b"x" * more)
+        # (mosquitto closes at once, and what it said may be lost with that)
+        await (one.ends_by(0x95) if IS_OURS or not more else until_end(one))
+    async with b.connected("too-long") as two:
+        await two.subscribe("too-long")
+        whole = b"x" * (LONGEST - 100)
+        await two.publish("too-long", whole, 1)
+        assert (await two.take()).payload == whole
+
+
+@row(mosquitto=False)  # (mosquitto has both)
+async def not_offered(b):
+    """What the ConnAck says that there isn't is refused today: subscription identifiers (3.2.2.3.12) and shared subscriptions
+    (3.2.2.3.13). A filter that is none is invalid (4.7.1)."""
+    for filters, properties, reason in (([("a", 0)], b"\x0b\x01", 0xA1), ([("$share/g/a", 0)], b"", 0x9E), ([("a/#/b", 0)], b"", 0x8F)):
+        one = b.client("offered")
+        await one.connect()
+        assert (one.connack[0x29], one.connack[0x2A]) == (0, 0)
+        one.send(subscribe_frame(1, filters, properties))
+        await one.ends_by(reason)
+
+
+# ---- Many, slow and hostile clients. ----
+
+
+@row()
+async def thousand(b):
+    """A thousand clients at once: a message to each, and one to all."""
+    clients = [b.client(f"thousand-{i}") for i in range(1000)]
+
+    async def begin(i):
+        async with door:
+            await clients[i].connect()
+            await clients[i].subscribe((f"thousand/{i}", 1), ("thousand/all", 0))
+
+    door = asyncio.Semaphore(100)
+    await asyncio.gather(*(begin(i) for i in range(1000)))
+    for i in range(1000):
+        clients[i].send(publish_frame(f"thousand/{(i + 1) % 1000}", b"%d" % i, 1, id=1))
+    for i in range(1000):
+        await clients[i].answer(PUBACK)
+        assert (await clients[i].take()).payload == b"%d" % ((i - 1) % 1000)
+    await clients[0].publish("thousand/all", b"all", 1)
+    for client in clients:
+        assert (await client.take()).payload == b"all"
+    begun = time.monotonic()
+    for i in range(100):
+        await clients[500].publish("thousand/7", b"x", 1)
+        await clients[7].take()
+    took = time.monotonic() - begun
+    assert took < 20, f"100 messages beside 998 idle clients take {took:.1f} s"
+    for client in clients:
+        client.cut()
+
+
+async def stays_quick(b, name, until):
+    """A client's messages to itself come soon, as long as something goes on."""
+    worst = 0
+    async with b.connected(name) as one:
+        await one.subscribe((name, 1))
+        while not until.is_set():
+            begun = time.monotonic()
+            await one.publish(name, b"x", 1)
+            await one.take()
+            worst = max(worst, time.monotonic() - begun)
+            await asyncio.sleep(0.02)
+    assert worst < 5, f"{name} waits for {worst:.1f} s"
+
+
+@row()
+async def reads_nothing(b):
+    """A client that reads nothing holds nobody up, and has all messages once it reads."""
+    done = asyncio.Event()
+    other = asyncio.create_task(stays_quick(b, "nothing-other", done))
+    sub = b.client("nothing-sub", buffer=4096)
+    await sub.connect()
+    await sub.subscribe(("nothing", 1))
+    async with b.connected("nothing-pub") as pub:
+        for i in range(200):
+            await pub.publish("nothing", b"%d:" % i + b"x" * 100000, 1)
+    await asyncio.sleep(0.5)
+    done.set()
+    await other
+    for i in range(200):
+        assert (await sub.take(30)).payload.startswith(b"%d:" % i)
+    sub.cut()
+
+
+@row(mosquitto=False)  # (there are others at that broker)
+async def will_of_one_who_reads_nothing(_):
+    """The will of a client whose messages wait is published once its connection is lost, though nobody else says anything."""
+    async with started() as b, b.connected("blocked-pub") as pub, b.connected("blocked-sub") as sub:
+        await sub.subscribe("blocked/will")
+        one = b.client("blocked", buffer=4096)
+        await one.connect(will=Will("blocked/will", b"gone", 1))
+        await one.subscribe(("blocked", 0))
+        for _ in range(100):
+            await pub.publish("blocked", b"x" * 100000, 1)
+        await asyncio.sleep(0.2)
+        one.cut()
+        assert (await sub.take(5)).payload == b"gone"
+
+
+@row(mosquitto=False)  # (mosquitto goes on reading)
+async def answers_unread(b):
+    """The server stops reading from a client that asks for answers and reads none."""
+    done = asyncio.Event()
+    other = asyncio.create_task(stays_quick(b, "unread-other", done))
+    one = b.client("unread", buffer=4096)
+    await one.connect()
+    sent, pings = 0, b"\xc0\0" * 32768
+    try:
+        while sent < 200000000:
+            one.send(pings)
+            await asyncio.wait_for(one.writer.drain(), 2)
+            sent += len(pings)
+        raise AssertionError("the server takes 200 MB of pings without an answer being read")
+    except asyncio.TimeoutError:
+        pass
+    done.set()
+    await other
+    one.cut()
+
+
+def hostile_frames(chance):
+    """Frames by the standard, some bent: bytes that are changed, left out, doubled or added, and lengths that lie."""
+    name = f"hostile-{chance.randrange(20)}"
+    whole = [
+        connect_frame(name, chance.random() < 0.5, 60, expiry(chance.randrange(3)), Will(f"hostile/{name}", b"will", chance.randrange(3))),
+        subscribe_frame(chance.randrange(1, 9), [(chance.choice(["hostile/#", "hostile/+", "+/hostile"]), chance.randrange(64))]),
+        publish_frame("hostile/x", b"x" * chance.randrange(50), 0),
+        publish_frame("hostile/y", b"y", chance.choice([1, 2]), chance.randrange(2), chance.randrange(1, 9), chance.randrange(2)),
+        ack_frame(chance.choice([PUBACK, PUBREC, PUBREL, PUBCOMP]), chance.randrange(9)), b"\xc0\0",
+        frame(0xA2, b"\0\1\0" + text("hostile/#")), disconnect_frame(chance.choice([0, 4, 0x82]), expiry(chance.randrange(3))),
+    ]
+    out = b"" if chance.random() < 0.1 else connect_frame(name, True, 60)
+    for _ in range(chance.randrange(1, 12)):
+        data = bytearray(chance.choice(whole))
+        for _ in range(chance.choice([0, 0, 1, 1, 2, 5])):
+            at, way = chance.randrange(len(data)), chance.randrange(4)
+            if way == 0:
+                data[at] = chance.choice([0, 1, 0x7F, 0x80, 0xFF, data[at] ^ 1 << chance.randrange(8)])
+            elif way == 1 and len(data) > 1:
+                del data[at]
+            elif way == 2:
+                data[at:at] = data[at:at + 1]
+            else:
+                data[at:at] = chance.randbytes(chance.randrange(4))
+        out += data
+    return out
+
+
+@row()
+async def hostile(b):
+    """Hostile frames touch nobody else."""
+    chance, done = random.Random(SEED), asyncio.Event()
+    other = asyncio.create_task(stays_quick(b, "apart-other", done))
+
+    async def attack(data):
+        async with door:
+            one = await b.client("").dial()
+            try:
+                one.send(data)
+                await asyncio.wait_for(one.reader.read(1 << 16), 0.3)
+            except (asyncio.TimeoutError, ConnectionError):
+                pass
+            one.cut()
+
+    door = asyncio.Semaphore(50)
+    await asyncio.gather(*(attack(hostile_frames(chance)) for _ in range(1500)))
+    done.set()
+    await other
+
+
+# ---- Exactly once. ----
+
+
+async def kill_now_and_then(one, chance):
+    """The connection of a client is lost twenty times, at any moment."""
+    for _ in range(20):
+        await asyncio.sleep(chance.random() * 0.08)
+        while not one.is_up:
+            await asyncio.sleep(0.001)
+        one.cut()
+
+
+async def is_back(one):
+    """It connects again, and its session is there."""
+    one.is_up = False
+    assert await one.connect(**KEPT) == 1
+
+
+@row()
+async def killed_subscriber(b):
+    """Twenty kills of a subscriber that keeps its session: at QoS 2 all messages come, and none twice (4.3.3)."""
+    sub, seen, total = b.client("killed-sub"), [], 400
+    await sub.connect(**KEPT)
+    await sub.subscribe("killed/sub")
+
+    async def listen():
+        while len(seen) < total or not killing.done():
+            try:
+                seen.append((await sub.take(1)).payload)
+            except Ended:
+                await is_back(sub)
+            except asyncio.TimeoutError:
+                assert not sending.done() or len(seen) == total, f"{len(set(seen))} of {total}"
+
+    async def send():
+        async with b.connected("killed-feeder") as pub:
+            for i in range(total):
+                await pub.publish("killed/sub", b"%d" % i, 2)
+                await asyncio.sleep(0.003)
+
+    sending = asyncio.create_task(send())
+    killing = asyncio.create_task(kill_now_and_then(sub, random.Random(SEED)))
+    await asyncio.gather(listen(), sending, killing)
+    if not sub.is_up:
+        await is_back(sub)
+    await sub.ping()
+    assert not sub.inbox and sorted(map(int, seen)) == list(range(total)), f"{len(seen)} messages, {len(set(seen))} of {total}"
+    await sub.disconnect(0, expiry(0))
+
+
+class Publisher:
+    """Publishes at QoS 2 over connections that are lost, and keeps what isn't done (4.3.3, 4.4)."""
+
+    def __init__(self, one):
+        self.one, self.stored, self.released = one, {}, set()
+
+    def resend(self):
+        for id, payload in self.stored.items():
+            self.one.send(publish_frame("killed/pub", payload, 2, id=id, dup=1))
+        for id in self.released:
+            self.one.send(ack_frame(PUBREL, id))
+
+    def give(self, payload):
+        id = next(i for i in range(1, 65536) if i not in self.stored and i not in self.released)
+        self.stored[id] = payload
+        self.one.send(publish_frame("killed/pub", payload, 2, id=id))
+
+    async def hear(self):
+        first, body = await self.one.frame(1)
+        id = int.from_bytes(body[:2], "big")
+        if first >> 4 == PUBREC:
+            self.stored.pop(id, None)
+            self.released.add(id)
+            self.one.send(ack_frame(PUBREL, id))
+        else:
+            assert first >> 4 == PUBCOMP, f"{first:02x} {body.hex()}"
+            self.released.discard(id)
+
+
+@row()
+async def killed_publisher(b):
+    """Twenty kills of a publisher that keeps its session: at QoS 2 all messages come, and none twice (4.3.3)."""
+    pub, total = b.client("killed-pub"), 400
+    await pub.connect(**KEPT)
+    session = Publisher(pub)
+
+    async def send():
+        given = 0
+        while given < total or session.stored or session.released or not killing.done():
+            if given < total and len(session.stored) < 10:
+                session.give(b"%d" % given)
+                given += 1
+                await asyncio.sleep(0.002)
+                continue
+            try:
+                await session.hear()
+            except Ended:
+                await is_back(pub)
+                session.resend()
+            except asyncio.TimeoutError:
+                assert not (session.stored or session.released), "no ack in a second"
+
+    async with b.connected("killed-watcher") as sub:
+        await sub.subscribe("killed/pub")
+        killing = asyncio.create_task(kill_now_and_then(pub, random.Random(SEED)))
+        _, _, seen = await asyncio.gather(killing, send(), sub.payloads(total, 30))
+        await sub.ping()
+        assert not sub.inbox and sorted(map(int, seen)) == list(range(total)), f"{len(seen)} messages, {len(set(seen))} of {total}"
+    if not pub.is_up:
+        await is_back(pub)
+    await pub.disconnect(0, expiry(0))
+
+
+# ---- Clients of others, and of this repository. ----
+
+PEERS = os.environ.get("PEERS", "").split()
+
+
+def peer(name, mosquitto=True):
+    """A row that is there where this client is installed or built: tests/broker says which are."""
+    return row(name in PEERS, mosquitto and name in PEERS)
+
+
+async def runs(*words, input=b"", status=0, within=LIMIT, env=None):
+    """A program that ends so; answers what it printed."""
+    process = await asyncio.create_subprocess_exec(*words, stdin=asyncio.subprocess.PIPE, stdout=asyncio.subprocess.PIPE,
+                                                   stderr=asyncio.subprocess.PIPE, env=env)
+    try:
+        out, err = await asyncio.wait_for(process.communicate(input), within)
+    except asyncio.TimeoutError:
+        process.kill()
+        raise
+    assert process.returncode == status, f"{' '.join(words)}: status {process.returncode}: {(out + err).decode(errors='replace')[-1000:]}"
+    return out
+
+
+def theirs(b, program, name, *words):
+    return [f"mosquitto_{program}", "-V", "5", "-p", str(b.port), "-i", name, *words]
+
+
+async def until_subscribed(b, topic):
+    """A publisher's messages reach the subscribers of this topic: a retained message is there before them, which they show first."""
+    async with b.connected(f"ready-{topic}") as one:
+        await one.publish(topic, b"ready", 1, retain=1)
+
+
+@peer("mosquitto_sub")
+async def mosquitto_clients(b):
+    """mosquitto_pub and mosquitto_sub: each QoS, retained messages, a will, a session that is kept, and many lines."""
+    await until_subscribed(b, "theirs/ready")
+    for qos in "012":
+        process = await asyncio.create_subprocess_exec(
+            *theirs(b, "sub", "theirs-sub", "-q", qos, "-t", f"theirs/{qos}", "-t", "theirs/ready", "-C", "4", "-F", "%p %q %r"), stdout=asyncio.subprocess.PIPE)
+        assert (await asyncio.wait_for(process.stdout.readline(), 10)) == b"ready %d 1\n" % min(int(qos), 1)
+        for other in "012":
+            await runs(*theirs(b, "pub", "theirs-pub", "-q", other, "-t", f"theirs/{qos}", "-m", f"at {other}"))
+        out, _ = await asyncio.wait_for(process.communicate(), 10)
+        assert out.decode() == "".join(f"at {other} {min(int(qos), int(other))} 0\n" for other in range(3)), out
+    await runs(*theirs(b, "sub", "theirs-kept", "-q", "2", "-c", "-x", "100", "-t", "theirs/kept", "-E"))
+    lines = b"".join(b"%d\n" % i for i in range(1000))
+    await runs(*theirs(b, "pub", "theirs-pub", "-q", "2", "-t", "theirs/kept", "-l"), input=lines)
+    # (mosquitto 2.0.11 passes the Receive Maximum of 20 that its client says else)
+    more = () if IS_OURS else ("-D", "connect", "receive-maximum", "2000")
+    out = await runs(*theirs(b, "sub", "theirs-kept", "-q", "2", "-c", "-x", "0", "-t", "theirs/kept", "-C", "1000", *more))
+    assert out == lines
+    async with b.connected("theirs-watcher") as sub:
+        await sub.subscribe("theirs/will")
+        process = await asyncio.create_subprocess_exec(
+            *theirs(b, "sub", "theirs-will", "-t", "theirs/ready", "--will-topic", "theirs/will", "--will-payload", "gone", "--will-qos", "2"), stdout=asyncio.subprocess.PIPE)
+        await asyncio.wait_for(process.stdout.readline(), 10)
+        process.kill()
+        assert (await sub.take()).payload == b"gone"
+        await process.communicate()
+
+
+@peer("paho")
+async def paho(b):
+    """Paho for Python: tests/broker_paho.py."""
+    out = await runs(os.environ["PAHO_PYTHON"], "tests/broker_paho.py", str(b.port))
+    assert out.endswith(b"done\n"), out
+
+
+@peer("mqttjs")
+async def mqttjs(b):
+    """mqtt.js: tests/broker_mqttjs.js."""
+    out = await runs("node", "tests/broker_mqttjs.js", str(b.port))
+    assert out.endswith(b"done\n"), out
+
+
+@peer("own", mosquitto=False)  # (tests/live_rows has them at mosquitto)
+async def own(b):
+    """This repository's clients in C and Python, by rows of tests/live_rows."""
+    async def one(*words):
+        out = await runs(*words)
+        assert out.endswith(b"done\n"), (words, out)
+
+    at = ("127.0.0.1", str(b.port), "one", "right")
+    python = [("python3", "tests/live_clients.py", kind, name, *at) for kind, names in
+              (("asyncio", "will goodbye response filters cuts thirty leaving qualities"), ("blocking", "will response qualities"))
+              for name in names.split()]
+    in_c = [(os.environ["C_CLIENT"], name, *at) for name in ("will", "goodbye", "response", "filters")]
+    example = (os.environ["C_EXAMPLE"], "127.0.0.1", str(b.port), f"{FOLDER}/kept.{os.path.basename(BROKER)}")
+    await asyncio.gather(*(one(*words) for words in python + in_c + [example]))
+    await one(*example)
+
+
+@peer("pubsub", mosquitto=False)  # (tests/live has them at mosquitto)
+async def pubsub(b):
+    """./mqtt5 pub and sub, as they are built."""
+    program = os.environ["PUBSUB"]
+
+    async def runs_on(words, lines=b""):
+        # (the program's connection is its standard input and output; it shows messages as standard error)
+        line = f'exec "$0" "$@" <> /dev/tcp/127.0.0.1/{b.port} >&0'
+        process = await asyncio.create_subprocess_exec("bash", "-c", line, program, *words, stderr=asyncio.subprocess.PIPE)
+        _, shown = await asyncio.wait_for(process.communicate(), LIMIT)
+        assert process.returncode == 0, (words, shown)
+        return shown
+
+    await runs_on(["sub", "-i", "pubsub-sub", "-E", "-c", "-x", "100", "-q", "2", "pubsub/#"])
+    for qos in "012":
+        await runs_on(["pub", "-i", "pubsub-pub", "-q", qos, "-t", "pubsub/x", "-m", f"at {qos}"])
+    shown = await runs_on(["sub", "-i", "pubsub-sub", "-c", "-x", "0", "-q", "2", "-C", "2", "pubsub/#"])
+    # (of those of QoS 0 a broker may let go of what waits for nobody: 3.1.2.11.2)
+    assert shown.split(b"\n")[-3:-1] in ([b"at 1", b"at 2"], [b"at 0", b"at 1"]), shown
+
+
+# ---- The server by itself. ----
+
+
+@row(mosquitto=False)  # (mosquitto 2.0 closes without a word)
+async def shut_down(_):
+    """INT and TERM: each client is told (0x8B), and the server ends with status 0; nobody is taken any more."""
+    for sign in (signal.SIGINT, signal.SIGTERM):
+        b = await start()
+        clients = [b.client(f"down-{i}") for i in range(20)]
+        for client in clients:
+            await client.connect()
+        silent = await b.client("").dial()
+        ending = asyncio.create_task(stop(b, sign))
+        for client in clients:
+            await client.ends_by(0x8B)
+        await silent.ends()
+        assert await ending == 0
+        assert b.logged().count("Server shutting down (0x8B)") == 20
+
+
+@row(mosquitto=False)  # (its limits have other names)
+async def limits(_):
+    """--max-connections, and --max-inflight ids."""
+    async with started("--max-connections", "3", "--max-inflight", "4") as b:
+        async with b.connected("limits-1") as pub, b.connected("limits-2") as sub:
+            third = b.client("limits-3")
+            await third.connect()
+            fourth = await b.client("limits-4").dial()
+            await fourth.ends()
+            await b.says("refused, since all connections are taken")
+            await third.disconnect()
+            await b.client("limits-4").connect()
+            await sub.subscribe("limits")
+            sub.manual = True
+            for i in range(6):
+                await pub.publish("limits", b"%d" % i, 1)
+            ids = [(await sub.take()).id for _ in range(4)]
+            await sub.is_quiet(0.2)
+            assert sorted(ids) == [1, 2, 3, 4]
+            sub.send(ack_frame(PUBACK, ids[1]))
+            assert (await sub.take()).id == ids[1]
+
+
+@row(mosquitto=False)  # (its bounds have other names, and it drops messages)
+async def bounds(_):
+    """What is kept at most: sessions, also of clients that are away, and retained messages; and what the server measures once a
+    second, the subscriptions of a client and what waits for it."""
+    words = "--max-sessions 4 --max-retained 2 --max-subscriptions 2 --max-queued-messages 50 --max-queued-bytes 200000"
+    async with started(*words.split()) as b, b.connected("bounds-pub") as pub:
+        away, many, slow = b.client("bounds-away"), b.client("bounds-many"), b.client("bounds-slow", buffer=4096)
+        await away.connect(**KEPT)
+        await away.subscribe(("bounds/away", 1))
+        away.cut()
+        await many.connect()
+        await slow.connect()
+        fifth = await b.client("").dial()
+        fifth.send(connect_frame("bounds-fifth"))
+        await fifth.is_refused(0x97)
+        assert await many.subscribe("bounds/1", "bounds/2") == [2, 2]
+        assert await many.subscribe("bounds/1") == [2]
+        await asyncio.sleep(1.5)
+        await many.ping()
+        await many.subscribe("bounds/3")
+        await many.ends_by(0x97)
+        await slow.subscribe(("bounds/slow", 0))
+        for _ in range(40):
+            await pub.publish("bounds/slow", bytes(400000), 1)
+        await b.says("ended: its last bytes were not taken")
+        for _ in range(60):
+            await pub.publish("bounds/away", b"x", 1)
+        await asyncio.sleep(4)
+        assert await away.connect(**KEPT) == 0
+        for topic in ("bounds/a", "bounds/b", "bounds/a"):
+            await pub.publish(topic, b"x", 1, retain=1)
+        pub.send(publish_frame("bounds/c", b"x", retain=1))
+        await pub.ends_by(0x97)
+        await away.ping()
+        away.cut()
+
+
+async def says(*words):
+    process = await asyncio.create_subprocess_exec(BROKER, *words, stdout=asyncio.subprocess.PIPE, stderr=asyncio.subprocess.PIPE)
+    out, err = await asyncio.wait_for(process.communicate(), 10)
+    return process.returncode, out.decode(), err.decode()
+
+
+@row(mosquitto=False)
+async def refused_memory(_):
+    """Where memory is refused a connection ends, and the server goes on (tests/broker_short.c): once there is memory all is well,
+    and each number has come free."""
+    async with started("--max-connections", "10", program=os.environ["SHORT_BROKER"]) as b:
+        in_a_row = tries = 0
+        while in_a_row < 40:
+            tries += 1
+            assert tries < 2000, "clients are still refused"
+            try:
+                one = b.client(f"short-{tries % 7}")
+                await one.connect(keep=1, properties=expiry(1), will=Will("short/will", b"gone", 1, delay=tries % 3))
+                await one.subscribe("short/+")
+                await one.publish(f"short/{tries % 7}", b"x", 1 + tries % 2)
+                in_a_row += 1
+            except Ended:
+                in_a_row = 0
+                await asyncio.sleep(0.005)
+            # (the others end by their keep alive)
+            if tries % 5:
+                one.cut()
+        await b.says("ended: out of memory")
+        await asyncio.sleep(3)
+        for i in range(10):
+            await b.client(f"short-{i}").connect()
+
+
+@row(mosquitto=False)
+async def options(b):
+    """Which words the server takes."""
+    assert (await says("--help"))[:2][0] == 0
+    for words in ("--bind 0.0.0.0", "--bind 192.168.0.1", "--bind ::", "--bind example.org", "--bind", "--port 70000", "-p", "-p 1x", "--nothing 1",
+                  "--max-connections 0", "--max-inflight 65536", "--max-packet-size 268435456", "--max-sessions 0",
+                  "--max-queued-bytes 18446744073709551616", "--wait -1"):
+        status, _, told = await says(*words.split())
+        assert status == 2 and told.count("\n") == 1, (words, status, told)
+    assert "only addresses of this machine" in (await says("--bind", "0.0.0.0"))[2]
+    assert (await says("-p", str(b.port)))[0] == 1
+    for address, host in (("localhost", "127.0.0.1"), ("127.0.0.2", "127.0.0.2"), ("::1", "::1")):
+        async with started("--bind", address) as other:
+            async with Client(other.port, "options", host) as one:
+                await one.ping()
+    quiet = await asyncio.create_subprocess_exec(BROKER, "-q", "-p", "0", stderr=asyncio.subprocess.PIPE)
+    await asyncio.sleep(0.3)
+    quiet.terminate()
+    assert (await quiet.communicate())[1] == b"" and quiet.returncode == 0
+
+
+@row(mosquitto=False)
+async def log(_):
+    """A line for each connection, each client and each end."""
+    async with started() as b:
+        one = b.client('a"\n\x1b[2Jé')
+        await one.connect()
+        await one.disconnect()
+        async with b.connected("lost"):
+            pass
+        silent = await b.client("").dial()
+        silent.send(b"\xc0\0")
+        await silent.ends()
+        bent = b.client("bent")
+        await bent.connect()
+        bent.send(b"\x36\0")
+        await bent.ends_by(0x81)
+        refused = await b.client("").dial()
+        refused.send(connect_frame("refused", properties=b"\x15" + text("none")))
+        await refused.is_refused(0x8C)
+        for line in ('1: client "a\\x22\\x0a\\x1b[2J\\xc3\\xa9"\n', "1: ended: the client disconnected\n", "2: ended: closed by peer\n",
+                     "3: ended: without a Connect\n", "4: ended: Malformed Packet (0x81)\n", "4: connection from 127.0.0.1:",
+                     "5: ended: Bad authentication method (0x8C)\n"):
+            await b.says("\n" + line)
+
+
+# ---- All at once. ----
+
+
+async def run_row(b, function):
+    begun = time.monotonic()
+    try:
+        await asyncio.wait_for(function(b), LIMIT)
+    except Exception as fault:
+        calls = [f"{call.name}:{call.lineno}" for call in traceback.extract_tb(fault.__traceback__) if "tests/broker" in call.filename]
+        print(f"{function.__name__}: fails after {time.monotonic() - begun:.1f} s: {fault!r} at {' '.join(calls[1:])}", flush=True)
+        return False
+    if os.environ.get("TIMES"):
+        print(f"{function.__name__}: {time.monotonic() - begun:.1f} s", flush=True)
+    return True
+
+
+async def main():
+    rows = [function for function in ROWS if not WANTED or function.__name__ in WANTED]
+    if not rows:
+        return True
+    # (one thousand of them, and others beside)
+    b = await start("--max-connections", "2000", "--max-packet-size", str(LONGEST))
+    try:
+        good = await asyncio.gather(*(run_row(b, function) for function in rows))
+    finally:
+        await stop(b)
+    name = "mosquitto" if not IS_OURS else "broker"
+    print(f"{name}: {sum(good)} of {len(rows)} rows: {' '.join(function.__name__ for function in rows)}")
+    return all(good)
+
+
+if __name__ == "__main__":
+    sys.exit(0 if asyncio.run(main()) else 1)
