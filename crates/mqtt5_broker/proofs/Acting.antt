@@ -11,6 +11,7 @@ use Rattle.mqtt5_control.specs.declared.connack.ConnectReturnCode.TheVariants as
 use Rattle.mqtt5_control.specs.declared.disconnect.DisconnectReasonCode.{DisconnectReasonCode}
 use Rattle.mqtt5_control.specs.declared.disconnect.DisconnectReasonCode.TheVariants as reasons
 use Rattle.mqtt5_sessions.specs.Sessions.{Sessions, replies, passed, ends}
+use Rattle.mqtt5_sessions.specs.Runs.{SessionEvent, Joins, Arrives, Passes, Loses, IsDue, Leaves, Comes, Ends, after_event, after_events}
 use Rattle.mqtt5_broker.specs.declared.member.Member.{Member}
 use Rattle.mqtt5_broker.specs.declared.serving.Kind.{Kind}
 use Rattle.mqtt5_broker.specs.declared.serving.Kind.TheVariants as kinds
@@ -25,7 +26,7 @@ use Rattle.mqtt5_broker.specs.Serving.{kind_of, arrives_from, goes, disconnects,
 use Rattle.mqtt5_broker.specs.Receiving.{takes_all, reason_for, ends_with, comes_of, receives_now, receives}
 use Rattle.mqtt5_broker.specs.Bounds.{has_room, exceeds, ends_of, trims, trims_all}
 use Rattle.mqtt5_broker.specs.Clock.{for_each, silences, silences_all, expires, ticks, ends_now, shuts_down}
-use Rattle.mqtt5_broker.specs.Acts.{SessionEvent, Joins, Arrives, Passes, Loses, IsDue, Leaves, Comes, Ends, after_event, after_events, Act, Session, Know, Name, Moment, Hear, Write, Shut, Welcome, Hold, Empty, act, acts}
+use Rattle.mqtt5_broker.specs.Acts.{Act, Session, Know, Name, Moment, Hear, Write, Shut, Welcome, Hold, Empty, act, acts}
 
 -- ---- lists of acts
 

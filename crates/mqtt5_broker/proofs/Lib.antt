@@ -9,3 +9,5 @@ pub mod Passed
 pub mod Names
 pub mod Early
 pub mod Standing
+pub mod Asked
+pub mod Calling

@@ -17,46 +17,46 @@ use Rattle.mqtt5_broker.proofs.Keeping.{at_changed, Keeps, dismisses_keeps, all_
 
 -- ---- a connection of which nothing is taken
 
-closed_takes : (c : ℕ) (x : Packet) (b : Broker) → (connection_at c b.connections).is_open ≡ false → takes c x b ≡ b
+pub closed_takes : (c : ℕ) (x : Packet) (b : Broker) → (connection_at c b.connections).is_open ≡ false → takes c x b ≡ b
 unfolding takes
 closed_takes c x b e = ap (λ (v : Bool). if v then takes_of (connection_at c b.connections).client c x (on_connection c (heard b.moment) b) else b) e
 
-closed_all : (c : ℕ) (xs : List Packet) (b : Broker) → (connection_at c b.connections).is_open ≡ false → takes_all c xs b ≡ b
+pub closed_all : (c : ℕ) (xs : List Packet) (b : Broker) → (connection_at c b.connections).is_open ≡ false → takes_all c xs b ≡ b
 closed_all c [] b e = refl
 closed_all c (x ∷ xs) b e = ap (takes_all c xs) (closed_takes c x b e) ∙ closed_all c xs b e
 
-holding_closed : (bytes : List ℕ) (l : Connection) → l.is_open ≡ false → holding bytes l ≡ l
+pub holding_closed : (bytes : List ℕ) (l : Connection) → l.is_open ≡ false → holding bytes l ≡ l
 holding_closed bytes l e = ap (λ (v : Bool). if v then record l { held = bytes } else l) e
 
 closed_dismisses : (c : ℕ) (reason : DisconnectReasonCode) (b : Broker) → (connection_at c b.connections).is_open ≡ false → dismisses c reason b ≡ b
 unfolding dismisses
 closed_dismisses c reason b e = ap (λ (v : Bool). if v then dismisses_of (connection_at c b.connections).client c reason b else b) e
 
-closed_ends : (c : ℕ) (ending : Ending) (b : Broker) → (connection_at c b.connections).is_open ≡ false → ends_with c ending b ≡ b
+pub closed_ends : (c : ℕ) (ending : Ending) (b : Broker) → (connection_at c b.connections).is_open ≡ false → ends_with c ending b ≡ b
 closed_ends c (Holds held) b e =
     let same : set b.connections c (holding held (connection_at c b.connections)) ≡ b.connections = ap (set b.connections c) (holding_closed held (connection_at c b.connections) e) ∙ set-get_or b.connections c closed in
     ap (λ (ls : List Connection). record b { connections = ls }) same
 closed_ends c (Breaks fault) b e = closed_dismisses c (reason_for fault) b e
 
-closed_receives : (c : ℕ) (bytes : List ℕ) (b : Broker) → (connection_at c b.connections).is_open ≡ false → receives_now c bytes b ≡ b
+pub closed_receives : (c : ℕ) (bytes : List ℕ) (b : Broker) → (connection_at c b.connections).is_open ≡ false → receives_now c bytes b ≡ b
 unfolding receives_now
 closed_receives c bytes b e = ap (λ (v : Bool). if v then comes_of c (cut_up (Some b.longest) ((connection_at c b.connections).held ++ bytes) []) (on_connection c emptied b) else b) e
 
 -- ---- one of which bytes are taken
 
-open_receives : (c : ℕ) (bytes : List ℕ) (b : Broker) → (connection_at c b.connections).is_open ≡ true → receives_now c bytes b ≡ comes_of c (cut_up (Some b.longest) ((connection_at c b.connections).held ++ bytes) []) (on_connection c emptied b)
+pub open_receives : (c : ℕ) (bytes : List ℕ) (b : Broker) → (connection_at c b.connections).is_open ≡ true → receives_now c bytes b ≡ comes_of c (cut_up (Some b.longest) ((connection_at c b.connections).held ++ bytes) []) (on_connection c emptied b)
 unfolding receives_now
 open_receives c bytes b e = ap (λ (v : Bool). if v then comes_of c (cut_up (Some b.longest) ((connection_at c b.connections).held ++ bytes) []) (on_connection c emptied b) else b) e
 
-open_within : (c : ℕ) (ls : List Connection) → (get_or ls c closed).is_open ≡ true → c < length ls
+pub open_within : (c : ℕ) (ls : List Connection) → (get_or ls c closed).is_open ≡ true → c < length ls
 open_within c [] e = absurd (cc e)
 open_within zero (x ∷ xs) e = omega arith
 open_within (suc c) (x ∷ xs) e = omega (arith, open_within c xs e)
 
-holding_open : (bytes : List ℕ) (l : Connection) → l.is_open ≡ true → holding bytes l ≡ record l { held = bytes }
+pub holding_open : (bytes : List ℕ) (l : Connection) → l.is_open ≡ true → holding bytes l ≡ record l { held = bytes }
 holding_open bytes l e = ap (λ (v : Bool). if v then record l { held = bytes } else l) e
 
-set_twice : (ls : List Connection) (c : ℕ) (x y : Connection) → set (set ls c x) c y ≡ set ls c y
+pub set_twice : (ls : List Connection) (c : ℕ) (x y : Connection) → set (set ls c x) c y ≡ set ls c y
 set_twice [] c x y = refl
 set_twice (z ∷ zs) zero x y = refl
 set_twice (z ∷ zs) (suc c) x y = ap (λ (ws : List Connection). z ∷ ws) (set_twice zs c x y)
@@ -64,7 +64,7 @@ set_twice (z ∷ zs) (suc c) x y = ap (λ (ws : List Connection). z ∷ ws) (set
 -- ---- a fault
 
 -- after it nothing is taken of the connection
-shut_at_self : (c : ℕ) (f : Connection → Connection) (ls : List Connection) → ((l : Connection) → (f l).is_open ≡ false) → (get_or (set ls c (f (get_or ls c closed))) c closed).is_open ≡ false
+pub shut_at_self : (c : ℕ) (f : Connection → Connection) (ls : List Connection) → ((l : Connection) → (f l).is_open ≡ false) → (get_or (set ls c (f (get_or ls c closed))) c closed).is_open ≡ false
 shut_at_self c f [] h = refl
 shut_at_self zero f (x ∷ xs) h = h x
 shut_at_self (suc c) f (x ∷ xs) h = shut_at_self c f xs h

@@ -5,10 +5,11 @@ use Rattle.mqtt5_base.specs.declared.error.Error.{Error}
 use Rattle.mqtt5_base.specs.declared.error.Error.TheVariants.{OutgoingPacketTooLarge}
 use Rattle.mqtt5_codec.specs.declared.packet.Packet.{Packet}
 use Rattle.mqtt5_codec.specs.Packets.{packet_writing, packet_len, writing_under}
+use Rattle.mqtt5_sessions.specs.Runs.{SessionEvent, Loses, Ends, after_events}
 use Rattle.mqtt5_broker.specs.Connection.{Connection, shut, heard, taken_by, emptied, holding, with_bytes, written, connection_at}
 use Rattle.mqtt5_broker.specs.Broker.{Broker, at_moment, loses_client, forgets, stays_at, on_connection}
 use Rattle.mqtt5_broker.specs.Receiving.{closes_of, closes_now, closes}
-use Rattle.mqtt5_broker.specs.Acts.{SessionEvent, Loses, Ends, after_events, Act, Session, Know, Name, Moment, Hear, Write, Shut, Welcome, Hold, Empty, act, acts, event_in, events_in, AreFrames, output_at, Sends}
+use Rattle.mqtt5_broker.specs.Acts.{Act, Session, Know, Name, Moment, Hear, Write, Shut, Welcome, Hold, Empty, act, acts, event_in, events_in, AreFrames, output_at, Sends}
 use Rattle.mqtt5_broker.proofs.Keeping.{at_changed}
 use Rattle.mqtt5_broker.proofs.Acting.{events_append}
 
@@ -31,10 +32,10 @@ all_events [] b = refl
 all_events (a ∷ ds) b = all_events ds (act a b) ∙ ap (after_events (events_in ds)) (one_event a b) ∙ sym (events_append (event_in a) (events_in ds) b.sessions)
 
 -- a connection that is closed
-abbrev Lost : Broker → Broker → Type 0
+abbrev pub Lost : Broker → Broker → Type 0
 Lost b c = (es : List SessionEvent) × (c.sessions ≡ after_events es b.sessions)
 
-lost_if : (v : Bool) (b x y : Broker) → Lost b x → Lost b y → Lost b (if v then x else y)
+pub lost_if : (v : Bool) (b x y : Broker) → Lost b x → Lost b y → Lost b (if v then x else y)
 lost_if true b x y m k = m
 lost_if false b x y m k = k
 

@@ -105,7 +105,7 @@ holding_client false bytes l = refl
 
 -- ---- one changes, and others may
 
-on_less : (d : ℕ) (f : Connection → Connection) (b : Broker) → Lets f → IsStanding b → IsStanding (on_connection d f b)
+pub on_less : (d : ℕ) (f : Connection → Connection) (b : Broker) → Lets f → IsStanding b → IsStanding (on_connection d f b)
 on_less d f b h s = fewer b.connections (with_connection d f b.connections) b.members (less d f b.connections h) s
 
 -- where its client has none then, it is free
@@ -182,7 +182,7 @@ dismisses_of_standing : (o : Option ℕ) (d : ℕ) (reason : DisconnectReasonCod
 dismisses_of_standing None d reason b e s = on_less d shut b (shut_lets shut (λ l. refl)) s
 dismisses_of_standing (Some i) d reason b e s = refuses_standing d i reason b e s
 
-if_standing : (v : Bool) (x y : Broker) → IsStanding x → IsStanding y → IsStanding (if v then x else y)
+pub if_standing : (v : Bool) (x y : Broker) → IsStanding x → IsStanding y → IsStanding (if v then x else y)
 if_standing true x y s r = s
 if_standing false x y s r = r
 
@@ -356,7 +356,7 @@ enters_standing : (d : ℕ) (given : Bool) (q : Connect) (will : Option LastWill
 unfolding enters
 enters_standing d given q will b s = numbers_standing (free_number b.members) d given q will b refl s
 
-turns_standing : (d : ℕ) (code : ConnectReturnCode) (b : Broker) → IsStanding b → IsStanding (turns_away d code b)
+pub turns_standing : (d : ℕ) (code : ConnectReturnCode) (b : Broker) → IsStanding b → IsStanding (turns_away d code b)
 turns_standing d code b s = on_less d (λ (l : Connection). shut (written (refusal code) l)) b (shut_lets (λ (l : Connection). shut (written (refusal code) l)) (λ l. refl)) s
 
 room_standing : (d : ℕ) (given : Bool) (q : Connect) (will : Option LastWill) (b : Broker) → IsStanding b → IsStanding (enters_if_room d given q will b)

@@ -3,44 +3,11 @@
 use Rattle.std.specs.Prelude.{◌≡◌, ℕ, List, [], ◌∷◌, ◌++◌, Option, Ok}
 use Rattle.mqtt5_codec.specs.declared.packet.Packet.{Packet}
 use Rattle.mqtt5_codec.specs.Packets.{packet_writing}
-use Rattle.mqtt5_network.specs.declared.event.Will.{Will}
-use Rattle.mqtt5_sessions.specs.Sessions.{Sessions, joins, arrives, passes, loses, leaves, comes}
-use Rattle.mqtt5_sessions.specs.Sessions.{is_due, ends}
+use Rattle.mqtt5_sessions.specs.Runs.{SessionEvent, after_event}
 use Rattle.mqtt5_broker.specs.declared.member.Member.{Member}
 use Rattle.mqtt5_broker.specs.Connection.{written, shut, emptied, holding, heard}
 use Rattle.mqtt5_broker.specs.Connection.{taken_by, connection_at}
 use Rattle.mqtt5_broker.specs.Broker.{Broker, on_connection}
-
--- ---- the sessions
-
--- what happens to them, each to a client by its number: one more comes to be known, with the
--- greatest identifier to it; a packet of it arrives; the first of its queue is passed on; its
--- connection is lost; the delay of its will has passed; it leaves; it comes on a new connection; its
--- session ends
-pub data SessionEvent : Type 0 where
-  Joins : (limit : ℕ) → SessionEvent
-  Arrives : (client : ℕ) (packet : Packet) → SessionEvent
-  Passes : (client : ℕ) → SessionEvent
-  Loses : (client : ℕ) → SessionEvent
-  IsDue : (client : ℕ) → SessionEvent
-  Leaves : (client : ℕ) → SessionEvent
-  Comes : (client : ℕ) (receive_max : Option ℕ) (will : Option Will) → SessionEvent
-  Ends : (client : ℕ) → SessionEvent
-
--- what comes of it
-abbrev pub after_event : SessionEvent → Sessions → Sessions
-after_event (Joins limit) s = joins limit s
-after_event (Arrives i x) s = arrives i x s
-after_event (Passes i) s = passes i s
-after_event (Loses i) s = loses i s
-after_event (IsDue i) s = is_due i s
-after_event (Leaves i) s = leaves i s
-after_event (Comes i m will) s = comes i m will s
-after_event (Ends i) s = ends i s
-
-abbrev pub after_events : List SessionEvent → Sessions → Sessions
-after_events [] s = s
-after_events (e ∷ es) s = after_events es (after_event e s)
 
 -- ---- acts
 

@@ -10,3 +10,5 @@ pub mod Serving
 pub mod Receiving
 pub mod Acts
 pub mod Standing
+pub mod Asking
+pub mod Calls

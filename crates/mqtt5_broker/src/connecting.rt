@@ -407,7 +407,11 @@ impl Broker {
     }
 
     /// The first packet of a connection is refused. Err where memory is refused.
-    fn turn_away(&mut self, connection: usize, code: ConnectReturnCode) -> Result<(), StateError>
+    pub(super) fn turn_away(
+        &mut self,
+        connection: usize,
+        code: ConnectReturnCode,
+    ) -> Result<(), StateError>
         ensures ok { OnOk result (self.new ≡ turns_away connection code self.old) }
         ensures memory { IfErr result (λ e. e ≡ StateError.OutOfMemory) }
         ensures left { OnErr result (self.new ≡ self.old) }

@@ -3,6 +3,7 @@
 ghost use Rattle.std.specs.Prelude.{◌≡◌, ◌≢◌, ◌∷◌, ◌++◌, Some, OnOk, OnErr, IfOk};
 ghost use Rattle.std.specs.Option.{option_to_list};
 ghost use Rattle.mqtt5_broker.specs.Connection.{closed, opened, heard, taken_by, shut, written, written_all, told, emptied, holding, with_sent};
+ghost use Rattle.mqtt5_broker.specs.Asking.{kept_on};
 
 use crate::moments::unless_zero;
 use bytes::BytesMut;
@@ -159,6 +160,24 @@ impl Connection {
     {
         self.held.extend_from_slice(bytes)?;
         Ok(mem::replace(&mut self.held, BytesMut::new(alloc)))
+    }
+
+    /// The bytes that came in and aren't taken yet.
+    pub(super) fn held(&self) -> &BytesMut
+        ensures { result.now.items ≡ self.now.held }
+    {
+        &self.held
+    }
+
+    /// Bytes come in, and are only held, where any are taken. Err where memory is refused.
+    pub(super) fn keep(&mut self, bytes: &[u8]) -> Result<(), AllocError>
+        ensures ok { OnOk result (self.new ≡ kept_on bytes.now self.old) }
+        ensures left { OnErr result (self.new ≡ self.old) }
+    {
+        if self.is_open {
+            return self.held.extend_from_slice(bytes);
+        }
+        Ok(())
     }
 
     /// Bytes are held, where more are taken.

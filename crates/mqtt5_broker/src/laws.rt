@@ -1,7 +1,8 @@
 //! What holds of the definitions of a broker.
 
-ghost use Rattle.std.specs.Prelude.{◌≡◌, ◌≢◌, ◌++◌, ℕ, List, Option, false, max, replicate};
+ghost use Rattle.std.specs.Prelude.{◌≡◌, ◌≢◌, ◌++◌, [], ℕ, List, Option, None, false, max, replicate};
 ghost use Rattle.mqtt5_base.specs.declared.error.Error.{Error};
+ghost use Rattle.mqtt5_sessions.specs.Runs.{SessionEvent, after_events};
 ghost use Rattle.mqtt5_broker.specs.Cut.{cut_up, goes_on_as, Breaks};
 ghost use Rattle.mqtt5_broker.specs.Connection.{closed, with_sent, connection_at};
 ghost use Rattle.mqtt5_broker.specs.Moments.{has_come};
@@ -10,8 +11,11 @@ ghost use Rattle.mqtt5_broker.specs.Serving.{passes_on};
 ghost use Rattle.mqtt5_broker.specs.Receiving.{receives, ends_with, opens, closes};
 ghost use Rattle.mqtt5_broker.specs.Clock.{ticks, next_moment, shuts_down};
 ghost use Rattle.mqtt5_broker.specs.Bounds.{trims_all};
-ghost use Rattle.mqtt5_broker.specs.Standing.{IsStanding};
-ghost use Rattle.mqtt5_broker.specs.Acts.{SessionEvent, after_events, Act, acts, events_in, output_at, Sends};
+ghost use Rattle.mqtt5_broker.specs.Standing.{IsStanding, client_at};
+ghost use Rattle.mqtt5_broker.specs.Acts.{Act, acts, events_in, output_at, Sends};
+ghost use Rattle.mqtt5_broker.specs.declared.asking.Asks.TheVariants as asks;
+ghost use Rattle.mqtt5_broker.specs.Asking.{holds, asks_at};
+ghost use Rattle.mqtt5_broker.specs.Calls.{Call, after_calls};
 
 use mqtt5_base::front_laws;
 
@@ -81,4 +85,28 @@ pub fn connections_law()
     ensures tick { (at : ℕ) (b : Broker) → IsStanding b → IsStanding (ticks at b) }
     ensures trim { (b : Broker) → IsStanding b → IsStanding (trims_all b) }
     ensures shut_down { (at : ℕ) (b : Broker) → IsStanding b → IsStanding (shuts_down at b) }
+{}
+
+/// A law, which does nothing when it is called: a caller may ask who wants to connect before the answer, and nobody connects unasked
+/// (3.1.4, 4.12).
+pub fn asking_law()
+    // Bytes that are held first are taken as those that weren't.
+    ensures taken { (at c : ℕ) (bytes : List ℕ) (b : Broker)
+        → receives at c [] (holds c bytes b) ≡ receives at c bytes b }
+    // And where nobody wants to connect by what is held, nobody is connected once that is taken.
+    ensures nobody { (at c : ℕ) (b : Broker) → client_at c b.connections ≡ None
+        → asks_at c b ≡ asks.Nobody → client_at c (receives at c [] b).connections ≡ None }
+{
+    front_laws();
+}
+
+/// A law, which does nothing when it is called: after any calls, of which none was refused for want of memory, what a broker keeps of
+/// its clients is what some events make of what it kept before (`run_law` of `mqtt5_sessions` says when a network does the same);
+/// and a client still has one connection at most (4.1).
+pub fn any_calls_law()
+    ensures sessions { (calls : List Call) (b : Broker)
+        → (es : List SessionEvent)
+        × ((after_calls calls b).sessions ≡ after_events es b.sessions) }
+    ensures standing { (calls : List Call) (b : Broker)
+        → IsStanding b → IsStanding (after_calls calls b) }
 {}

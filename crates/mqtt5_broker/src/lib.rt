@@ -2,6 +2,7 @@
 //! MQTT 5.0.
 #![tactic(auto)]
 
+mod asking;
 mod bounds;
 mod broker;
 mod clock;
@@ -15,6 +16,9 @@ mod moments;
 mod serving;
 mod wills;
 
+pub use asking::Asks;
 pub use bounds::Bounds;
 pub use broker::{Broker, Limits};
-pub use laws::{acts_law, clock_law, connections_law, fault_law, pieces_law};
+pub use laws::{
+    acts_law, any_calls_law, asking_law, clock_law, connections_law, fault_law, pieces_law,
+};

@@ -4,7 +4,8 @@
 //! those of MQTT 5.0.
 
 use mqtt5_base::Error;
-use mqtt5_broker::{Bounds, Broker, Limits};
+use mqtt5_broker::{Asks, Bounds, Broker, Limits};
+use mqtt5_control::ConnectReturnCode;
 use mqtt5_session::StateError;
 use std::alloc::{AllocError, Global};
 use std::num::NonZeroU16;
@@ -13,7 +14,8 @@ use std::test::Fail;
 /// `open` begins a connection, `is` says whether it takes bytes, `in` brings bytes of it, and answers what it sends then; `out`
 /// answers that without any, `pass` passes the first of a queue on, `name` answers its client's name, and `close` ends the
 /// connection. `tick` says which moment it is, in milliseconds, at first 0; `next` answers the next at which something is due, and
-/// `end` ends the broker. `bound` says how many clients, subscriptions of a client, retained messages, publishes of a queue and bytes
+/// `end` ends the broker. `hold` has bytes held alone, `asks` answers who wants to connect, with name and password, 0 without these and
+/// `-` where there is nobody, and `reject` turns a client away with a code, and answers what it is sent. `bound` says how many clients, subscriptions of a client, retained messages, publishes of a queue and bytes
 /// of these there may be, and `trim` ends sessions for which there is more. The broker has four connections, takes packets of 64
 /// bytes and fewer, and waits five seconds for a Connect.
 ///
@@ -35,6 +37,10 @@ use std::test::Fail;
 /// connected a second Connect, a topic alias, a subscription identifier, topics with a wildcard, without a byte and without text, a
 /// shared subscription, a subscription identifier, a filter that is none, an Auth, a packet that a server sends, one of type 0, and
 /// one that is too long.
+///
+/// Then clients that are asked who they are before the answer: in two pieces, with a ping behind the Connect; turned away, with and
+/// without a name; a name alone, a password alone, and both of no byte; a ping and a Connect that is none; a second Connect of a
+/// client that is connected; and connections that aren't open.
 ///
 /// Then bounds: one client, who is connected, who is away, and beside one that says no name; one subscription, which another
 /// replaces; one retained message, which another replaces and an empty one drops; and queues, of a client that is connected and of
@@ -96,6 +102,14 @@ open:0=1; in:0:100E00044D5154540502000000000161=200C000009270000004029002A00; in
 open:0=1; in:0:100E00044D5154540502000000000161=200C000009270000004029002A00; in:0:D000=E0028200; is:0=0
 open:0=1; in:0:100E00044D5154540502000000000161=200C000009270000004029002A00; in:0:0000=E0028100; is:0=0
 open:0=1; in:0:100E00044D5154540502000000000161=200C000009270000004029002A00; in:0:3041=E0029500; is:0=0
+open:0=1; hold:0:101400044D51545405C20000000001610001; asks:0=-; in:0:=-; hold:0:75000170C000; asks:0=75,70; in:0:=200C000009270000004029002A00D000; asks:0=-; name:0=61
+open:0=1; hold:0:101400044D51545405C2000000000161000175000170C000; asks:0=75,70; reject:0:134=2003008600; is:0=0; asks:0=-; in:0:C000=-
+open:0=1; hold:0:100E00044D5154540502000000000161; asks:0=0; reject:0:135=2003008700; is:0=0
+open:0=1; open:1=1; open:2=1; hold:0:101100044D5154540582000000000161000175; asks:0=75,; hold:1:101100044D5154540542000000000161000170; asks:1=-,70; hold:2:101200044D51545405C200000000016100000000; asks:2=0; in:1:=200C000009270000004029002A00; asks:1=-; asks:0=75,
+open:0=1; hold:0:C000; asks:0=-; in:0:=-; is:0=0
+open:0=1; hold:0:100E00044D5154580502000000000161; asks:0=-; in:0:=-; is:0=0
+open:0=1; in:0:100E00044D5154540502000000000161=200C000009270000004029002A00; hold:0:101400044D51545405C2000000000161000175000170; asks:0=-; reject:0:135=-; is:0=1; in:0:=E0028200; is:0=0
+asks:0=-; asks:9=-; hold:0:100E00044D5154540502000000000161; hold:9:10; asks:0=-; reject:0:135=-; reject:9:135=-; open:0=1; asks:0=-
 bound:1,9,9,9,999; open:0=1; open:1=1; in:0:100E00044D5154540502000000000161=200C000009270000004029002A00; in:1:100E00044D5154540502000000000162=2003009700; is:1=0; close:0; open:1=1; in:1:100E00044D5154540502000000000162=200C000009270000004029002A00
 bound:1,9,9,9,999; open:0=1; open:1=1; in:0:101300044D515454050000000511FFFFFFFF000161=200C000009270000004029002A00; close:0; in:1:100E00044D5154540502000000000162=2003009700; open:0=1; in:0:101300044D515454050000000511FFFFFFFF000161=200C010009270000004029002A00
 bound:1,9,9,9,999; open:0=1; open:1=1; in:0:100E00044D5154540502000000000161=200C000009270000004029002A00; in:1:100D00044D51545405020000000000=2003009700; is:1=0
@@ -184,6 +198,41 @@ fn answers(yes: bool, text: &mut String) -> Result<(), AllocError> {
     text.push_str(if yes { "=1" } else { "=0" })
 }
 
+/// Bytes come on a connection, and are only held; E16 where they aren't two digits each.
+fn holds(
+    alloc: Global,
+    broker: &mut Broker,
+    connection: usize,
+    digits: &str,
+) -> Result<(), StateError> {
+    let Ok(bytes) = hex::decode(alloc, digits) else {
+        return Err(StateError::from(Error::MalformedPacket));
+    };
+    broker.hold(connection, bytes.as_slice())
+}
+
+/// Adds who wants to connect as an answer.
+fn adds_asks(alloc: Global, asks: &Asks, text: &mut String) -> Result<(), AllocError> {
+    match asks {
+        Asks::Nobody => text.push_str("=-"),
+        Asks::Unnamed => text.push_str("=0"),
+        Asks::Named(login) => {
+            adds(alloc, login.username.as_bytes(), text)?;
+            text.push(',')?;
+            text.push_str(hex::encode_upper(alloc, login.password.as_bytes())?.as_str())
+        }
+    }
+}
+
+/// Turns a client away, of which the answer has this number; E16 of another.
+fn rejects(broker: &mut Broker, connection: usize, code: &str) -> Result<(), StateError> {
+    match code {
+        "134" => broker.reject(connection, ConnectReturnCode::BadUserNamePassword),
+        "135" => broker.reject(connection, ConnectReturnCode::NotAuthorized),
+        _other => Err(StateError::from(Error::MalformedPacket)),
+    }
+}
+
 /// Makes a call, and adds its answer.
 fn calls(
     alloc: Global,
@@ -206,6 +255,15 @@ fn calls(
             Ok(sends(alloc, broker, connection, text)?)
         }
         "out" => Ok(sends(alloc, broker, connection, text)?),
+        "hold" => holds(alloc, broker, connection, bytes),
+        "asks" => {
+            let asks = broker.asks(alloc, connection)?;
+            Ok(adds_asks(alloc, &asks, text)?)
+        }
+        "reject" => {
+            rejects(broker, connection, bytes)?;
+            Ok(sends(alloc, broker, connection, text)?)
+        }
         "pass" => {
             let passed = broker.pass(alloc, connection)?;
             Ok(answers(passed, text)?)

@@ -53,7 +53,7 @@ with_other i f g [] same = refl
 with_other zero f g (c ∷ cs) same = ap (λ d. d ∷ cs) (same c)
 with_other (suc i) f g (c ∷ cs) same = ap (λ xs. c ∷ xs) (with_other i f g cs same)
 
-with_same : (i : ℕ) (f : ClientState → ClientState) (cs : List ClientState) → ((c : ClientState) → f c ≡ c) → with_client i f cs ≡ cs
+pub with_same : (i : ℕ) (f : ClientState → ClientState) (cs : List ClientState) → ((c : ClientState) → f c ≡ c) → with_client i f cs ≡ cs
 with_same i f [] same = refl
 with_same zero f (c ∷ cs) same = ap (λ d. d ∷ cs) (same c)
 with_same (suc i) f (c ∷ cs) same = ap (λ xs. c ∷ xs) (with_same i f cs same)
@@ -66,7 +66,7 @@ of_client_at i m cs c below is = by i cs below ∙ ap m (sym is)
     by zero (d ∷ cs) below = refl
     by (suc i) (d ∷ cs) below = by i cs (omega arith)
 
-of_client_past : (i : ℕ) (m : ClientState → List Publish) (cs : List ClientState) → length cs ≤ i → of_client i m cs ≡ []
+pub of_client_past : (i : ℕ) (m : ClientState → List Publish) (cs : List ClientState) → length cs ≤ i → of_client i m cs ≡ []
 of_client_past i m [] past = refl
 of_client_past zero m (c ∷ cs) past = absurd (omega arith)
 of_client_past (suc i) m (c ∷ cs) past = of_client_past i m cs (omega arith)
@@ -183,7 +183,7 @@ of_none i p cs n past = ap (coming_from n (λ k. k == i) p) (sym (drop_all n cs 
 
 -- ---- an event
 
-none_queued : (i : ℕ) (cs : List ClientState) → queues_all i [] cs ≡ cs
+pub none_queued : (i : ℕ) (cs : List ClientState) → queues_all i [] cs ≡ cs
 none_queued i [] = refl
 none_queued zero (c ∷ cs) = λ j. gets_none c j ∷ none_others cs j
   where

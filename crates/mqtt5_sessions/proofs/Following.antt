@@ -56,7 +56,7 @@ pub record Makes (n : Network) (e : ClientEvent) (g : ClientState → ClientStat
   pub state : state_of (becomes_with n.handed e p) ≡ g (state_of p)
   pub new : new_of p (happens_at p e) ≡ m (state_of p)
 
-follows : (n : Network) (i : ℕ) (e : ClientEvent) (g : ClientState → ClientState) (m : ClientState → List Publish) → ((p : Place) → slice_get n.places i ≡ Some p → Makes n e g m p) → sessions_of (happens_in n (record { client = i; what = e })) ≡ changes i g m (sessions_of n)
+pub follows : (n : Network) (i : ℕ) (e : ClientEvent) (g : ClientState → ClientState) (m : ClientState → List Publish) → ((p : Place) → slice_get n.places i ≡ Some p → Makes n e g m p) → sessions_of (happens_in n (record { client = i; what = e })) ≡ changes i g m (sessions_of n)
 follows n i e g m makes =
     let f : Place → Place = becomes_with n.handed e in
     let new : List Publish = newly i (λ p. happens_at p e) n.places in
@@ -74,7 +74,7 @@ grown : (xs ys zs : List Publish) → zs ≡ xs ++ ys → drop (length xs) zs �
 grown xs ys zs e = ap (λ zs. drop (length xs) zs) e ∙ drop-append_seam xs ys
 
 -- no copies
-none : (c : ClientState) → gets [] c ≡ c
+pub none : (c : ClientState) → gets [] c ≡ c
 none c = λ j. record c { kept = record c.kept { queue = append-nil c.kept.queue j } }
 
 -- ---- a packet arrives
@@ -129,7 +129,7 @@ here_kept : (b : Bool) (c : Client) → without_events (kept_of (passes_at b c))
 here_kept true c = ap without_events (pass_kept c) ∙ sym (passed_kept (kept_of c))
 here_kept false c = refl
 
-nothing_new : (p q : Place) → q.client.receiver.handed ≡ p.client.receiver.handed → q.willed ≡ p.willed → new_of p q ≡ []
+pub nothing_new : (p q : Place) → q.client.receiver.handed ≡ p.client.receiver.handed → q.willed ≡ p.willed → new_of p q ≡ []
 nothing_new p q e w =
     (λ j. (ap (λ xs. drop (length p.client.receiver.handed) xs) e ∙ drop-length p.client.receiver.handed) j ++ (ap (λ xs. drop (length p.willed) xs) w ∙ drop-length p.willed) j)
 

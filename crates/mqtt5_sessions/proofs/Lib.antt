@@ -1,3 +1,4 @@
 pub mod Delivered
 pub mod Quiet
 pub mod Following
+pub mod Running

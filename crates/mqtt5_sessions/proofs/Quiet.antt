@@ -22,7 +22,7 @@ use Rattle.mqtt5_inflight.specs.declared.event.Outgoing.{Outgoing}
 use Rattle.mqtt5_inflight.specs.declared.event.Outgoing.TheVariants as outgoing
 use Rattle.mqtt5_inflight.specs.declared.error.StateError.{StateError}
 use Rattle.mqtt5_inflight.specs.Unacked.{requests_of}
-use Rattle.mqtt5_session.specs.Session.{Core, Session, Answer}
+use Rattle.mqtt5_session.specs.Session.{Session, Answer}
 use Rattle.mqtt5_session.specs.Requests.{on_request, unless, over_maximum, Verdict, Refuse, Wait, Store, verdict_of, out_acked, out_publish, out_release, out_known, id_for, last_after, ping_fault, counts_ping}
 use Rattle.mqtt5_session.specs.Packets.{on_packet, answer_to, with_notice, event_of, freed_for, on_puback, is_taken, on_received, on_pubrec, on_pubcomp, on_released, on_pubrel, topic_of, answers, puback_of, pubrec_of, on_qos, on_publish, on_connack}
 use Rattle.mqtt5_session.specs.Resuming.{on_clean, Sendings, with_reply, send_all, resume_of}

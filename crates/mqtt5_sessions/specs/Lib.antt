@@ -1,3 +1,4 @@
 pub mod Coming
 pub mod Sessions
 pub mod Counts
+pub mod Runs

@@ -1,16 +1,21 @@
 //! What a broker keeps follows each event of a network; and it can do without the events at its senders.
 
-ghost use Rattle.std.specs.Prelude.{◌≡◌, ◌∷◌, ◌++◌, ℕ, List, Option, Some, slice_get};
+ghost use Rattle.std.specs.Prelude.{◌≡◌, ◌<◌, ◌∷◌, ◌++◌, ℕ, List, Option, Some, length, map, slice_get};
 ghost use Rattle.mqtt5_codec.specs.declared.packet.Packet.{Packet};
 ghost use Rattle.mqtt5_session.specs.Resuming.{resume_of};
+ghost use Rattle.mqtt5_network.specs.declared.event.ClientEvent.{ClientEvent};
 ghost use Rattle.mqtt5_network.specs.declared.event.ClientEvent.TheVariants as events;
+ghost use Rattle.mqtt5_network.specs.declared.event.NetworkEvent.{NetworkEvent};
 ghost use Rattle.mqtt5_network.specs.declared.event.Will.{Will};
 ghost use Rattle.mqtt5_network.specs.Connection.{connected, sent_in};
 ghost use Rattle.mqtt5_network.specs.Place.{Place};
-ghost use Rattle.mqtt5_network.specs.Network.{Network, happens_in};
+ghost use Rattle.mqtt5_network.specs.Network.{Network, Profile, happens_in, run_network, IsReached};
 ghost use Rattle.mqtt5_router.specs.Kept.{Kept, without_events, kept_of, after_packet, after_pass};
 ghost use Rattle.mqtt5_sessions.specs.Sessions.{sessions_of, arrives, passes, loses, is_due};
 ghost use Rattle.mqtt5_sessions.specs.Sessions.{leaves, taken_up, comes, ends};
+ghost use Rattle.mqtt5_sessions.specs.Sessions.{Sessions, replies, passed, sent_again};
+ghost use Rattle.mqtt5_sessions.specs.Runs.{after_events, no_sessions, RunEvent, IsOfClient, at_broker};
+ghost use Rattle.mqtt5_sessions.specs.Runs.{limits_in, with_new, before, HaveNone, all_in_network, IsRun};
 
 /// A law, which does nothing when it is called: what a broker keeps of a network, after each event of the client at a place, is
 /// what its own definitions make of it (MQTT 5.0 sections 3.1.2.4, 3.1.2.5, 3.1.3.2.2, 3.3.4, 3.8, 4.1, 4.3 and 4.4).
@@ -73,4 +78,48 @@ pub fn quiet_law()
         ≡ sent_in (resume_of (connected m k.sender) 0) }
     // And what is kept.
     ensures back { (m : Option ℕ) (k : Kept) → taken_up m (without_events k) ≡ taken_up m k }
+{}
+
+/// A law, which does nothing when it is called: a whole run of what a broker keeps is one of a network (MQTT 5.0 sections 4.1, 4.3 and
+/// 4.4). So the laws of a network hold of what is sent to clients of this code.
+pub fn run_law()
+    // What a client does alone, asking for something or taking a packet, changes nothing that the broker keeps.
+    ensures alone { (n : Network) (i : ℕ) (e : ClientEvent) → IsOfClient e
+        → sessions_of (happens_in n (record { client = i; what = e })) ≡ sessions_of n }
+    // Events at the broker and at its clients, of which each packet that arrives is the first on its way up in the network: what the
+    // broker keeps after them is what it keeps in the network, beside clients that come to be known later.
+    ensures same { (ps : List Profile) (es : List RunEvent) (limits : List ℕ)
+        → HaveNone ps → map (λ (p : Profile). p.sender_limit) ps ≡ limits_in es ++ limits
+        → IsRun no_sessions (before ps) es
+        → sessions_of (run_network (all_in_network no_sessions es) (before ps))
+        ≡ with_new limits (after_events (at_broker es) no_sessions) }
+    // And that network is one that is reached.
+    ensures reached { (ps : List Profile) (es : List NetworkEvent)
+        → IsReached (run_network es (before ps)) }
+{}
+
+/// A law, which does nothing when it is called: what is sent to a client is what goes down to it in a network (4.3 and 4.4).
+pub fn sends_law()
+    // The reply to a packet of it.
+    ensures reply { (n : Network) (i : ℕ) (p q : Place)
+        → slice_get n.places i ≡ Some p
+        → (x : Packet) (way : List Packet) → p.client.up ≡ x ∷ way
+        → slice_get (happens_in n (record { client = i; what = events.Up })).places i ≡ Some q
+        → q.client.down ≡ p.client.down ++ replies i x (sessions_of n) }
+    // The first of its queue.
+    ensures pass { (n : Network) (i : ℕ) (p q : Place)
+        → slice_get n.places i ≡ Some p
+        → slice_get (happens_in n (record { client = i; what = events.PassOn })).places i ≡ Some q
+        → q.client.down ≡ p.client.down ++ passed i (sessions_of n) }
+    // And what is sent again on a new connection, on which nothing else is on its way.
+    ensures again { (n : Network) (i : ℕ) (p q : Place)
+        → slice_get n.places i ≡ Some p
+        → (a m : Option ℕ) (will : Option Will)
+        → slice_get (happens_in n (record { client = i; what = events.Back a m will })).places i ≡ Some q
+        → q.client.down ≡ sent_again i m (sessions_of n) }
+    // Clients that aren't known yet change nothing of what is sent to one that is.
+    ensures known { (s : Sessions) (limits : List ℕ) (i : ℕ) → i < length s.clients
+        → ((x : Packet) → replies i x (with_new limits s) ≡ replies i x s)
+        × (passed i (with_new limits s) ≡ passed i s)
+        × ((m : Option ℕ) → sent_again i m (with_new limits s) ≡ sent_again i m s) }
 {}

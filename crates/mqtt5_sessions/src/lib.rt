@@ -11,5 +11,5 @@ mod sessions;
 mod tests;
 
 pub use counts::Counts;
-pub use laws::{quiet_law, sessions_law};
+pub use laws::{quiet_law, run_law, sends_law, sessions_law};
 pub use sessions::Sessions;

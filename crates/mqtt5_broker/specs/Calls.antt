@@ -1,0 +1,45 @@
+-- A broker after any calls, one after another (MQTT 5.0 sections 4.1 and 4.2).
+use Rattle.std.specs.Prelude.{ℕ, List, [], ◌∷◌}
+use Rattle.mqtt5_control.specs.declared.connack.ConnectReturnCode.{ConnectReturnCode}
+use Rattle.mqtt5_broker.specs.declared.bounds.Bounds.{Bounds}
+use Rattle.mqtt5_broker.specs.Connection.{with_sent}
+use Rattle.mqtt5_broker.specs.Broker.{Broker, on_connection}
+use Rattle.mqtt5_broker.specs.Clock.{ticks, shuts_down}
+use Rattle.mqtt5_broker.specs.Bounds.{bounded, trims_all}
+use Rattle.mqtt5_broker.specs.Serving.{passes_on}
+use Rattle.mqtt5_broker.specs.Receiving.{receives, opens, closes}
+use Rattle.mqtt5_broker.specs.Asking.{holds, rejects}
+
+-- a connection begins; bytes of it come, and are only held, or its client is turned away, or they are
+-- taken; so many of those to be sent were sent; the first of its client's queue is passed on; it ends;
+-- a moment comes; bounds are set; what exceeds them ends; and the broker does
+pub data Call : Type 0 where
+  Open : (at connection : ℕ) → Call
+  Hold : (connection : ℕ) (bytes : List ℕ) → Call
+  Reject : (connection : ℕ) (code : ConnectReturnCode) → Call
+  Receive : (at connection : ℕ) (bytes : List ℕ) → Call
+  Sent : (connection count : ℕ) → Call
+  Pass : (connection : ℕ) → Call
+  Close : (at connection : ℕ) → Call
+  Tick : (at : ℕ) → Call
+  SetBounds : (bounds : Bounds) → Call
+  Trim : Call
+  ShutDown : (at : ℕ) → Call
+
+-- what comes of it, where memory isn't refused
+abbrev pub after_call : Call → Broker → Broker
+after_call (Open at c) b = opens at c b
+after_call (Hold c bytes) b = holds c bytes b
+after_call (Reject c code) b = rejects c code b
+after_call (Receive at c bytes) b = receives at c bytes b
+after_call (Sent c count) b = on_connection c (with_sent count) b
+after_call (Pass c) b = passes_on c b
+after_call (Close at c) b = closes at c b
+after_call (Tick at) b = ticks at b
+after_call (SetBounds bounds) b = bounded bounds b
+after_call Trim b = trims_all b
+after_call (ShutDown at) b = shuts_down at b
+
+abbrev pub after_calls : List Call → Broker → Broker
+after_calls [] b = b
+after_calls (c ∷ cs) b = after_calls cs (after_call c b)
