@@ -1,9 +1,10 @@
 /* An MQTT 5.0 server: sockets and a clock around the broker of mqtt5_broker.h. The broker is proved (docs/PROVED.md); this file
    isn't, it is only tested (tests/broker). One thread, poll and sockets that never block. docs/BROKER.md says how it is used. */
 #define _POSIX_C_SOURCE 200809L
+#include "broker_options.h"
+#include "broker_users.h"
 #include "mqtt5_broker.h"
 
-#include <arpa/inet.h>
 #include <errno.h>
 #include <fcntl.h>
 #include <limits.h>
@@ -20,13 +21,6 @@
 #include <sys/socket.h>
 #include <time.h>
 #include <unistd.h>
-
-/* ---- What an operator sets. ---- */
-
-static unsigned long port = 1883, most = 1024, longest = 1048576, ids = 1024, wait_for = 10;
-static unsigned long clients = 10000, subscriptions = 1000, retained = 10000, queued = 100000, queued_bytes = 67108864;
-static const char *bound = "127.0.0.1";
-static bool quiet;
 
 /* ---- Limits of its own. ---- */
 
@@ -74,11 +68,13 @@ static uint64_t measures_at;                   /* when it measures what is kept 
 static int listener, signals[2];
 static bool ends, grows;  /* whether it ends, and something may have come into any queue since these were measured */
 static bool came, others; /* in this round: what may be in any queue, and what may have ended any connection */
+static bool judged;       /* and whether a user was judged */
+static size_t first;      /* the connection that is looked at first in it */
 static uint8_t in[PIECE], out[PIECE];
 
 static void say(const char *format, ...) {
     va_list words;
-    if (quiet) return;
+    if (options.quiet) return;
     va_start(words, format);
     vfprintf(stderr, format, words);
     va_end(words);
@@ -261,9 +257,35 @@ static void say_client(size_t c) {
     say("%llu: client \"%s\"%s\n", (unsigned long long)connections[c].number, shown, len == sizeof name ? " .." : "");
 }
 
+/* Hands in what was read. Where there are users, who isn't connected yet is asked who it is: the bytes are held, and are taken
+   once it is known, or it is turned away. A judgement takes its time, so there is one in a round at most, and the next round
+   begins behind that connection. */
+static uint32_t hand_in(size_t c, size_t len) {
+    static uint8_t name[65535], password[65535]; /* (as long as one can be: 1.5.4) */
+    enum judgement judgement = UNKNOWN;
+    uint32_t asks = 0, done;
+    size_t name_len = 0, password_len = 0;
+    if (!options.users || connections[c].is_client) return mqtt5_broker_receive(&broker, c, in, len, now);
+    done = mqtt5_broker_hold(&broker, c, in, len);
+    if (done == MQTT5_BROKER_DONE)
+        done = mqtt5_broker_asks(
+            &broker, c, &asks, name, sizeof name, &name_len, password, sizeof password, &password_len);
+    if (done != MQTT5_BROKER_DONE) return done;
+    if (asks == MQTT5_BROKER_NAMED) {
+        judgement = users_judge(name, name_len, password, password_len);
+        judged = true;
+        first = c + 1;
+        now = moment();
+    }
+    if (judgement == NO_MEMORY) return MQTT5_BROKER_OUT_OF_MEMORY;
+    if (asks != MQTT5_BROKER_NOBODY && judgement != KNOWN) return mqtt5_broker_reject(&broker, c, asks == MQTT5_BROKER_NAMED);
+    return mqtt5_broker_receive(&broker, c, in, 0, now);
+}
+
 /* Reads a piece, and hands it in. */
 static void hear(size_t c) {
     struct connection *k = &connections[c];
+    if (judged && !k->is_client && k->state == OPEN) return; /* (its bytes wait for the next round) */
     ssize_t len = recv(k->socket, in, sizeof in, 0);
     if (len < 0 && (errno == EAGAIN || errno == EWOULDBLOCK || errno == EINTR)) return;
     if (k->state != OPEN && len > 0) return;
@@ -274,7 +296,7 @@ static void hear(size_t c) {
     }
     came = true;
     if (k->waits) k->unread += (size_t)len;
-    if (mqtt5_broker_receive(&broker, c, in, (size_t)len, now) != MQTT5_BROKER_DONE) {
+    if (hand_in(c, (size_t)len) != MQTT5_BROKER_DONE) {
         others = true;
         drop(c);
         return;
@@ -289,14 +311,14 @@ static void hear(size_t c) {
 
 /* The first number that is free, or that of a connection that waits for nothing but its client's end. */
 static bool free_number(size_t *c) {
-    size_t drained = most;
-    for (*c = 0; *c < most; (*c)++) {
+    size_t drained = options.most;
+    for (*c = 0; *c < options.most; (*c)++) {
         if (connections[*c].state == UNUSED) return true;
-        if (connections[*c].state == DRAINED && drained == most) drained = *c;
+        if (connections[*c].state == DRAINED && drained == options.most) drained = *c;
     }
     *c = drained;
-    if (drained < most) leave(drained);
-    return drained < most && connections[drained].state == UNUSED;
+    if (drained < options.most) leave(drained);
+    return drained < options.most && connections[drained].state == UNUSED;
 }
 
 static void say_address(const struct sockaddr_storage *a, socklen_t len, const char *what) {
@@ -358,6 +380,7 @@ static int plan(void) {
     int timeout = -1;
     uint64_t at;
     bool some = false;
+    now = moment();
     mqtt5_broker_next_moment(&broker, &at, &some);
     due_at = some ? at : UINT64_MAX;
     if (some) timeout = sooner(timeout, at < tries_at ? tries_at : at);
@@ -437,9 +460,10 @@ static void turn(void) {
     size_t all = used;
     int timeout = plan(), ready = poll(polled, all + 2, timeout);
     now = moment();
-    came = others = false;
+    came = others = judged = false;
     if (ready < 0 && errno != EINTR) fail("poll");
-    for (size_t c = 0; ready > 0 && c < all; c++) {
+    for (size_t i = 0, from = first; ready > 0 && i < all; i++) {
+        size_t c = (from + i) % all;
         short events = polled[c + 2].revents;
         if (events & POLLOUT) serve(c);
         if (events & ~POLLOUT && connections[c].socket == polled[c + 2].fd) hear(c);
@@ -455,90 +479,6 @@ static void turn(void) {
 
 /* ---- It begins. ---- */
 
-static const char help[] =
-    "usage: mqtt5 broker [OPTIONS]\n"
-    "An MQTT 5.0 broker on this machine's own addresses.\n"
-    "\n"
-    "  -p, --port PORT          the port, else 1883; 0 takes a free one, and the first line of the log says which\n"
-    "  --bind ADDRESS           the address, else 127.0.0.1; one of 127.0.0.0/8, ::1, or localhost, since there are no users yet\n"
-    "  --max-connections N      how many connections there are at once, else 1024\n"
-    "  --max-packet-size N      the greatest remaining length of a packet that is taken, in bytes, else 1048576\n"
-    "  --max-inflight N         how many messages of QoS 1 and 2 a client is sent ahead of their acks, else 1024\n"
-    "  --max-sessions N         how many clients have a session, connected or away, else 10000\n"
-    "  --max-subscriptions N    how many subscriptions a client has, else 1000\n"
-    "  --max-retained N         how many messages are retained, else 10000\n"
-    "  --max-queued-messages N  how many messages wait for a client, else 100000\n"
-    "  --max-queued-bytes N     and how many bytes these have, else 67108864\n"
-    "  --wait SECONDS           how long a connection may be open without a Connect, else 10; 0 for any time\n"
-    "  -q, --quiet              no log\n"
-    "  --help                   this text\n"
-    "\n"
-    "docs/BROKER.md says more of each.\n";
-
-static _Noreturn void refuse(const char *word, const char *why) {
-    fprintf(stderr, "broker: %s: %s\n", word, why);
-    exit(2);
-}
-
-static const struct number {
-    const char *option;
-    unsigned long *value, least, greatest;
-} numbers[] = {
-    {"-p", &port, 0, 65535}, {"--port", &port, 0, 65535}, {"--wait", &wait_for, 0, 4294967},
-    {"--max-connections", &most, 1, 1000000}, {"--max-packet-size", &longest, 1, 268435455}, {"--max-inflight", &ids, 1, 65535},
-    {"--max-sessions", &clients, 1, ULONG_MAX}, {"--max-subscriptions", &subscriptions, 0, ULONG_MAX},
-    {"--max-retained", &retained, 0, ULONG_MAX}, {"--max-queued-messages", &queued, 0, ULONG_MAX},
-    {"--max-queued-bytes", &queued_bytes, 0, ULONG_MAX}, {NULL, NULL, 0, 0},
-};
-
-static void set_number(const char *option, const char *text) {
-    const struct number *k = numbers;
-    char *end, why[80];
-    while (k->option && strcmp(option, k->option)) k++;
-    if (!k->option) refuse(option, "no such option; --help has them all");
-    errno = 0;
-    *k->value = text && *text >= '0' && *text <= '9' ? strtoul(text, &end, 10) : (end = "?", 0);
-    snprintf(why, sizeof why, "takes a number of %lu to %lu", k->least, k->greatest);
-    if (errno || *end || *k->value < k->least || *k->value > k->greatest) refuse(option, why);
-}
-
-static void read_options(char **words) {
-    for (; *words; words++) {
-        const char *option = *words;
-        if (!strcmp(option, "--help") || !strcmp(option, "-h")) {
-            fputs(help, stdout);
-            exit(0);
-        }
-        if (!strcmp(option, "-q") || !strcmp(option, "--quiet")) {
-            quiet = true;
-            continue;
-        }
-        const char *value = words[1];
-        if (strcmp(option, "--bind")) set_number(option, value);
-        else if (!(bound = value)) refuse(option, "takes an address");
-        words++;
-    }
-}
-
-/* The address to listen at: one that only this machine reaches. */
-static socklen_t find_address(struct sockaddr_storage *a) {
-    struct sockaddr_in *four = (void *)a;
-    struct sockaddr_in6 *six = (void *)a;
-    const char *text = strcmp(bound, "localhost") ? bound : "127.0.0.1";
-    memset(a, 0, sizeof *a);
-    if (inet_pton(AF_INET, text, &four->sin_addr) == 1 && ntohl(four->sin_addr.s_addr) >> 24 == 127) {
-        four->sin_family = AF_INET;
-        four->sin_port = htons((uint16_t)port);
-        return sizeof *four;
-    }
-    if (inet_pton(AF_INET6, text, &six->sin6_addr) == 1 && IN6_IS_ADDR_LOOPBACK(&six->sin6_addr)) {
-        six->sin6_family = AF_INET6;
-        six->sin6_port = htons((uint16_t)port);
-        return sizeof *six;
-    }
-    refuse(bound, "the broker has no users yet, so it takes only addresses of this machine: 127.0.0.0/8, ::1, localhost");
-}
-
 static void listen_there(void) {
     struct sockaddr_storage a;
     socklen_t len = find_address(&a);
@@ -548,16 +488,17 @@ static void listen_there(void) {
     if (listener < 0) fail("socket");
     setsockopt(listener, SOL_SOCKET, SO_REUSEADDR, &one, sizeof one);
     set_flags(listener);
-    if (bind(listener, (struct sockaddr *)&a, len) < 0 || listen(listener, 1024) < 0) fail(bound);
+    if (bind(listener, (struct sockaddr *)&a, len) < 0 || listen(listener, 1024) < 0) fail(options.bound);
     if (getsockname(listener, (struct sockaddr *)&a, &len) < 0) fail("getsockname");
-    port = ntohs(is_six ? ((struct sockaddr_in6 *)&a)->sin6_port : ((struct sockaddr_in *)&a)->sin_port);
-    say(is_six ? "listening on [%s]:%lu\n" : "listening on %s:%lu\n", strcmp(bound, "localhost") ? bound : "127.0.0.1", port);
+    options.port = ntohs(is_six ? ((struct sockaddr_in6 *)&a)->sin6_port : ((struct sockaddr_in *)&a)->sin_port);
+    const char *bound = strcmp(options.bound, "localhost") ? options.bound : "127.0.0.1";
+    say(is_six ? "listening on [%s]:%lu\n" : "listening on %s:%lu\n", bound, options.port);
 }
 
 /* There must be as many files as connections. */
 static void raise_files(void) {
     struct rlimit files;
-    rlim_t wanted = most + 16;
+    rlim_t wanted = options.most + 16;
     if (getrlimit(RLIMIT_NOFILE, &files) < 0) fail("getrlimit");
     if (files.rlim_cur >= wanted) return;
     if (files.rlim_max < wanted) refuse("--max-connections", "more than the files that a process may have open (ulimit -Hn)");
@@ -576,19 +517,22 @@ static void catch_signals(void) {
 
 int main(int argc, char **argv) {
     if (argc > 0) read_options(argv + 1);
+    if (options.users) users_read(options.users);
     /* (no socket gets the number of a log that is closed) */
     int s = 0;
     while (s >= 0 && s < 3) s = open("/dev/null", O_RDWR);
     close(s);
     raise_files();
-    connections = calloc(most, sizeof *connections);
-    polled = calloc(most + 2, sizeof *polled);
-    uint32_t made = mqtt5_broker_new(&broker, most, (uint32_t)longest, (uint16_t)ids, (uint32_t)wait_for * 1000);
+    connections = calloc(options.most, sizeof *connections);
+    polled = calloc(options.most + 2, sizeof *polled);
+    uint32_t wait = (uint32_t)options.wait_for * 1000;
+    uint32_t made = mqtt5_broker_new(&broker, options.most, (uint32_t)options.longest, (uint16_t)options.ids, wait);
     if (!connections || !polled || made != MQTT5_BROKER_DONE) {
-        fprintf(stderr, "broker: no memory for %lu connections\n", most);
+        fprintf(stderr, "broker: no memory for %lu connections\n", options.most);
         return 1;
     }
-    mqtt5_broker_bound(&broker, clients, subscriptions, retained, queued, queued_bytes);
+    mqtt5_broker_bound(
+        &broker, options.clients, options.subscriptions, options.retained, options.queued, options.queued_bytes);
     catch_signals();
     listen_there();
     now = moment();

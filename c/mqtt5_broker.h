@@ -39,8 +39,8 @@ uint32_t mqtt5_broker_new(mqtt5_broker *b, size_t connections, uint32_t longest,
 
 /* What may be kept at most, from now on; before that there is no bound. How many clients are known at once, connected or
    away, and how many messages are retained: one more is refused with Quota exceeded (0x97), but a will is retained all the
-   same, and as many clients are taken as there once were. How many subscriptions a client has, how many publishes wait in its queue, and how many bytes these have as frames:
-   mqtt5_broker_trim ends the sessions of clients that have more. */
+   same, and as many clients are taken as there once were. How many subscriptions a client has, how many publishes wait in
+   its queue, and how many bytes these have as frames: mqtt5_broker_trim ends the sessions of clients that have more. */
 uint32_t mqtt5_broker_bound(
     mqtt5_broker *b, size_t clients, size_t subscriptions, size_t retained, size_t queued, uint64_t bytes);
 
@@ -53,6 +53,26 @@ uint32_t mqtt5_broker_open(mqtt5_broker *b, size_t connection, uint64_t at, bool
 
 /* Takes bytes of a connection, in any pieces. Where memory is refused the connection is to be closed. */
 uint32_t mqtt5_broker_receive(mqtt5_broker *b, size_t connection, const uint8_t *bytes, size_t len, uint64_t at);
+
+/* Who wants to connect may be asked before the answer: bytes of a connection without a client are only held, then what they say
+   is looked at, and then mqtt5_broker_receive takes them, also with no bytes more, or the client is turned away. Where memory
+   is refused all is as before. */
+uint32_t mqtt5_broker_hold(mqtt5_broker *b, size_t connection, const uint8_t *bytes, size_t len);
+
+/* What mqtt5_broker_asks tells: nobody, where no whole Connect is held, or the connection has its client; a client that says no
+   name and no password, or empty ones; and one that says at least one of them. */
+enum { MQTT5_BROKER_NOBODY = 0, MQTT5_BROKER_UNNAMED = 1, MQTT5_BROKER_NAMED = 2 };
+
+/* Copies the beginning of the name and of the password, as much as fits, and tells how many bytes; one that isn't said has none.
+   Each has at most 65,535 bytes: a smaller buffer may cut it, which isn't told. */
+uint32_t mqtt5_broker_asks(
+    mqtt5_broker *b, size_t connection, uint32_t *asks, uint8_t *name, size_t name_len, size_t *name_count,
+    uint8_t *password, size_t password_len, size_t *password_count);
+
+/* Turns a client away that isn't connected yet, with Bad User Name or Password (0x86) where `named` is true, and else with Not
+   authorized (0x87). Nothing more of its connection is taken. It is for one of whom mqtt5_broker_asks tells UNNAMED or NAMED:
+   before a Connect there is no answer (3.2). */
+uint32_t mqtt5_broker_reject(mqtt5_broker *b, size_t connection, bool named);
 
 /* Whether bytes of it are taken. Where none are, its output is to be sent, and then it is to be closed. */
 uint32_t mqtt5_broker_is_open(mqtt5_broker *b, size_t connection, bool *is_open);

@@ -104,26 +104,44 @@ build_server() {
     local archive made file
     archive=$(library_archive "$1" mqtt5_broker_c)
     made=$(server_of "$1")
-    for file in "$archive" "$1/c/broker.c" "$1/c/mqtt5_broker.h"; do
+    for file in "$archive" "$1"/c/broker*.[ch] "$1/c/mqtt5_broker.h"; do
         if [ ! "$made" -nt "$file" ]; then
-            link_server "$1" "$archive" "$made.new" -O2 && mv "$made.new" "$made"
+            crypt=$(crypt_words) link_server "$1" "$archive" "$made.new" -O2 && mv "$made.new" "$made"
             return
         fi
     done
 }
 
+# libcrypt for the linker: within the program where the archive is there, since other systems have it under another number. (The
+# address sanitizer only knows the one that isn't.)
+crypt_words() {
+    local archive
+    archive=$("${CC:-cc}" -print-file-name=libcrypt.a)
+    if [ -f "$archive" ]; then echo "$archive"; else echo -lcrypt; fi
+}
+
+# Whether the compiler has it.
+has_crypt() {
+    local made status=0
+    made=$(mktemp)
+    printf '#include <crypt.h>\nstruct crypt_data d;\nint main(void) { return !crypt_r("", "", &d); }\n' |
+        "${CC:-cc}" -D_GNU_SOURCE -x c -o "$made" - -x none "$(crypt_words)" > /dev/null 2>&1 || status=$?
+    rm -f "$made"
+    return "$status"
+}
+
 # Compiles it: the repository, the archive, the program, and more words of the compiler.
 link_server() {
-    "${CC:-cc}" -std=c11 -Wall -Wextra "${@:4}" -o "$3" "$1/c/broker.c" "$2" "$(dirname "$(rt doc)")/c/liblibc_c.a"
+    "${CC:-cc}" -std=c11 -Wall -Wextra "${@:4}" -o "$3" "$1"/c/broker*.c "$2" "$(dirname "$(rt doc)")/c/liblibc_c.a" "${crypt:--lcrypt}"
 }
 
 # Its help, and whether it has these options: their values it judges itself.
-server_help() { sed -n '/^static const char help/,/;$/s/^ *"\(.*\)\\n";*$/\1/p' "$1/c/broker.c"; }
+server_help() { sed -n '/^static const char help/,/;$/s/^ *"\(.*\)\\n";*$/\1/p' "$1/c/broker_options.c"; }
 is_server() {
     while [ $# -gt 0 ]; do
         case $1 in
             -q | --quiet) ;;
-            -p | --port | --bind | --wait | --max-connections | --max-packet-size | --max-inflight | --max-sessions | \
+            -p | --port | --bind | --users | --wait | --max-connections | --max-packet-size | --max-inflight | --max-sessions | \
                 --max-subscriptions | --max-retained | --max-queued-messages | --max-queued-bytes)
                 [ $# -gt 1 ] || return
                 shift

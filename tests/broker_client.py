@@ -61,11 +61,13 @@ class Will:
         return block(delay + self.properties) + text(self.topic) + text(self.payload)
 
 
-def connect_frame(name, clean=True, keep=0, properties=b"", will=None, version=5):
-    """A Connect (3.1)."""
+def connect_frame(name, clean=True, keep=0, properties=b"", will=None, version=5, login=(None, None)):
+    """A Connect (3.1); its login is a user name and a password, each of them or none."""
     flags = (2 if clean else 0) | (4 | will.qos << 3 | will.retain << 5 if will else 0)
+    flags |= (128 if login[0] is not None else 0) | (64 if login[1] is not None else 0)
     body = text("MQTT") + struct.pack(">BBH", version, flags, keep) + (block(properties) if version == 5 else b"")
-    return frame(0x10, body + text(name) + (will.body() if will else b""))
+    body += text(name) + (will.body() if will else b"")
+    return frame(0x10, body + b"".join(text(part) for part in login if part is not None))
 
 
 def publish_frame(topic, payload, qos=0, retain=0, id=0, dup=0, properties=b""):

@@ -51,10 +51,11 @@ static int failures;
 #define BYTES(literal) (const uint8_t *)(literal), sizeof(literal) - 1
 
 /* Packets of MQTT 5.0 (sections 3.1 to 3.14), by hand. The first client, s, has a keep alive of 10 seconds and a will for
-   the topic w with the payload g; the others, p and r, have none of these. */
+   the topic w with the payload g; the others, p and r, have none of these. e is the user eve with the password pass. */
 #define CONNECT_S "\x10\x15\0\x04MQTT\x05\x06\0\x0a\0\0\x01s\0\0\x01w\0\x01g"
 #define CONNECT_P "\x10\x0e\0\x04MQTT\x05\x02\0\0\0\0\x01p"
 #define CONNECT_R "\x10\x0e\0\x04MQTT\x05\x02\0\0\0\0\x01r"
+#define CONNECT_E "\x10\x19\0\x04MQTT\x05\xc2\0\0\0\0\x01" "e" "\0\x03" "eve" "\0\x04" "pass"
 #define SUBSCRIBE "\x82\x07\0\x01\0\0\x01" "a" "\x01"
 #define SUBSCRIBE_TO_WILLS "\x82\x07\0\x01\0\0\x01" "w" "\0"
 #define SUBACK_OF_1 "\x90\x04\0\x01\0\x01"
@@ -90,12 +91,6 @@ static void comes(mqtt5_broker *b, size_t connection, const uint8_t *bytes, size
     else EXPECT(code, MQTT5_BROKER_DONE);
 }
 
-static void passes(mqtt5_broker *b, size_t connection, bool *some, told *t) {
-    uint32_t code = mqtt5_broker_pass(b, connection, some);
-    if (code == MQTT5_BROKER_OUT_OF_MEMORY) lose(b, connection, t);
-    else EXPECT(code, MQTT5_BROKER_DONE);
-}
-
 /* A call that may be made again where memory is refused. */
 #define TWICE(call)                                            \
     do {                                                       \
@@ -106,6 +101,46 @@ static void passes(mqtt5_broker *b, size_t connection, bool *some, told *t) {
         }                                                      \
         EXPECT(code_, MQTT5_BROKER_DONE);                      \
     } while (0)
+
+/* The same of a client that is asked first who it is: its bytes are held, and taken once it is known. */
+static void asked(mqtt5_broker *b, size_t connection, const uint8_t *bytes, size_t len, uint64_t at, told *t) {
+    uint8_t name[4] = {0}, password[4] = {0};
+    size_t name_len = 9, password_len = 9;
+    uint32_t asks = 9;
+    TWICE(mqtt5_broker_hold(b, connection, bytes, len));
+    TWICE(mqtt5_broker_asks(b, connection, &asks, name, sizeof name, &name_len, password, sizeof password, &password_len));
+    EXPECT(asks, MQTT5_BROKER_UNNAMED);
+    EXPECT(name_len, 0);
+    EXPECT(password_len, 0);
+    comes(b, connection, NULL, 0, at, t);
+}
+
+/* Another is turned away, and its connection ends; name and password come as far as they fit. */
+static void turned_away(mqtt5_broker *b, size_t connection, told *t) {
+    uint8_t name[4] = "....", password[2] = "..", out[8];
+    size_t name_len = 9, password_len = 9, count = 0;
+    uint32_t asks = 9;
+    bool is_open = true, begun = false;
+    TWICE(mqtt5_broker_hold(b, connection, BYTES(CONNECT_E)));
+    TWICE(mqtt5_broker_asks(b, connection, &asks, name, sizeof name, &name_len, password, sizeof password, &password_len));
+    EXPECT(asks, MQTT5_BROKER_NAMED);
+    EXPECT(name_len == 3 && !memcmp(name, "eve.", 4), true);
+    EXPECT(password_len == 2 && !memcmp(password, "pa", 2), true);
+    TWICE(mqtt5_broker_reject(b, connection, true));
+    EXPECT(mqtt5_broker_is_open(b, connection, &is_open), MQTT5_BROKER_DONE);
+    EXPECT(is_open, false);
+    EXPECT(mqtt5_broker_output(b, connection, out, sizeof out, &count), MQTT5_BROKER_DONE);
+    EXPECT(count == 5 && !memcmp(out, "\x20\x03\0\x86\0", 5), true);
+    TWICE(mqtt5_broker_close(b, connection, 0));
+    EXPECT(mqtt5_broker_open(b, connection, 0, &begun), MQTT5_BROKER_DONE);
+    EXPECT(begun, true);
+}
+
+static void passes(mqtt5_broker *b, size_t connection, bool *some, told *t) {
+    uint32_t code = mqtt5_broker_pass(b, connection, some);
+    if (code == MQTT5_BROKER_OUT_OF_MEMORY) lose(b, connection, t);
+    else EXPECT(code, MQTT5_BROKER_DONE);
+}
 
 /* Sends what there is, in pieces of three bytes at most. */
 static void sends(mqtt5_broker *b, size_t connection, told *t) {
@@ -143,6 +178,7 @@ static void plays(mqtt5_broker *b, told *t) {
     uint32_t code;
     int before;
     begins(b, t);
+    turned_away(b, 2, t);
     comes(b, 0, BYTES(CONNECT_S), 1, t);
     comes(b, 1, BYTES(CONNECT_P), 2, t);
     comes(b, 0, BYTES(SUBSCRIBE), 3, t);
@@ -159,7 +195,7 @@ static void plays(mqtt5_broker *b, told *t) {
     code = mqtt5_broker_tick(b, 15100);
     is_late = code == MQTT5_BROKER_OUT_OF_MEMORY;
     t->refusals += is_late;
-    comes(b, 2, BYTES(CONNECT_R), 15100, t);
+    asked(b, 2, BYTES(CONNECT_R), 15100, t);
     comes(b, 2, BYTES(SUBSCRIBE), 15100, t);
     if (is_late) code = mqtt5_broker_tick(b, 15100);
     EXPECT(code, MQTT5_BROKER_DONE);

@@ -7,6 +7,7 @@ import os
 import random
 import signal
 import socket
+import subprocess
 import sys
 import time
 import traceback
@@ -73,17 +74,37 @@ class Server:
 COUNT = 0
 
 
-async def start(*words, program=BROKER):
+def hash_of(password, setting="$6$rounds=1000$saltsalt"):
+    """As mkpasswd makes one, by libcrypt."""
+    made = subprocess.run(["perl", "-e", "print crypt($ARGV[0], $ARGV[1])", password.encode(), setting], capture_output=True, check=True)
+    return made.stdout.decode()
+
+
+def write_users(path, users):
+    """A file of users with their passwords, as the broker takes it."""
+    if IS_OURS:
+        with open(path, "w", encoding="utf-8") as file:
+            file.write("# who may connect\n\n" + "".join(f"{name}:{hash_of(password)}\n" for name, password in users.items()))
+        return ["--users", path]
+    # (which takes no empty password)
+    for i, (name, password) in enumerate((name, password) for name, password in users.items() if password):
+        subprocess.run(["mosquitto_passwd", *(["-c"] if i == 0 else []), "-b", path, name, password], check=True, capture_output=True)
+    os.chmod(path, 0o644)
+    return [f"allow_anonymous false\npassword_file {path}\n"]
+
+
+async def start(*words, program=BROKER, users=None):
     """Starts a broker: words are this server's own."""
     global COUNT
     COUNT += 1
     path = f"{FOLDER}/log.{COUNT}"
-    port, command, is_up = 0, [program, "-p", "0", *words], "listening on "
+    who = write_users(f"{FOLDER}/users.{COUNT}", users) if users else [] if IS_OURS else ["allow_anonymous true\n"]
+    port, command, is_up = 0, [program, "-p", "0", *words, *who], "listening on "
     if not IS_OURS:
         port, command, is_up = free_port(), ["mosquitto", "-v", "-c", f"{FOLDER}/conf.{COUNT}"], " running\n"
         with open(command[-1], "w") as conf:
-            conf.write(f"listener {port} 127.0.0.1\nallow_anonymous true\nmax_queued_messages 0\nmax_inflight_messages 1000\n"
-                       f"max_packet_size {LONGEST}\n")
+            conf.write(f"listener {port} 127.0.0.1\nmax_queued_messages 0\nmax_inflight_messages 1000\n"
+                       f"max_packet_size {LONGEST}\n" + who[0])
     with open(path, "w") as log:
         process = await asyncio.create_subprocess_exec(*command, stdout=log, stderr=log)
     server = Server(process, port, path)
@@ -110,8 +131,8 @@ async def stop(server, sign=signal.SIGTERM):
 
 
 @asynccontextmanager
-async def started(*words, program=BROKER):
-    server = await start(*words, program=program)
+async def started(*words, program=BROKER, users=None):
+    server = await start(*words, program=program, users=users)
     try:
         yield server
     finally:
@@ -1167,14 +1188,15 @@ async def says(*words):
 async def refused_memory(_):
     """Where memory is refused a connection ends, and the server goes on (tests/broker_short.c): once there is memory all is well,
     and each number has come free."""
-    async with started("--max-connections", "10", program=os.environ["SHORT_BROKER"]) as b:
+    async with started("--max-connections", "10", program=os.environ["SHORT_BROKER"], users={"short": "x"}) as b:
         in_a_row = tries = 0
         while in_a_row < 40:
             tries += 1
             assert tries < 2000, "clients are still refused"
             try:
                 one = b.client(f"short-{tries % 7}")
-                await one.connect(keep=1, properties=expiry(1), will=Will("short/will", b"gone", 1, delay=tries % 3))
+                await one.connect(
+                    keep=1, properties=expiry(1), will=Will("short/will", b"gone", 1, delay=tries % 3), login=("short", "x"))
                 await one.subscribe("short/+")
                 await one.publish(f"short/{tries % 7}", b"x", 1 + tries % 2)
                 in_a_row += 1
@@ -1187,7 +1209,107 @@ async def refused_memory(_):
         await b.says("ended: out of memory")
         await asyncio.sleep(3)
         for i in range(10):
-            await b.client(f"short-{i}").connect()
+            await b.client(f"short-{i}").connect(login=("short", "x"))
+
+
+LONG = "x" * 511
+USERS = {"ada": "first secret", "b\u00e9 b": "s\u00e9cond", "none": "", "long": LONG}
+
+
+@row()
+async def users(_):
+    """Who has the name and the password of a user may connect (3.1.3.5, 3.1.3.6), and nobody else: such a client is refused by its
+    ConnAck (3.2.2.2), and nothing that it sends behind its Connect is taken."""
+    async with started(users=USERS) as b:
+        sub = b.client("users-sub")
+        await sub.connect(login=("ada", USERS["ada"]))
+        await sub.subscribe("#")
+        wrong = [
+            (None, None), ("ada", None), ("ada", ""), ("ada", "first secre"), ("ada", "first secret "), ("ada", "FIRST SECRET"),
+            ("Ada", "first secret"), ("ad", "first secret"), ("", "first secret"), ("b\u00e9 b", "first secret"), ("eve", "x" * 60000),
+            ("x" * 65535, "first secret"), ("ada", hash_of("first secret")), ("# who may connect", "")]
+        # (without a user name a Connect of version 5 may have a password)
+        wrong += [(None, "first secret")] if IS_OURS else []
+        for login in wrong:
+            one = await b.client("users-one").dial()
+            one.send(connect_frame("users-one", login=login) + publish_frame("users", b"of nobody"))
+            await one.is_refused(0x86, 0x87)
+        # Nobody takes the session of another over by its identifier.
+        other = await b.client("users-sub").dial()
+        other.send(connect_frame("users-sub", login=("ada", "wrong")))
+        await other.is_refused(0x86, 0x87)
+        await sub.ping()
+        # In pieces of a byte, and with a publish behind it; the last password has no byte of ASCII alone.
+        for name in ("ada", "b\u00e9 b"):
+            one = await b.client("users-one").dial()
+            for byte in connect_frame("users-one", login=(name, USERS[name])) + publish_frame("users", name.encode()):
+                one.send(bytes([byte]))
+                await asyncio.sleep(0.001)
+            assert (await one.frame())[1][1] == 0
+            assert (await sub.take()).payload == name.encode()
+            await one.disconnect()
+        assert not sub.inbox
+
+
+@row(mosquitto=False)
+async def users_file(_):
+    """Which files of users are taken, and that with users it listens anywhere."""
+    async with started("--bind", "0.0.0.0", users=USERS) as b:
+        one = Client(b.port, "users-anywhere", "127.0.0.1")
+        await one.connect(login=("ada", USERS["ada"]))
+        await one.ping()
+        # An empty password is one as any other; whether a client says it or none can't be told apart.
+        for login in (("none", ""), ("none", None), ("long", LONG)):
+            other = b.client("users-other")
+            await other.connect(login=login)
+            await other.disconnect()
+        # One that is longer than libcrypt takes, or has a zero byte, is nobody's.
+        for login, code in ((("ada", "x"), 0x86), (("long", LONG + "y"), 0x86), (("none", "\0"), 0x86), ((None, "x"), 0x86), (("ada", None), 0x86),
+                            ((None, None), 0x87), (("", ""), 0x87), (("", None), 0x87)):
+            refused = await b.client("users-refused").dial()
+            refused.send(connect_frame("users-refused", login=login))
+            await refused.is_refused(code)
+        await b.says("Bad User Name or Password (0x86)")
+        await b.says("Not authorized (0x87)")
+    known = hash_of("x")
+    for lines, why in (
+            ("", "has no user"), ("# nobody\n", "has no user"), ("ada\n", "line 1 isn't NAME:HASH"), (f"\n:{known}\n", "line 2 isn't NAME:HASH"),
+            ("ada:\n", "line 1 has no hash"), ("ada:x\n", "line 1 has no hash"), ("ada:secret\n", "line 1 has no hash"),
+            (f"ada:{hash_of('longpassword', 'ab')}\n", "line 1 has no hash"), ("ada:$6$rounds=abc$x\n", "line 1 has no hash"),
+            ("ada:$2b$99$" + 53 * "a" + "\n", "line 1 has no hash"), (f"ada:{known}\r\n", "line 1 has no hash"), (f"a:b:{known}\n", "line 1 has no hash"),
+            (f"ada:{known}\nada:{known}\n", "line 2 has a name that another line has"), (f"a\0da:{known}\n", "line 1 has a zero byte")):
+        path = f"{FOLDER}/users-file"
+        with open(path, "w", newline="") as file:
+            file.write(lines)
+        status, _, told = await says("--users", path, "-p", "0")
+        assert status == 2 and why in told and told.count("\n") == 1, (lines, status, told)
+    for words in (("--users", f"{FOLDER}/no such file"), ("--users", FOLDER), ("--users",)):
+        assert (await says(*words))[0] == 2
+
+
+@row(mosquitto=False)
+async def users_wait(_):
+    """Judging names and passwords holds nobody up for long: each round has one of them at most, and who connects has its turn."""
+    slow = hash_of("x", "$6$rounds=100000$saltsalt")
+    path = f"{FOLDER}/users-wait"
+    with open(path, "w") as file:
+        file.write(f"slow:{slow}\nquick:{hash_of('y')}\n")
+    async with started("--users", path) as b:
+        one = b.client("users-wait")
+        await one.connect(login=("quick", "y"))
+
+        async def stranger():
+            other = await b.client("users-stranger").dial()
+            other.send(connect_frame("users-stranger", login=("slow", "wrong")))
+            await other.is_refused(0x86, within=40)
+
+        strangers = [asyncio.create_task(stranger()) for _ in range(40)]
+        pings = 0
+        while not all(task.done() for task in strangers):
+            await one.ping()
+            pings += 1
+        await asyncio.gather(*strangers)
+        assert pings >= 20, f"{pings} pings beside 40 judgements"
 
 
 @row(mosquitto=False)

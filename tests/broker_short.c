@@ -15,6 +15,12 @@ static bool is_refused(void) {
     }
 
 WRAP(receive, (mqtt5_broker *b, size_t c, const uint8_t *bytes, size_t len, uint64_t at), (b, c, bytes, len, at))
+WRAP(hold, (mqtt5_broker *b, size_t c, const uint8_t *bytes, size_t len), (b, c, bytes, len))
+WRAP(asks,
+    (mqtt5_broker *b, size_t c, uint32_t *asks, uint8_t *name, size_t name_len, size_t *name_count, uint8_t *password,
+     size_t password_len, size_t *password_count),
+    (b, c, asks, name, name_len, name_count, password, password_len, password_count))
+WRAP(reject, (mqtt5_broker *b, size_t c, bool named), (b, c, named))
 WRAP(pass, (mqtt5_broker *b, size_t c, bool *some), (b, c, some))
 WRAP(close, (mqtt5_broker *b, size_t c, uint64_t at), (b, c, at))
 WRAP(tick, (mqtt5_broker *b, uint64_t at), (b, at))

@@ -2,6 +2,11 @@
 -- answers.
 use Rattle.std.specs.Prelude.{◌≡◌, ◌⊎◌, ℕ, Bool, not, nat_lt, ◌&&◌, List, [], ◌++◌, length, min}
 use Rattle.std.specs.Prelude.{take, drop, replicate, Option, None, Some, IsSome, option_map}
+use Rattle.std.specs.Prelude.{if◌then◌else◌}
+use Rattle.mqtt5_control.specs.declared.connack.ConnectReturnCode.{ConnectReturnCode}
+use Rattle.mqtt5_control.specs.declared.connack.ConnectReturnCode.TheVariants as codes
+use Rattle.mqtt5_broker.specs.declared.asking.Asks.{Asks}
+use Rattle.mqtt5_broker.specs.declared.asking.Asks.TheVariants as asks
 use Rattle.mqtt5_broker.specs.Broker.{Broker, no_bounds}
 use Rattle.mqtt5_broker.specs.Connection.{closed, connection_at}
 use Rattle.mqtt5_broker_c.specs.Numbers.{done, no_broker, out_of_memory}
@@ -70,3 +75,28 @@ fresh connections longest ids wait = record {
   moment = 0;
   next_name = 0;
 }
+
+-- ---- who wants to connect
+
+-- the broker as it was
+abbrev pub unchanged : Broker → Broker
+unchanged b = b
+
+-- as a number
+abbrev pub asks_number : Asks → ℕ
+asks_number asks.Nobody = 0
+asks_number asks.Unnamed = 1
+asks_number (asks.Named login) = 2
+
+-- the name and the password, or nothing
+abbrev pub user_in : Asks → List ℕ
+user_in (asks.Named login) = login.username.bytes
+user_in other = []
+
+abbrev pub password_in : Asks → List ℕ
+password_in (asks.Named login) = login.password.bytes
+password_in other = []
+
+-- why one is turned away that said who it is, or didn't (3.2.2.2)
+abbrev pub code_for : Bool → ConnectReturnCode
+code_for named = if named then codes.BadUserNamePassword else codes.NotAuthorized
