@@ -115,7 +115,8 @@ pub fn sends_law()
     ensures again { (n : Network) (i : ℕ) (p q : Place)
         → slice_get n.places i ≡ Some p
         → (a m : Option ℕ) (will : Option Will)
-        → slice_get (happens_in n (record { client = i; what = events.Back a m will })).places i ≡ Some q
+        → slice_get (happens_in n
+        (record { client = i; what = events.Back a m will })).places i ≡ Some q
         → q.client.down ≡ sent_again i m (sessions_of n) }
     // Clients that aren't known yet change nothing of what is sent to one that is.
     ensures known { (s : Sessions) (limits : List ℕ) (i : ℕ) → i < length s.clients
