@@ -2,6 +2,7 @@
    isn't, it is only tested (tests/broker). One thread, poll and sockets that never block. docs/BROKER.md says how it is used. */
 #define _POSIX_C_SOURCE 200809L
 #include "broker_options.h"
+#include "broker_rights.h"
 #include "broker_users.h"
 #include "mqtt5_broker.h"
 
@@ -55,6 +56,7 @@ struct connection {
     uint32_t length, at;
     unsigned shift;
     int reason;
+    bool denied; /* whether a publish or a filter was */
 };
 
 static mqtt5_broker broker;
@@ -105,18 +107,28 @@ static const char *const reasons[] = {
     "Subscription Identifiers not supported", "Wildcard Subscriptions not supported",
 };
 
-/* Follows the frames that are sent (2.1), to know why a connection ends: the reason of a ConnAck is the second byte of its body
-   (3.2.2.2), and that of a Disconnect the first, or 0 where it has no body (3.14.2.1). */
+/* A byte of the body of a packet that is sent. The reason of a ConnAck is the second one (3.2.2.2), and that of a Disconnect the first
+   (3.14.2.1). That of a PubAck and a PubRec is the third (3.4.2, 3.5.2), and a SubAck, which has no properties here, has codes from the
+   fourth on (3.9.3). What is denied is logged once of each connection. */
+static void note(struct connection *k, uint8_t byte) {
+    unsigned kind = k->first >> 4, at = k->at;
+    if ((kind == 2 && at == 1) || (kind == 14 && at == 0)) k->reason = byte;
+    if (byte != 0x87 || k->denied || !(((kind == 4 || kind == 5) && at == 2) || (kind == 9 && at >= 3))) return;
+    k->denied = true;
+    say("%llu: denied: Not authorized (0x87)\n", (unsigned long long)k->number);
+}
+
+/* Follows the frames that are sent (2.1), to know why a connection ends, and what is denied. A Disconnect without a body has reason 0
+   (3.14.2.1). */
 static void follow(struct connection *k, const uint8_t *bytes, size_t len) {
     for (size_t i = 0; i < len;) {
-        if (k->part == BODY && k->at >= 2) {
+        if (k->part == BODY && k->at >= 2 && (k->denied || k->first >> 4 == 3)) {
             size_t rest = k->length - k->at, step = rest < len - i ? rest : len - i;
             k->at += (uint32_t)step;
             i += step;
         } else if (k->part == BODY) {
-            if ((k->first >> 4 == 2 && k->at == 1) || (k->first >> 4 == 14 && k->at == 0)) k->reason = bytes[i];
+            note(k, bytes[i++]);
             k->at++;
-            i++;
         } else if (k->part == LENGTH) {
             k->length |= (uint32_t)(bytes[i] & 127) << k->shift;
             k->shift += 7;
@@ -264,7 +276,7 @@ static uint32_t hand_in(size_t c, size_t len) {
     static uint8_t name[65535], password[65535]; /* (as long as one can be: 1.5.4) */
     enum judgement judgement = UNKNOWN;
     uint32_t asks = 0, done;
-    size_t name_len = 0, password_len = 0;
+    size_t name_len = 0, password_len = 0, user = 0;
     if (!options.users || connections[c].is_client) return mqtt5_broker_receive(&broker, c, in, len, now);
     done = mqtt5_broker_hold(&broker, c, in, len);
     if (done == MQTT5_BROKER_DONE)
@@ -272,13 +284,14 @@ static uint32_t hand_in(size_t c, size_t len) {
             &broker, c, &asks, name, sizeof name, &name_len, password, sizeof password, &password_len);
     if (done != MQTT5_BROKER_DONE) return done;
     if (asks == MQTT5_BROKER_NAMED) {
-        judgement = users_judge(name, name_len, password, password_len);
+        judgement = users_judge(name, name_len, password, password_len, &user);
         judged = true;
         first = c + 1;
         now = moment();
     }
     if (judgement == NO_MEMORY) return MQTT5_BROKER_OUT_OF_MEMORY;
     if (asks != MQTT5_BROKER_NOBODY && judgement != KNOWN) return mqtt5_broker_reject(&broker, c, asks == MQTT5_BROKER_NAMED);
+    if (judgement == KNOWN) mqtt5_broker_identify(&broker, c, user);
     return mqtt5_broker_receive(&broker, c, in, 0, now);
 }
 
@@ -533,6 +546,7 @@ int main(int argc, char **argv) {
     }
     mqtt5_broker_bound(
         &broker, options.clients, options.subscriptions, options.retained, options.queued, options.queued_bytes);
+    if (options.users) rights_read(&broker, options.rights);
     catch_signals();
     listen_there();
     now = moment();

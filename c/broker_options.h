@@ -8,7 +8,7 @@
 struct options {
     unsigned long port, most, longest, ids, wait_for; /* most connections, the longest packet, messages in flight, and seconds */
     unsigned long clients, subscriptions, retained, queued, queued_bytes;
-    const char *bound, *users; /* an address, and a file or NULL */
+    const char *bound, *users, *rights; /* an address, and files or NULL */
     bool quiet;
 };
 extern struct options options;

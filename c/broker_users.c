@@ -1,6 +1,7 @@
 /* Who may connect. The hashes are judged by libcrypt alone. */
 #define _GNU_SOURCE
 #include "broker_users.h"
+#include "broker_lines.h"
 #include "broker_options.h"
 
 #include <crypt.h>
@@ -20,14 +21,9 @@ static struct crypt_data room;
 /* The methods that take every byte of a password, and a salt: yescrypt, scrypt, bcrypt, and SHA-512 and SHA-256 in rounds. */
 static const char *const methods[] = {"$y$", "$gy$", "$7$", "$2b$", "$2y$", "$6$", "$5$"};
 
-static _Noreturn void fail_at(const char *file, size_t line, const char *why) {
-    char words[120];
-    snprintf(words, sizeof words, "line %zu %s", line, why);
-    refuse(file, words);
-}
+const char *users_name(size_t user) { return user < count ? users[user].name : NULL; }
 
-/* The number of the user of a name, or the count where there is none. */
-static size_t find(const uint8_t *name, size_t len) {
+size_t users_find(const uint8_t *name, size_t len) {
     size_t i = 0;
     while (i < count && (strlen(users[i].name) != len || memcmp(users[i].name, name, len))) i++;
     return i;
@@ -46,15 +42,15 @@ static const char *hashed(const char *password, const char *hash) {
     return made && *made != '*' && strlen(made) == strlen(hash) ? made : NULL;
 }
 
-static void read_line(const char *file, size_t at, char *line) {
+static void read_line(char *line) {
     static double longest;
     struct timespec from, to;
     char *colon = strchr(line, ':');
-    if (!colon || colon == line) fail_at(file, at, "isn't NAME:HASH");
+    if (!colon || colon == line) refuse_line("isn't NAME:HASH");
     *colon = 0;
-    if (find((const uint8_t *)line, strlen(line)) < count) fail_at(file, at, "has a name that another line has");
+    if (users_find((const uint8_t *)line, strlen(line)) < count) refuse_line("has a name that another line has");
     clock_gettime(CLOCK_MONOTONIC, &from);
-    if (!is_method(colon + 1) || !hashed("", colon + 1)) fail_at(file, at, "has no hash of a method that is taken");
+    if (!is_method(colon + 1) || !hashed("", colon + 1)) refuse_line("has no hash of a method that is taken");
     clock_gettime(CLOCK_MONOTONIC, &to);
     double took = (double)(to.tv_sec - from.tv_sec) + (double)(to.tv_nsec - from.tv_nsec) / 1e9;
     if (took > longest) {
@@ -63,30 +59,19 @@ static void read_line(const char *file, size_t at, char *line) {
     }
     users = realloc(users, (count + 1) * sizeof *users);
     if (users) users[count] = (struct user){strdup(line), strdup(colon + 1)};
-    if (!users || !users[count].name || !users[count].hash) refuse(file, strerror(ENOMEM));
+    if (!users || !users[count].name || !users[count].hash) refuse("--users", strerror(ENOMEM));
     count++;
 }
 
 void users_read(const char *file) {
-    FILE *from = fopen(file, "r");
-    char *line = NULL;
-    size_t size = 0;
-    ssize_t len;
-    if (!from) refuse(file, strerror(errno));
-    for (size_t at = 1; errno = 0, (len = getline(&line, &size, from)) >= 0; at++) {
-        if (len > 0 && line[len - 1] == '\n') line[--len] = 0;
-        if (strlen(line) != (size_t)len) fail_at(file, at, "has a zero byte");
-        if (len > 0 && line[0] != '#') read_line(file, at, line);
-    }
-    if (errno || ferror(from)) refuse(file, strerror(errno));
-    free(line);
-    fclose(from);
+    each_line(file, read_line);
     if (count == 0) refuse(file, "has no user");
 }
 
-enum judgement users_judge(const uint8_t *name, size_t name_len, const uint8_t *password, size_t password_len) {
+enum judgement users_judge(
+    const uint8_t *name, size_t name_len, const uint8_t *password, size_t password_len, size_t *number) {
     char words[CRYPT_MAX_PASSPHRASE_SIZE];
-    size_t user = find(name, name_len), len = password_len < sizeof words ? password_len : sizeof words - 1;
+    size_t user = users_find(name, name_len), len = password_len < sizeof words ? password_len : sizeof words - 1;
     const char *hash = users[user < count ? user : dearest].hash, *made;
     memcpy(words, password, len);
     words[len] = 0;
@@ -97,5 +82,6 @@ enum judgement users_judge(const uint8_t *name, size_t name_len, const uint8_t *
     if (!made) return NO_MEMORY;
     unsigned differs = 0;
     for (size_t i = 0; hash[i]; i++) differs |= (unsigned char)(made[i] ^ hash[i]);
+    *number = user;
     return user < count && is_whole && differs == 0 ? KNOWN : UNKNOWN;
 }

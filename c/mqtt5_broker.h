@@ -19,7 +19,7 @@ enum {
     MQTT5_BROKER_OUT_OF_MEMORY = 12,
     /* The handle has no broker. */
     MQTT5_BROKER_NONE = 200,
-    /* mqtt5_broker_new with `ids` 0, which makes no broker. */
+    /* An argument isn't taken, and nothing changes: `ids` 0, a filter that is none, a user that there isn't. */
     MQTT5_BROKER_BAD_ARGUMENT = 201,
     /* mqtt5_broker_new of a handle that has a broker, which stays. */
     MQTT5_BROKER_THERE = 202
@@ -68,6 +68,22 @@ enum { MQTT5_BROKER_NOBODY = 0, MQTT5_BROKER_UNNAMED = 1, MQTT5_BROKER_NAMED = 2
 uint32_t mqtt5_broker_asks(
     mqtt5_broker *b, size_t connection, uint32_t *asks, uint8_t *name, size_t name_len, size_t *name_count,
     uint8_t *password, size_t password_len, size_t *password_count);
+
+/* Users. There is none at first. One more: `user` tells its number, counted from 0. It may neither publish nor subscribe to
+   anything yet. Where memory is refused all is as before. */
+uint32_t mqtt5_broker_add_user(mqtt5_broker *b, size_t *user);
+
+/* What a user may do, from now on: publish to the topics that this topic filter matches; or subscribe to the filters that lie
+   within this one, as a/+ and a/b do within a/#. A filter, or a topic, that begins with $ lies within none. Where memory is
+   refused all is as before. */
+uint32_t mqtt5_broker_allow_publish(mqtt5_broker *b, size_t user, const uint8_t *filter, size_t filter_len);
+uint32_t mqtt5_broker_allow_subscribe(mqtt5_broker *b, size_t user, const uint8_t *filter, size_t filter_len);
+
+/* The client of a connection that isn't connected yet will connect as this user. What it may not do is answered with Not authorized
+   (0x87), its Connect where its will is of that; a publish of QoS 0 is dropped. And it has sessions of that user alone: by the
+   identifier of another's it is refused with Client Identifier not valid (0x85). Clients that connect as no user may do
+   everything, but with sessions of no user. */
+uint32_t mqtt5_broker_identify(mqtt5_broker *b, size_t connection, size_t user);
 
 /* Turns a client away that isn't connected yet, with Bad User Name or Password (0x86) where `named` is true, and else with Not
    authorized (0x87). Nothing more of its connection is taken. It is for one of whom mqtt5_broker_asks tells UNNAMED or NAMED:

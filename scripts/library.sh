@@ -141,7 +141,7 @@ is_server() {
     while [ $# -gt 0 ]; do
         case $1 in
             -q | --quiet) ;;
-            -p | --port | --bind | --users | --wait | --max-connections | --max-packet-size | --max-inflight | --max-sessions | \
+            -p | --port | --bind | --users | --acl-file | --wait | --max-connections | --max-packet-size | --max-inflight | --max-sessions | \
                 --max-subscriptions | --max-retained | --max-queued-messages | --max-queued-bytes)
                 [ $# -gt 1 ] || return
                 shift

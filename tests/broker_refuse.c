@@ -58,6 +58,9 @@ static int failures;
 #define CONNECT_E "\x10\x19\0\x04MQTT\x05\xc2\0\0\0\0\x01" "e" "\0\x03" "eve" "\0\x04" "pass"
 #define SUBSCRIBE "\x82\x07\0\x01\0\0\x01" "a" "\x01"
 #define SUBSCRIBE_TO_WILLS "\x82\x07\0\x01\0\0\x01" "w" "\0"
+#define SUBSCRIBE_TO_BOTH "\x82\x0b\0\x01\0\0\x01" "a" "\x01\0\x01" "b" "\x01"
+#define SUBACK_OF_1_AND_DENIED "\x90\x05\0\x01\0\x01\x87"
+#define PUBLISH_TO_B "\x32\x07\0\x01" "b" "\0\x09\0" "x"
 #define SUBACK_OF_1 "\x90\x04\0\x01\0\x01"
 #define SUBACK_OF_0 "\x90\x04\0\x01\0\0"
 #define PUBLISH_OF_P "\x32\x07\0\x01" "a" "\0\x09\0" "x"
@@ -136,6 +139,39 @@ static void turned_away(mqtt5_broker *b, size_t connection, told *t) {
     EXPECT(begun, true);
 }
 
+/* eve connects as a user, who may publish to a, and subscribe within a/#: of what goes beyond that each filter, and the publish, is
+   answered with 0x87 (3.4.2.1, 3.9.3). Then her connection ends, and her session with it. */
+static void as_user(mqtt5_broker *b, size_t connection, told *t) {
+    uint8_t out[64];
+    size_t user = 9, other = 9, count = 0, at;
+    bool begun = false;
+    int before = t->refusals;
+    TWICE(mqtt5_broker_add_user(b, &user));
+    TWICE(mqtt5_broker_add_user(b, &other));
+    EXPECT(user == 0 && other == 1, true);
+    EXPECT(mqtt5_broker_allow_publish(b, 2, BYTES("a")), MQTT5_BROKER_BAD_ARGUMENT);
+    EXPECT(mqtt5_broker_allow_publish(b, user, BYTES("a/#/b")), MQTT5_BROKER_BAD_ARGUMENT);
+    EXPECT(mqtt5_broker_allow_subscribe(b, user, BYTES("\xff")), MQTT5_BROKER_BAD_ARGUMENT);
+    EXPECT(mqtt5_broker_allow_subscribe(b, user, NULL, 0), MQTT5_BROKER_BAD_ARGUMENT);
+    TWICE(mqtt5_broker_allow_publish(b, user, BYTES("a")));
+    TWICE(mqtt5_broker_allow_subscribe(b, user, BYTES("a/#")));
+    EXPECT(mqtt5_broker_identify(b, connection, user), MQTT5_BROKER_DONE);
+    comes(b, connection, BYTES(CONNECT_E), 0, t);
+    comes(b, connection, BYTES(SUBSCRIBE_TO_BOTH), 0, t);
+    comes(b, connection, BYTES(PUBLISH_TO_B), 0, t);
+    EXPECT(mqtt5_broker_output(b, connection, out, sizeof out, &count), MQTT5_BROKER_DONE);
+    if (t->refusals == before) {
+        EXPECT(count > 4 && out[0] == 0x20 && out[3] == 0, true);
+        at = 2 + (size_t)out[1];
+        EXPECT(count >= at + 12 && !memcmp(out + at, SUBACK_OF_1_AND_DENIED, 7), true);
+        at += 7;
+        EXPECT(out[at] == 0x40 && !memcmp(out + at + 2, "\0\x09\x87", 3) && count == at + 2 + out[at + 1], true);
+    }
+    TWICE(mqtt5_broker_close(b, connection, 0));
+    EXPECT(mqtt5_broker_open(b, connection, 0, &begun), MQTT5_BROKER_DONE);
+    EXPECT(begun, true);
+}
+
 static void passes(mqtt5_broker *b, size_t connection, bool *some, told *t) {
     uint32_t code = mqtt5_broker_pass(b, connection, some);
     if (code == MQTT5_BROKER_OUT_OF_MEMORY) lose(b, connection, t);
@@ -179,6 +215,7 @@ static void plays(mqtt5_broker *b, told *t) {
     int before;
     begins(b, t);
     turned_away(b, 2, t);
+    as_user(b, 2, t);
     comes(b, 0, BYTES(CONNECT_S), 1, t);
     comes(b, 1, BYTES(CONNECT_P), 2, t);
     comes(b, 0, BYTES(SUBSCRIBE), 3, t);

@@ -93,18 +93,23 @@ def write_users(path, users):
     return [f"allow_anonymous false\npassword_file {path}\n"]
 
 
-async def start(*words, program=BROKER, users=None):
-    """Starts a broker: words are this server's own."""
+async def start(*words, program=BROKER, users=None, rights=None):
+    """Starts a broker: words are this server's own. What users may do is a file in the form that both brokers take."""
     global COUNT
     COUNT += 1
     path = f"{FOLDER}/log.{COUNT}"
     who = write_users(f"{FOLDER}/users.{COUNT}", users) if users else [] if IS_OURS else ["allow_anonymous true\n"]
+    if rights is not None:
+        with open(f"{FOLDER}/rights.{COUNT}", "w", encoding="utf-8") as file:
+            file.write(rights)
+        os.chmod(file.name, 0o644)
+        who += ["--acl-file", file.name] if IS_OURS else [f"acl_file {file.name}\n"]
     port, command, is_up = 0, [program, "-p", "0", *words, *who], "listening on "
     if not IS_OURS:
         port, command, is_up = free_port(), ["mosquitto", "-v", "-c", f"{FOLDER}/conf.{COUNT}"], " running\n"
         with open(command[-1], "w") as conf:
             conf.write(f"listener {port} 127.0.0.1\nmax_queued_messages 0\nmax_inflight_messages 1000\n"
-                       f"max_packet_size {LONGEST}\n" + who[0])
+                       f"max_packet_size {LONGEST}\n" + "".join(who))
     with open(path, "w") as log:
         process = await asyncio.create_subprocess_exec(*command, stdout=log, stderr=log)
     server = Server(process, port, path)
@@ -131,8 +136,8 @@ async def stop(server, sign=signal.SIGTERM):
 
 
 @asynccontextmanager
-async def started(*words, program=BROKER, users=None):
-    server = await start(*words, program=program, users=users)
+async def started(*words, program=BROKER, users=None, rights=None):
+    server = await start(*words, program=program, users=users, rights=rights)
     try:
         yield server
     finally:
@@ -1287,6 +1292,164 @@ async def users_file(_):
         assert (await says(*words))[0] == 2
 
 
+RIGHTS = """# what each may do
+user ada
+topic readwrite ada/#
+topic read news/+
+topic write inbox/bé b
+
+user bé b
+topic inbox/bé b
+topic write  news/a b
+
+pattern readwrite of/%u/#
+pattern read all
+"""
+ADA, BE = dict(login=("ada", USERS["ada"])), dict(login=("bé b", USERS["bé b"]))
+
+
+@row()
+async def rights(_):
+    """A user publishes within its filters alone: else QoS 1 and 2 are answered with Not authorized, QoS 0 is dropped, and nothing is
+    retained (3.3.1.3, 3.4.2.1, 3.5.2.1). It is sent what lies within them alone."""
+    async with started(users=USERS, rights=RIGHTS) as b:
+        ada, be = b.client("rights-ada"), b.client("rights-be")
+        await ada.connect(**ADA)
+        await be.connect(**BE)
+        # (mosquitto grants each subscription, and looks at each message)
+        if IS_OURS:
+            assert await ada.subscribe("#") == [0x87]
+            assert await ada.unsubscribe("#") == [0x11]
+        else:
+            await ada.subscribe("inbox/+")
+        await ada.subscribe("ada/#", "news/+", "of/ada/#", "all")
+        await be.subscribe("inbox/bé b", "of/bé b/x")
+        for topic, is_allowed in (
+                ("news/a b", True), ("news/a", False), ("news", False), ("inbox/bé b", True), ("inbox/be b", False), ("of/bé b/x", True),
+                ("of/bé b", True), ("of/ada/x", False), ("of", False), ("all", False), ("ada/x", False), ("other", False)):
+            for qos in (0, 1, 2):
+                code = await be.publish(topic, f"{topic} {qos}".encode(), qos, retain=1)
+                assert (code < 128) if is_allowed or qos == 0 else (code == 0x87), (topic, qos, code)
+        # Its own messages come to it, and what it may not publish to nobody.
+        wanted = [f"{topic} {qos}" for topic in ("inbox/bé b", "of/bé b/x") for qos in (0, 1, 2)]
+        assert sorted([(await be.take()).payload.decode() for _ in wanted]) == sorted(wanted)
+        assert sorted(await ada.payloads(3)) == [f"news/a b {qos}".encode() for qos in (0, 1, 2)]
+        # Of the retained ones a new subscription brings what it may subscribe to.
+        await ada.publish("ada/own", b"own", 1, retain=1)
+        assert (await ada.take()).payload == b"own"
+        late = b.client("rights-late")
+        await late.connect(**ADA)
+        for topic_filter in ("news/+", "of/ada/+", "ada/+", "#"):
+            await late.subscribe(topic_filter)
+        assert sorted(set(await late.payloads(2))) == [b"news/a b 2", b"own"]
+        await ada.ping()
+        await be.ping()
+        assert not ada.inbox and not be.inbox
+
+
+@row(mosquitto=False)
+async def rights_subscribe(_):
+    """Each filter of a Subscribe is granted where all that it matches lies within those of the user, and else denied, by itself
+    (3.9.3); a will beyond them refuses the Connect (3.2.2.2)."""
+    async with started(users=USERS, rights=RIGHTS) as b:
+        ada = b.client("rights-subscribe")
+        await ada.connect(**ADA)
+        for topic_filter, code in (
+                ("ada/#", 2), ("ada", 2), ("ada/+/x", 2), ("ada/+", 2), ("ada/x/#", 2), ("news/+", 2), ("news/x", 2), ("news/#", 0x87), ("news", 0x87),
+                ("news/x/y", 0x87), ("+/x", 0x87), ("+", 0x87), ("#", 0x87), ("adas/x", 0x87), ("inbox/bé b", 0x87), ("of/ada", 2),
+                ("of/ada/#", 2), ("of/+", 0x87), ("of/bé b", 0x87), ("all", 2), ("$SYS/#", 0x87), ("Ada", 0x87)):
+            assert await ada.subscribe(topic_filter) == [code], topic_filter
+        many = await ada.subscribe(("news/a b", 0), ("news/#", 1), ("all", 1), ("#", 0), ("+/+", 2), ("ada/x", 2))
+        assert many == [0, 0x87, 1, 0x87, 0x87, 2]
+        await b.says("denied: Not authorized (0x87)")
+        # Those that are denied bring nothing, and take nothing of what was granted away.
+        be = b.client("rights-subscribe-be")
+        await be.connect(**BE)
+        assert await be.publish("news/a b", b"x", 2) == 0
+        assert (await ada.take()).qos == 2
+        assert await be.publish("inbox/bé b", b"y", 2) in (0, 0x10)
+        await ada.ping()
+        assert not ada.inbox
+        # (a fault of a filter ends the connection all the same)
+        ada.send(subscribe_frame(9, [("news/#", 0), ("ada+", 0)]))
+        await ada.ends_by(0x8F)
+        for topic, is_allowed in (("ada/gone", True), ("news/a b", False), ("all", False)):
+            one = await b.client("rights-will").dial()
+            one.send(connect_frame("rights-will", will=Will(topic, b"gone"), **ADA))
+            if is_allowed:
+                assert (await one.frame())[1][1] == 0
+                one.cut()
+            else:
+                await one.is_refused(0x87)
+        # One without a line may do nothing, and one for whom a pattern doesn't stand as much as the other lines say.
+        none = b.client("rights-none")
+        await none.connect(login=("none", ""))
+        assert await none.subscribe("all", "of/none/x", "ada/x") == [2, 2, 0x87]
+        assert await none.publish("ada/x", b"", 1) == 0x87
+
+
+@row(mosquitto=False)
+async def rights_sessions(_):
+    """A session is of the user who began it: another is refused by its identifier (3.1.4, 3.2.2.2), and takes nothing over, until
+    the session has ended."""
+    async with started(users=USERS) as b:
+        ada = b.client("rights-session")
+        assert not await ada.connect(clean=False, properties=expiry(100), **ADA)
+        await ada.subscribe("rights-session/#")
+        for words in (dict(clean=False), dict(clean=True)):
+            be = await b.client("rights-session").dial()
+            be.send(connect_frame("rights-session", **words, **BE))
+            await be.is_refused(0x85)
+        await b.says("Client Identifier not valid (0x85)")
+        await ada.ping()
+        ada.cut()
+        other = b.client("rights-session-other")
+        await other.connect(**BE)
+        assert await other.publish("rights-session/x", b"waits", 1) == 0
+        be = await b.client("rights-session").dial()
+        be.send(connect_frame("rights-session", **BE))
+        await be.is_refused(0x85)
+        assert await ada.connect(clean=False, properties=expiry(0), **ADA)
+        assert (await ada.take()).payload == b"waits"
+        await ada.disconnect()
+        be = b.client("rights-session")
+        assert not await be.connect(**BE)
+        # One that is given its identifier has a session as any other.
+        given = b.client("")
+        await given.connect(properties=expiry(100), **ADA)
+        name = given.connack[0x12].decode()
+        given.cut()
+        taker = await b.client(name).dial()
+        taker.send(connect_frame(name, **BE))
+        await taker.is_refused(0x85)
+        assert await b.client(name).connect(clean=False, **ADA)
+
+
+@row(mosquitto=False)
+async def rights_file(_):
+    """Which files of rights are taken."""
+    path, who = f"{FOLDER}/rights-file", write_users(f"{FOLDER}/rights-file-users", {"ada": "x", "b/b": "x"})
+    for lines, why in (
+            ("topic a\n", "line 1 stands before the first user"), ("user eve\n", "line 1 names a user that --users hasn't"),
+            ("\nuser ada\ntopic a/#/b\n", "line 3 has no topic filter"), ("user ada\ntopic read \n", "line 2 ends with white space"),
+            ("user ada\ntopic deny a\n", "line 2 has deny"), ("pattern of/%c\n", "line 1 has %c"), ("pattern of/x%u\n", "line 1 has %u within"),
+            ("pattern of/%ux\n", "line 1 has %u within"), ("user ada\ntopics a\n", "line 2 isn't user"), ("user\n", "line 1 isn't user"),
+            ("user ada\ntopic \xff\n", "line 2 has no topic filter"), ("user ada\r\n", "line 1 ends with white space"), ("a\0\n", "line 1 has a zero byte")):
+        with open(path, "w", newline="", encoding="latin-1") as file:
+            file.write(lines)
+        status, _, told = await says(*who, "--acl-file", path, "-p", "0")
+        assert status == 2 and why in told and told.count("\n") == 1, (lines, status, told)
+    for words in ((*who, "--acl-file", f"{FOLDER}/no such file"), (*who, "--acl-file"), ("--acl-file", path)):
+        assert (await says(*words))[0] == 2
+    # A name that isn't part of a level has nothing of a pattern with it.
+    async with started(users={"ada": "x", "b/b": "x"}, rights="pattern of/%u/#\npattern read both\n") as b:
+        for login, codes in ((("ada", "x"), [2, 2, 0x87]), (("b/b", "x"), [0x87, 2, 0x87])):
+            one = b.client("rights-file")
+            await one.connect(login=login)
+            assert await one.subscribe(f"of/{login[0]}/x", "both", "of/x") == codes
+            await one.disconnect()
+
+
 @row(mosquitto=False)
 async def users_wait(_):
     """Judging names and passwords holds nobody up for long: each round has one of them at most, and who connects has its turn."""
@@ -1318,7 +1481,7 @@ async def options(b):
     assert (await says("--help"))[:2][0] == 0
     for words in ("--bind 0.0.0.0", "--bind 192.168.0.1", "--bind ::", "--bind example.org", "--bind", "--port 70000", "-p", "-p 1x", "--nothing 1",
                   "--max-connections 0", "--max-inflight 65536", "--max-packet-size 268435456", "--max-sessions 0",
-                  "--max-queued-bytes 18446744073709551616", "--wait -1"):
+                  "--max-queued-bytes 18446744073709551616", "--wait -1", "--acl-file x"):
         status, _, told = await says(*words.split())
         assert status == 2 and told.count("\n") == 1, (words, status, told)
     assert "only addresses of this machine" in (await says("--bind", "0.0.0.0"))[2]

@@ -1,6 +1,7 @@
 -- What a broker makes of bytes is a list of acts.
 use Rattle.std.proofs.Common.{◌≡◌, ℕ, zero, suc, Bool, true, false, List, [], ◌∷◌, ◌++◌, Option, Some, None, refl, sym, ap, ◌∙◌, get_or, set, slice_set, if◌then◌else◌, not, length, ◌==◌, max}
 use Rattle.std.specs.Prelude.{option_map}
+use Rattle.std.specs.Option.{option_to_list}
 use Rattle.std.proofs.lemmas.List.{set-get_or}
 use Rattle.mqtt5_codec.specs.declared.packet.Packet.{Packet}
 use Rattle.mqtt5_codec.specs.declared.packet.Packet.TheVariants as packets
@@ -18,11 +19,11 @@ use Rattle.mqtt5_broker.specs.declared.serving.Kind.TheVariants as kinds
 use Rattle.mqtt5_broker.specs.Moments.{has_come}
 use Rattle.mqtt5_broker.specs.Cut.{Cut, Ending, Holds, Breaks, cut_up}
 use Rattle.mqtt5_broker.specs.Connection.{Connection, closed, shut, disconnect, taken_by, written, written_all, emptied, connection_at, connection_of}
-use Rattle.mqtt5_broker.specs.Broker.{Broker, at_moment, on_connection, on_member, away, gone, expiring, undue, member_at, has_ended, will_is_due, forgets, loses_client, leaves_client, publishes_will, stays_at, refuses, dismisses, dismisses_of, numbers, number_in, free_number, number_of, assigned_name, number_after}
+use Rattle.mqtt5_broker.specs.Broker.{Broker, at_moment, on_connection, on_member, away, gone, expiring, undue, member_at, has_ended, will_is_due, forgets, loses_client, leaves_client, publishes_will, stays_at, refuses, dismisses, dismisses_of, numbers, number_in, free_number, number_of, assigned_name, number_after, user_at, owner_at}
 use Rattle.mqtt5_broker.specs.Wills.{will_of}
-use Rattle.mqtt5_broker.specs.Judging.{connect_fault}
+use Rattle.mqtt5_broker.specs.Rights.{may_do, denial, suback_for, part_of}
 use Rattle.mqtt5_sessions.specs.Counts.{counts}
-use Rattle.mqtt5_broker.specs.Serving.{kind_of, arrives_from, goes, disconnects, serves_as, serves_by, fault_of, serves, refusal, receive_max_of, longest_of, silence_of, member_of, welcome, comes_in, displaced, displaces, starts_anew, begins, enters, turns_away, enters_if_room, assigns_by, assigns, admits_as, admits, connects_by, connects, begins_with, takes_of, takes, passes_of, passes_on}
+use Rattle.mqtt5_broker.specs.Serving.{kind_of, arrives_from, denies, brings, goes, disconnects, serves_as, serves_by, fault_of, serves, refusal, receive_max_of, longest_of, silence_of, member_of, welcome, comes_in, displaced, displaces, starts_anew, begins, enters, turns_away, enters_if_room, assigns_by, assigns, is_its, admits_as, admits, entry_fault, connects_by, connects, begins_with, takes_of, takes, passes_of, passes_on}
 use Rattle.mqtt5_broker.specs.Receiving.{takes_all, reason_for, ends_with, comes_of, receives_now, receives}
 use Rattle.mqtt5_broker.specs.Bounds.{has_room, exceeds, ends_of, trims, trims_all}
 use Rattle.mqtt5_broker.specs.Clock.{for_each, silences, silences_all, expires, ticks, ends_now, shuts_down}
@@ -113,6 +114,16 @@ arrives_made : (d i : ℕ) (x : Packet) (b : Broker) → Made b (arrives_from d 
 unfolding arrives_from
 arrives_made d i x b = made_more b (act (Session (Arrives i x)) b) _ (made_one (Session (Arrives i x)) b) (all_made (replies i x b.sessions) d (act (Session (Arrives i x)) b))
 
+denies_made : (user : Option ℕ) (d i : ℕ) (x : Packet) (b : Broker) → Made b (denies user d i x b)
+unfolding denies
+denies_made user d i (packets.Publish p) b = all_made (option_to_list (denial p.qos p.pkid)) d b
+denies_made user d i (packets.Subscribe p) b = (Session (Arrives i (packets.Subscribe (part_of user b.rights p))) ∷ Write d (suback_for user b.rights p) ∷ [], refl)
+denies_made user d i other b = made_none b
+
+brings_made : (d i : ℕ) (x : Packet) (b : Broker) → Made b (brings d i x b)
+unfolding brings
+brings_made d i x b = made_if (may_do (owner_at i b.members) b.rights x) b _ _ (arrives_made d i x b) (denies_made (owner_at i b.members) d i x b)
+
 goes_made : (reason : DisconnectReasonCode) (i : ℕ) (b : Broker) → Made b (goes reason i b)
 goes_made reasons.NormalDisconnection i b = leaves_made i b
 goes_made other i b = loses_made i b
@@ -126,7 +137,7 @@ disconnects_made d i reason expiry b =
 as_made : (kind : Kind) (d i : ℕ) (x : Packet) (b : Broker) → Made b (serves_as kind d i x b)
 as_made kinds.Ping d i x b = made_one (Write d (packets.PingResp (record {}))) b
 as_made (kinds.Goodbye reason expiry) d i x b = disconnects_made d i reason expiry b
-as_made kinds.Message d i x b = arrives_made d i x b
+as_made kinds.Message d i x b = brings_made d i x b
 
 by_made : (fault : Option DisconnectReasonCode) (d i : ℕ) (x : Packet) (b : Broker) → Made b (serves_by fault d i x b)
 by_made (Some reason) d i x b = refuses_made d i reason b
@@ -162,7 +173,7 @@ begins_by false i ms b = (Know ms ∷ [], refl)
 
 begins_made : (i : ℕ) (anew : Bool) (q : Connect) (will : Option LastWill) (b : Broker) → Made b (begins i anew q will b)
 unfolding begins
-begins_made i anew q will b = begins_by anew i (slice_set b.members i (Some (member_of q will))) b
+begins_made i anew q will b = begins_by anew i (slice_set b.members i (Some (member_of (owner_at i b.members) q will))) b
 
 numbers_made : (m : Member) (o : Option ℕ) (b : Broker) → Made b (numbers m o b)
 numbers_made m None b = (Session (Joins b.limit) ∷ Know (b.members ++ Some m ∷ []) ∷ [], refl)
@@ -171,8 +182,8 @@ numbers_made m (Some i) b = made_one (Know (slice_set b.members i (Some m))) b
 enters_made : (d : ℕ) (given : Bool) (q : Connect) (will : Option LastWill) (b : Broker) → Made b (enters d given q will b)
 unfolding enters
 enters_made d given q will b =
-    let known : Broker = numbers (member_of q will) (free_number b.members) b in
-    made_more b known _ (numbers_made (member_of q will) (free_number b.members) b) (comes_made d (number_in (free_number b.members) b) false given q will known)
+    let known : Broker = numbers (member_of (user_at d b) q will) (free_number b.members) b in
+    made_more b known _ (numbers_made (member_of (user_at d b) q will) (free_number b.members) b) (comes_made d (number_in (free_number b.members) b) false given q will known)
 
 turns_made : (d : ℕ) (code : ConnectReturnCode) (b : Broker) → Made b (turns_away d code b)
 turns_made d code b = shut_made (refusal code) d b
@@ -196,7 +207,7 @@ returns_made d i anew q will b =
     (comes_made d i (not anew) false q will (begins i anew q will (displaces i b)))
 
 admits_as_made : (o : Option ℕ) (d : ℕ) (q : Connect) (will : Option LastWill) (b : Broker) → Made b (admits_as o d q will b)
-admits_as_made (Some i) d q will b = returns_made d i (starts_anew i q b) q will b
+admits_as_made (Some i) d q will b = made_if (is_its d i b) b _ _ (returns_made d i (starts_anew i q b) q will b) (turns_made d return_codes.ClientIdentifierNotValid b)
 admits_as_made None d q will b = room_made d false q will b
 
 admits_made : (d : ℕ) (q : Connect) (will : Option LastWill) (b : Broker) → Made b (admits d q will b)
@@ -209,7 +220,7 @@ connects_by_made None d q will b = admits_made d q will b
 
 connects_made : (d : ℕ) (q : Connect) (will : Option LastWill) (b : Broker) → Made b (connects d q will b)
 unfolding connects
-connects_made d q will b = connects_by_made (connect_fault q will) d q will b
+connects_made d q will b = connects_by_made (entry_fault d q will b) d q will b
 
 -- ---- any packet, and bytes
 

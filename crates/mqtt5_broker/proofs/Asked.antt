@@ -15,12 +15,12 @@ use Rattle.mqtt5_codec.specs.Codecs.{Decodes}
 use Rattle.mqtt5_codec.specs.Laws.{IsFrames}
 use Rattle.mqtt5_broker.specs.declared.asking.Asks.TheVariants as asks
 use Rattle.mqtt5_broker.specs.Cut.{Cut, Ending, Holds, Breaks, with_packet, on_frame, cut_up}
-use Rattle.mqtt5_broker.specs.Connection.{Connection, closed, shut, heard, emptied, holding, connection_at, with_connection}
+use Rattle.mqtt5_broker.specs.Connection.{Connection, closed, shut, heard, of_user, emptied, holding, connection_at, with_connection}
 use Rattle.mqtt5_broker.specs.Broker.{Broker, at_moment, on_connection, dismisses, dismisses_of}
 use Rattle.mqtt5_broker.specs.Serving.{begins_with, takes_of, takes}
 use Rattle.mqtt5_broker.specs.Receiving.{reason_for, ends_with, comes_of, receives_now, receives}
 use Rattle.mqtt5_broker.specs.Standing.{IsStanding, client_at}
-use Rattle.mqtt5_broker.specs.Asking.{kept_on, holds, is_new, sent_by, first_by, asks_of, asks_at, rejects}
+use Rattle.mqtt5_broker.specs.Asking.{kept_on, holds, is_new, sent_by, first_by, asks_of, asks_at, identifies, rejects}
 use Rattle.mqtt5_broker.proofs.Cutting.{outcome, from_start}
 use Rattle.mqtt5_broker.proofs.Pieces.{closed_takes, closed_all, closed_ends, closed_receives, open_receives, open_within, holding_closed, holding_open, set_twice, shut_at_self}
 use Rattle.mqtt5_broker.proofs.Standing.{on_less, if_standing, turns_standing}
@@ -197,6 +197,9 @@ nobody_connects found stays at c b none h =
 
 pub holds_standing : (c : ℕ) (bytes : List ℕ) (b : Broker) → IsStanding b → IsStanding (holds c bytes b)
 holds_standing c bytes b s = on_less c (kept_on bytes) b (λ l i h. sym (holding_client l.is_open (l.held ++ bytes) l) ∙ h) s
+
+pub identifies_standing : (c u : ℕ) (b : Broker) → IsStanding b → IsStanding (identifies c u b)
+identifies_standing c u b s = if_standing (is_new (connection_at c b.connections)) _ _ (on_less c (of_user u) b (λ l i h. h) s) s
 
 pub rejects_standing : (c : ℕ) (code : ConnectReturnCode) (b : Broker) → IsStanding b → IsStanding (rejects c code b)
 rejects_standing c code b s = if_standing (is_new (connection_at c b.connections)) _ _ (turns_standing c code b s) s

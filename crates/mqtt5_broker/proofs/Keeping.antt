@@ -1,5 +1,6 @@
 -- What packets leave as it is: the limit, the moment, and that no bytes are held on a connection of which none are.
 use Rattle.std.proofs.Common.{◌≡◌, ℕ, zero, suc, Bool, true, false, List, [], ◌∷◌, Option, Some, None, refl, subst, ap, ◌∙◌, get_or, set, if◌then◌else◌, not, length, ◌==◌, Result, Ok, Err}
+use Rattle.std.specs.Option.{option_to_list}
 use Rattle.mqtt5_base.specs.declared.error.Error.{Error}
 use Rattle.mqtt5_codec.specs.declared.packet.Packet.{Packet}
 use Rattle.mqtt5_codec.specs.declared.packet.Packet.TheVariants as packets
@@ -15,10 +16,10 @@ use Rattle.mqtt5_broker.specs.declared.member.Member.{Member}
 use Rattle.mqtt5_broker.specs.declared.serving.Kind.{Kind}
 use Rattle.mqtt5_broker.specs.declared.serving.Kind.TheVariants as kinds
 use Rattle.mqtt5_broker.specs.Connection.{Connection, closed, shut, told, heard, taken_by, with_bytes, written, written_all, connection_at, connection_of}
-use Rattle.mqtt5_broker.specs.Broker.{Broker, on_connection, on_member, expiring, forgets, loses_client, leaves_client, stays_at, refuses, dismisses, dismisses_of, numbers, number_in, free_number, number_of, assigned_name, number_after}
-use Rattle.mqtt5_broker.specs.Judging.{connect_fault}
+use Rattle.mqtt5_broker.specs.Broker.{Broker, on_connection, on_member, expiring, forgets, loses_client, leaves_client, stays_at, refuses, dismisses, dismisses_of, numbers, number_in, free_number, number_of, assigned_name, number_after, user_at, owner_at}
+use Rattle.mqtt5_broker.specs.Rights.{may_do, denial, suback_for, part_of}
 use Rattle.mqtt5_broker.specs.Bounds.{has_room}
-use Rattle.mqtt5_broker.specs.Serving.{kind_of, arrives_from, goes, disconnects, serves_as, serves_by, fault_of, serves, refusal, longest_of, silence_of, member_of, welcome, comes_in, displaced, displaces, starts_anew, begins, enters, turns_away, enters_if_room, assigns_by, assigns, admits_as, admits, connects_by, connects, begins_with, takes_of, takes}
+use Rattle.mqtt5_broker.specs.Serving.{kind_of, arrives_from, denies, brings, goes, disconnects, serves_as, serves_by, fault_of, serves, refusal, longest_of, silence_of, member_of, welcome, comes_in, displaced, displaces, starts_anew, begins, enters, turns_away, enters_if_room, assigns_by, assigns, is_its, admits_as, admits, entry_fault, connects_by, connects, begins_with, takes_of, takes}
 use Rattle.mqtt5_broker.specs.Receiving.{takes_all}
 
 -- ---- connections
@@ -94,6 +95,16 @@ module _ (c n at : ℕ) where
   unfolding arrives_from
   arrives_keeps d i x b k = on_keeps d (written_all (replies i x b.sessions)) _ (λ l h. all_held (replies i x b.sessions) l ∙ h) (record { held = k.held; longest = k.longest; moment = k.moment })
 
+  denies_keeps : (user : Option ℕ) (d i : ℕ) (x : Packet) (b : Broker) → Keeps c n at b → Keeps c n at (denies user d i x b)
+  unfolding denies
+  denies_keeps user d i (packets.Publish p) b k = on_keeps d (written_all (option_to_list (denial p.qos p.pkid))) b (λ l h. all_held (option_to_list (denial p.qos p.pkid)) l ∙ h) k
+  denies_keeps user d i (packets.Subscribe p) b k = on_keeps d (written (suback_for user b.rights p)) _ (λ l h. written_held (suback_for user b.rights p) l ∙ h) (record { held = k.held; longest = k.longest; moment = k.moment })
+  denies_keeps user d i other b k = k
+
+  brings_keeps : (d i : ℕ) (x : Packet) (b : Broker) → Keeps c n at b → Keeps c n at (brings d i x b)
+  unfolding brings
+  brings_keeps d i x b k = if_keeps (may_do (owner_at i b.members) b.rights x) _ _ (arrives_keeps d i x b k) (denies_keeps (owner_at i b.members) d i x b k)
+
   goes_keeps : (reason : DisconnectReasonCode) (i : ℕ) (b : Broker) → Keeps c n at b → Keeps c n at (goes reason i b)
   goes_keeps reasons.NormalDisconnection i b k = leaves_keeps i b k
   goes_keeps other i b k = loses_keeps i b k
@@ -107,7 +118,7 @@ module _ (c n at : ℕ) where
   as_keeps : (kind : Kind) (d i : ℕ) (x : Packet) (b : Broker) → Keeps c n at b → Keeps c n at (serves_as kind d i x b)
   as_keeps kinds.Ping d i x b k = on_keeps d (written (packets.PingResp (record {}))) b (λ l h. written_held (packets.PingResp (record {})) l ∙ h) k
   as_keeps (kinds.Goodbye reason expiry) d i x b k = disconnects_keeps d i reason expiry b k
-  as_keeps kinds.Message d i x b k = arrives_keeps d i x b k
+  as_keeps kinds.Message d i x b k = brings_keeps d i x b k
 
   by_keeps : (fault : Option DisconnectReasonCode) (d i : ℕ) (x : Packet) (b : Broker) → Keeps c n at b → Keeps c n at (serves_by fault d i x b)
   by_keeps (Some reason) d i x b k = refuses_keeps d i reason b k
@@ -143,7 +154,7 @@ module _ (c n at : ℕ) where
 
   enters_keeps : (d : ℕ) (given : Bool) (q : Connect) (will : Option LastWill) (b : Broker) → Keeps c n at b → Keeps c n at (enters d given q will b)
   unfolding enters
-  enters_keeps d given q will b k = comes_keeps d (number_in (free_number b.members) b) false given q will _ (numbers_keeps (member_of q will) (free_number b.members) b k)
+  enters_keeps d given q will b k = comes_keeps d (number_in (free_number b.members) b) false given q will _ (numbers_keeps (member_of (user_at d b) q will) (free_number b.members) b k)
 
   turns_keeps : (d : ℕ) (code : ConnectReturnCode) (b : Broker) → Keeps c n at b → Keeps c n at (turns_away d code b)
   turns_keeps d code b k = on_keeps d (λ (l : Connection). shut (written (refusal code) l)) b (λ l h. refl) k
@@ -160,7 +171,9 @@ module _ (c n at : ℕ) where
   assigns_keeps d q will b k = assigns_by_keeps (number_of (assigned_name b.next_name) b.members) d (record q { client_id = assigned_name b.next_name }) will (record b { next_name = number_after b.next_name }) (record { held = k.held; longest = k.longest; moment = k.moment })
 
   admits_as_keeps : (o : Option ℕ) (d : ℕ) (q : Connect) (will : Option LastWill) (b : Broker) → Keeps c n at b → Keeps c n at (admits_as o d q will b)
-  admits_as_keeps (Some i) d q will b k = comes_keeps d i (not (starts_anew i q b)) false q will (begins i (starts_anew i q b) q will (displaces i b)) (begins_keeps i (starts_anew i q b) q will (displaces i b) (displaces_keeps i b k))
+  admits_as_keeps (Some i) d q will b k =
+      if_keeps (is_its d i b) _ _ (comes_keeps d i (not (starts_anew i q b)) false q will (begins i (starts_anew i q b) q will (displaces i b)) (begins_keeps i (starts_anew i q b) q will (displaces i b) (displaces_keeps i b k)))
+      (turns_keeps d return_codes.ClientIdentifierNotValid b k)
   admits_as_keeps None d q will b k = room_keeps d false q will b k
 
   admits_keeps : (d : ℕ) (q : Connect) (will : Option LastWill) (b : Broker) → Keeps c n at b → Keeps c n at (admits d q will b)
@@ -173,7 +186,7 @@ module _ (c n at : ℕ) where
 
   connects_keeps : (d : ℕ) (q : Connect) (will : Option LastWill) (b : Broker) → Keeps c n at b → Keeps c n at (connects d q will b)
   unfolding connects
-  connects_keeps d q will b k = connects_by_keeps (connect_fault q will) d q will b k
+  connects_keeps d q will b k = connects_by_keeps (entry_fault d q will b) d q will b k
 
   -- ---- any packet
 

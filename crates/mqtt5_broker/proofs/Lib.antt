@@ -11,3 +11,5 @@ pub mod Early
 pub mod Standing
 pub mod Asked
 pub mod Calling
+pub mod Within
+pub mod Permitted

@@ -3,6 +3,7 @@ use Rattle.std.proofs.Common.{◌≡◌, ◌≢◌, ◌<◌, ℕ, zero, suc, ◌
 use lib.Dec.{T}
 use Rattle.std.specs.Prelude.{option_map, is_none, unwrap_or}
 use Rattle.std.specs.List.{position_or_len}
+use Rattle.std.specs.Option.{option_to_list}
 use Rattle.std.proofs.lemmas.Bool.{eqb-true, eq-eqb, leb-false, lt-leb}
 use Rattle.std.proofs.lemmas.Option.{none-some}
 use Rattle.std.proofs.lemmas.List.{get_or-set_other}
@@ -26,10 +27,10 @@ use Rattle.mqtt5_broker.specs.declared.serving.Kind.TheVariants as kinds
 use Rattle.mqtt5_broker.specs.Moments.{has_come}
 use Rattle.mqtt5_broker.specs.Cut.{Cut, Ending, Holds, Breaks, cut_up}
 use Rattle.mqtt5_broker.specs.Connection.{Connection, closed, opened, shut, told, heard, taken_by, with_bytes, written, written_all, emptied, holding, with_sent, connection_at, with_connection, is_client, is_of, connection_of}
-use Rattle.mqtt5_broker.specs.Broker.{Broker, at_moment, on_connection, on_member, away, gone, expiring, undue, member_at, has_ended, will_is_due, forgets, loses_client, leaves_client, publishes_will, stays_at, refuses, dismisses, dismisses_of, numbers, number_in, free_number, is_named, number_of, assigned_name, number_after}
-use Rattle.mqtt5_broker.specs.Judging.{connect_fault}
+use Rattle.mqtt5_broker.specs.Broker.{Broker, at_moment, on_connection, on_member, away, gone, expiring, undue, member_at, has_ended, will_is_due, forgets, loses_client, leaves_client, publishes_will, stays_at, refuses, dismisses, dismisses_of, numbers, number_in, free_number, is_named, number_of, assigned_name, number_after, user_at, owner_at}
+use Rattle.mqtt5_broker.specs.Rights.{may_do, denial, suback_for, part_of}
 use Rattle.mqtt5_broker.specs.Bounds.{has_room, exceeds, ends_of, trims, trims_all}
-use Rattle.mqtt5_broker.specs.Serving.{kind_of, arrives_from, goes, disconnects, serves_as, serves_by, fault_of, serves, refusal, longest_of, silence_of, member_of, welcome, comes_in, displaced, displaces, starts_anew, begins, returns, enters, turns_away, enters_if_room, assigns_by, assigns, admits_as, admits, connects_by, connects, begins_with, takes_of, takes, passes_of, passes_on}
+use Rattle.mqtt5_broker.specs.Serving.{kind_of, arrives_from, denies, brings, goes, disconnects, serves_as, serves_by, fault_of, serves, refusal, longest_of, silence_of, member_of, welcome, comes_in, displaced, displaces, starts_anew, begins, returns, enters, turns_away, enters_if_room, assigns_by, assigns, is_its, admits_as, admits, entry_fault, connects_by, connects, begins_with, takes_of, takes, passes_of, passes_on}
 use Rattle.mqtt5_broker.specs.Receiving.{takes_all, reason_for, ends_with, receives_now, receives, opens_now, opens, closes_of, closes_now, closes}
 use Rattle.mqtt5_broker.specs.Clock.{for_each, silences, silences_all, expires, ticks, ends_now, shuts_down}
 use Rattle.mqtt5_broker.specs.Standing.{client_at, IsHere, Stands, IsStanding}
@@ -196,6 +197,18 @@ arrives_standing : (d i : ℕ) (x : Packet) (b : Broker) → IsStanding b → Is
 unfolding arrives_from
 arrives_standing d i x b s = on_less d (written_all (replies i x b.sessions)) (record b { sessions = arrives i x b.sessions }) (all_lets (replies i x b.sessions)) (record { one = s.one; here = s.here })
 
+denies_standing : (user : Option ℕ) (d i : ℕ) (x : Packet) (b : Broker) → IsStanding b → IsStanding (denies user d i x b)
+unfolding denies
+denies_standing user d i (packets.Publish p) b s = on_less d (written_all (option_to_list (denial p.qos p.pkid))) b (all_lets (option_to_list (denial p.qos p.pkid))) s
+denies_standing user d i (packets.Subscribe p) b s =
+    on_less d (written (suback_for user b.rights p)) (record b { sessions = arrives i (packets.Subscribe (part_of user b.rights p)) b.sessions })
+    (λ l j h. sym (written_client (suback_for user b.rights p) l) ∙ h) (record { one = s.one; here = s.here })
+denies_standing user d i other b s = s
+
+brings_standing : (d i : ℕ) (x : Packet) (b : Broker) → IsStanding b → IsStanding (brings d i x b)
+unfolding brings
+brings_standing d i x b s = if_standing (may_do (owner_at i b.members) b.rights x) _ _ (arrives_standing d i x b s) (denies_standing (owner_at i b.members) d i x b s)
+
 disconnects_standing : (d i : ℕ) (reason : DisconnectReasonCode) (expiry : Option ℕ) (b : Broker) → client_at d b.connections ≡ Some i → IsStanding b → IsStanding (disconnects d i reason expiry b)
 unfolding disconnects
 disconnects_standing d i reason expiry b e s =
@@ -206,7 +219,7 @@ disconnects_standing d i reason expiry b e s =
 as_standing : (kind : Kind) (d i : ℕ) (x : Packet) (b : Broker) → client_at d b.connections ≡ Some i → IsStanding b → IsStanding (serves_as kind d i x b)
 as_standing kinds.Ping d i x b e s = on_less d (written (packets.PingResp (record {}))) b (λ l j h. sym (written_client (packets.PingResp (record {})) l) ∙ h) s
 as_standing (kinds.Goodbye reason expiry) d i x b e s = disconnects_standing d i reason expiry b e s
-as_standing kinds.Message d i x b e s = arrives_standing d i x b s
+as_standing kinds.Message d i x b e s = brings_standing d i x b s
 
 by_standing : (fault : Option DisconnectReasonCode) (d i : ℕ) (x : Packet) (b : Broker) → client_at d b.connections ≡ Some i → IsStanding b → IsStanding (serves_by fault d i x b)
 by_standing (Some reason) d i x b e s = refuses_standing d i reason b e s
@@ -308,8 +321,8 @@ begins_standing : (d i : ℕ) (present anew : Bool) (q : Connect) (will : Option
 unfolding begins
 begins_standing d i present anew q will b lt free s =
     comes_standing d i present false q will _ free
-    (subst IsHere (sym (get_or-set_same b.members i (Some (member_of q will)) None lt)) refl)
-    (members_change i b.connections b.members (slice_set b.members i (Some (member_of q will))) (other_set i b.members (Some (member_of q will))) free s)
+    (subst IsHere (sym (get_or-set_same b.members i (Some (member_of (owner_at i b.members) q will)) None lt)) refl)
+    (members_change i b.connections b.members (slice_set b.members i (Some (member_of (owner_at i b.members) q will))) (other_set i b.members (Some (member_of (owner_at i b.members) q will))) free s)
 
 returns_standing : (d i : ℕ) (q : Connect) (will : Option LastWill) (b : Broker) → i < length b.members → IsStanding b → IsStanding (returns d i q will b)
 returns_standing d i q will b lt s =
@@ -335,26 +348,26 @@ pushed_others m (x ∷ ms) (suc j) ne = pushed_others m ms j (λ e. ne (ap suc e
 unknown_free : (i : ℕ) (b : Broker) → member_at i b.members ≡ None → IsStanding b → Free i b.connections
 unknown_free i b e s c q = subst IsHere e (s.here c i q)
 
-nobody : (m : Option Member) → is_none m ≡ true → m ≡ None
+pub nobody : (m : Option Member) → is_none m ≡ true → m ≡ None
 nobody None e = refl
 nobody (Some m) e = absurd (true_false (sym e))
 
-numbers_standing : (o : Option ℕ) (d : ℕ) (given : Bool) (q : Connect) (will : Option LastWill) (b : Broker) → free_number b.members ≡ o → IsStanding b → IsStanding (comes_in d (number_in o b) false given q will (numbers (member_of q will) o b))
-numbers_standing None d given q will b e s =
+numbers_standing : (o user : Option ℕ) (d : ℕ) (given : Bool) (q : Connect) (will : Option LastWill) (b : Broker) → free_number b.members ≡ o → IsStanding b → IsStanding (comes_in d (number_in o b) false given q will (numbers (member_of user q will) o b))
+numbers_standing None user d given q will b e s =
     let free : Free (length b.members) b.connections = unknown_free (length b.members) b (past_none b.members) s in
     comes_standing d (length b.members) false given q will _ free
-    (subst IsHere (sym (pushed (member_of q will) b.members)) refl)
-    (members_change (length b.members) b.connections b.members (b.members ++ Some (member_of q will) ∷ []) (pushed_others (member_of q will) b.members) free s)
-numbers_standing (Some i) d given q will b e s =
+    (subst IsHere (sym (pushed (member_of user q will) b.members)) refl)
+    (members_change (length b.members) b.connections b.members (b.members ++ Some (member_of user q will) ∷ []) (pushed_others (member_of user q will) b.members) free s)
+numbers_standing (Some i) user d given q will b e s =
     let found = position-Some is_none b.members i None e in
     let free : Free i b.connections = unknown_free i b (nobody (member_at i b.members) found.1) s in
     comes_standing d i false given q will _ free
-    (subst IsHere (sym (get_or-set_same b.members i (Some (member_of q will)) None found.0)) refl)
-    (members_change i b.connections b.members (slice_set b.members i (Some (member_of q will))) (other_set i b.members (Some (member_of q will))) free s)
+    (subst IsHere (sym (get_or-set_same b.members i (Some (member_of user q will)) None found.0)) refl)
+    (members_change i b.connections b.members (slice_set b.members i (Some (member_of user q will))) (other_set i b.members (Some (member_of user q will))) free s)
 
 enters_standing : (d : ℕ) (given : Bool) (q : Connect) (will : Option LastWill) (b : Broker) → IsStanding b → IsStanding (enters d given q will b)
 unfolding enters
-enters_standing d given q will b s = numbers_standing (free_number b.members) d given q will b refl s
+enters_standing d given q will b s = numbers_standing (free_number b.members) (user_at d b) d given q will b refl s
 
 pub turns_standing : (d : ℕ) (code : ConnectReturnCode) (b : Broker) → IsStanding b → IsStanding (turns_away d code b)
 turns_standing d code b s = on_less d (λ (l : Connection). shut (written (refusal code) l)) b (shut_lets (λ (l : Connection). shut (written (refusal code) l)) (λ l. refl)) s
@@ -371,7 +384,8 @@ unfolding assigns
 assigns_standing d q will b s = assigns_by_standing (number_of (assigned_name b.next_name) b.members) d (record q { client_id = assigned_name b.next_name }) will (record b { next_name = number_after b.next_name }) (record { one = s.one; here = s.here })
 
 admits_as_standing : (o : Option ℕ) (d : ℕ) (q : Connect) (will : Option LastWill) (b : Broker) → number_of q.client_id b.members ≡ o → IsStanding b → IsStanding (admits_as o d q will b)
-admits_as_standing (Some i) d q will b e s = returns_standing d i q will b (position-Some (is_named q.client_id) b.members i None e).0 s
+admits_as_standing (Some i) d q will b e s =
+    if_standing (is_its d i b) _ _ (returns_standing d i q will b (position-Some (is_named q.client_id) b.members i None e).0 s) (turns_standing d return_codes.ClientIdentifierNotValid b s)
 admits_as_standing None d q will b e s = room_standing d false q will b s
 
 admits_standing : (d : ℕ) (q : Connect) (will : Option LastWill) (b : Broker) → IsStanding b → IsStanding (admits d q will b)
@@ -384,7 +398,7 @@ connects_by_standing None d q will b s = admits_standing d q will b s
 
 connects_standing : (d : ℕ) (q : Connect) (will : Option LastWill) (b : Broker) → IsStanding b → IsStanding (connects d q will b)
 unfolding connects
-connects_standing d q will b s = connects_by_standing (connect_fault q will) d q will b s
+connects_standing d q will b s = connects_by_standing (entry_fault d q will b) d q will b s
 
 -- ---- any packet, and bytes
 
@@ -397,14 +411,14 @@ of_standing None d x b e s = begins_with_standing d x b s
 of_standing (Some i) d x b e s = serves_standing d i x b e s
 
 -- one that is heard has the same client
-heard_client : (d at : ℕ) (ls : List Connection) → client_at d (with_connection d (heard at) ls) ≡ client_at d ls
+pub heard_client : (d at : ℕ) (ls : List Connection) → client_at d (with_connection d (heard at) ls) ≡ client_at d ls
 heard_client d at ls = by (client_after d d ls (heard at (connection_at d ls)))
   where
     by : (client_at d (with_connection d (heard at) ls) ≡ client_at d ls) ⊎ ((d ≡ d) × (client_at d (with_connection d (heard at) ls) ≡ client_at d ls)) → client_at d (with_connection d (heard at) ls) ≡ client_at d ls
     by (inl e) = e
     by (inr e) = e.1
 
-takes_standing : (d : ℕ) (x : Packet) (b : Broker) → IsStanding b → IsStanding (takes d x b)
+pub takes_standing : (d : ℕ) (x : Packet) (b : Broker) → IsStanding b → IsStanding (takes d x b)
 unfolding takes
 takes_standing d x b s =
     if_standing (connection_at d b.connections).is_open _ _

@@ -1,6 +1,6 @@
 -- Who wants to connect, which a caller may ask before the answer: bytes are held first, then what
 -- they say is looked at, and then they are taken, or the client is turned away (MQTT 5.0 sections
--- 3.1.3.5, 3.1.3.6, 3.2.2.2 and 4.12).
+-- 3.1.3.5, 3.1.3.6, 3.2.2.2, 4.12 and 5.4.1).
 use Rattle.std.specs.Prelude.{ℕ, Bool, ◌&&◌, List, ◌++◌, Some, None, is_none, Result, Ok}
 use Rattle.std.specs.Prelude.{if◌then◌else◌}
 use Rattle.mqtt5_base.specs.declared.error.Error.{Error}
@@ -12,7 +12,7 @@ use Rattle.mqtt5_codec.specs.declared.packet.Packet.TheVariants as packets
 use Rattle.mqtt5_codec.specs.PacketsIn.{packet_in}
 use Rattle.mqtt5_broker.specs.declared.asking.Asks.{Asks}
 use Rattle.mqtt5_broker.specs.declared.asking.Asks.TheVariants as asks
-use Rattle.mqtt5_broker.specs.Connection.{Connection, holding, connection_at}
+use Rattle.mqtt5_broker.specs.Connection.{Connection, of_user, holding, connection_at}
 use Rattle.mqtt5_broker.specs.Broker.{Broker, on_connection}
 use Rattle.mqtt5_broker.specs.Serving.{turns_away}
 
@@ -45,6 +45,10 @@ asks_of longest l = if is_new l then first_by (front (Some longest) l.held) else
 
 abbrev pub asks_at : ℕ → Broker → Asks
 asks_at c b = asks_of b.longest (connection_at c b.connections)
+
+-- one who isn't connected will connect as a user (5.4.1)
+abbrev pub identifies : ℕ → ℕ → Broker → Broker
+identifies c u b = if is_new (connection_at c b.connections) then on_connection c (of_user u) b else b
 
 -- one who isn't connected is turned away
 abbrev pub rejects : ℕ → ConnectReturnCode → Broker → Broker

@@ -1,6 +1,6 @@
--- What a broker keeps: the sessions of its clients, their names, and its connections (MQTT 5.0
--- sections 3.1.2.11.2, 3.1.3.1, 3.1.3.2.2 and 4.1).
-use Rattle.std.specs.Prelude.{ℕ, ◌+◌, ◌==◌, nat_eq, min, max, Bool, false, not, List, [], ◌∷◌}
+-- What a broker keeps: the sessions of its clients, their names, its connections, and what its users
+-- may do (MQTT 5.0 sections 3.1.2.11.2, 3.1.3.1, 3.1.3.2.2, 4.1 and 5.4).
+use Rattle.std.specs.Prelude.{ℕ, ◌+◌, ◌==◌, nat_eq, min, max, Bool, true, false, not, List, [], ◌∷◌}
 use Rattle.std.specs.Prelude.{◌++◌, length, Option, Some, None, is_none, option_map}
 use Rattle.std.specs.Prelude.{slice_index_or, slice_set, if◌then◌else◌, codes}
 use Rattle.std.specs.Fmt.{decimal}
@@ -12,11 +12,12 @@ use Rattle.mqtt5_sessions.specs.Sessions.{Sessions, joins, loses, leaves, ends, 
 use Rattle.mqtt5_broker.specs.declared.bounds.Bounds.{Bounds}
 use Rattle.mqtt5_broker.specs.declared.member.Member.{Member}
 use Rattle.mqtt5_broker.specs.Moments.{seconds_after, has_come}
+use Rattle.mqtt5_broker.specs.Rights.{Rights, no_rights, with_rights}
 use Rattle.mqtt5_broker.specs.Connection.{Connection, shut, told, with_connection}
 use Rattle.mqtt5_broker.specs.Connection.{connection_at}
 
 -- the sessions, numbered from 0; by the same numbers the client that has each, or none; the
--- connections; the greatest packet identifier that is used to a client (2.2.1); the greatest
+-- connections; what each user may do; the greatest packet identifier that is used to a client (2.2.1); the greatest
 -- remaining length of what a client sends; for how many milliseconds a connection may be open
 -- without a Connect, or 0 for any time; what may be kept at most; the last moment; and the number of
 -- the next name that a client is given
@@ -24,6 +25,7 @@ pub record Broker : Type 0 where
   pub sessions : Sessions
   pub members : List (Option Member)
   pub connections : List Connection
+  pub rights : List Rights
   pub limit : ℕ
   pub longest : ℕ
   pub wait : ℕ
@@ -79,6 +81,34 @@ assigned_name n = text_of (codes "auto-" ++ decimal n)
 
 abbrev pub number_after : ℕ → ℕ
 number_after n = min (n + 1) 18446744073709551615
+
+-- ---- users
+
+-- the one that a connection is of
+abbrev pub user_at : ℕ → Broker → Option ℕ
+user_at c b = (connection_at c b.connections).user
+
+-- and the one whose session a client has
+abbrev pub owner_of : Option Member → Option ℕ
+owner_of None = None
+owner_of (Some m) = m.owner
+
+abbrev pub owner_at : ℕ → List (Option Member) → Option ℕ
+owner_at i ms = owner_of (member_at i ms)
+
+-- whether two are the same, or both are none
+abbrev pub is_same : Option ℕ → Option ℕ → Bool
+is_same None None = true
+is_same (Some u) (Some v) = u == v
+is_same other another = false
+
+-- one user more, who may do nothing yet
+abbrev pub knows_user : Broker → Broker
+knows_user b = record b { rights = b.rights ++ no_rights ∷ [] }
+
+-- one may do more
+abbrev pub lets : ℕ → (Rights → Rights) → Broker → Broker
+lets u f b = record b { rights = with_rights u f b.rights }
 
 -- a number that nobody has
 abbrev pub free_number : List (Option Member) → Option ℕ

@@ -9,13 +9,14 @@ use Rattle.mqtt5_codec.specs.declared.packet.Packet.TheVariants as packets
 use Rattle.mqtt5_codec.specs.Packets.{writing_under}
 use Rattle.mqtt5_broker.specs.Moments.{unless_zero}
 
--- whether bytes of it are taken; the number of the client that connected on it; the longest packet
--- that this client takes; the bytes that came in and are no whole frame yet; those to be sent; for
--- how many milliseconds it may be silent, or 0 for any time; and the moment at which it was silent
--- for too long, if it isn't heard before
+-- whether bytes of it are taken; the number of the client that connected on it; that of the user that
+-- it is of, if it is one's; the longest packet that this client takes; the bytes that came in and are
+-- no whole frame yet; those to be sent; for how many milliseconds it may be silent, or 0 for any time;
+-- and the moment at which it was silent for too long, if it isn't heard before
 pub record Connection : Type 0 where
   pub is_open : Bool
   pub client : Option ℕ
+  pub user : Option ℕ
   pub longest : Option ℕ
   pub held : List ℕ
   pub output : List ℕ
@@ -27,6 +28,7 @@ abbrev pub closed : Connection
 closed = record {
   is_open = false;
   client = None;
+  user = None;
   longest = None;
   held = [];
   output = [];
@@ -39,6 +41,7 @@ abbrev pub opened : ℕ → ℕ → Connection
 opened silence at = record {
   is_open = true;
   client = None;
+  user = None;
   longest = None;
   held = [];
   output = [];
@@ -59,6 +62,10 @@ taken_by i longest silence at l = record l {
   silence = silence;
   deadline = unless_zero silence at;
 }
+
+-- it is of a user (5.4.1)
+abbrev pub of_user : ℕ → Connection → Connection
+of_user u l = record l { user = Some u }
 
 -- nothing more is taken of it; what was written is still to be sent
 abbrev pub shut : Connection → Connection

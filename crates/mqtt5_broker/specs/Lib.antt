@@ -1,5 +1,6 @@
 pub mod Cut
 pub mod Moments
+pub mod Rights
 pub mod Connection
 pub mod Broker
 pub mod Wills
@@ -12,3 +13,4 @@ pub mod Acts
 pub mod Standing
 pub mod Asking
 pub mod Calls
+pub mod Within

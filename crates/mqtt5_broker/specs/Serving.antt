@@ -1,7 +1,8 @@
 -- What a broker makes of the packets of its clients (MQTT 5.0 sections 3.1.2.10, 3.1.4, 3.2, 3.12,
--- 3.14 and 4.13).
+-- 3.14, 4.13 and 5.4.2).
 use Rattle.std.specs.Prelude.{ℕ, ◌*◌, ◌==◌, Bool, true, false, not, ◌||◌, List, [], ◌∷◌}
 use Rattle.std.specs.Prelude.{Option, Some, None, option_map, if◌then◌else◌, slice_set, length}
+use Rattle.std.specs.Option.{option_to_list}
 use Rattle.mqtt5_base.specs.Texts.{Utf8}
 use Rattle.mqtt5_connect.specs.declared.connect.Connect.{Connect}
 use Rattle.mqtt5_connect.specs.declared.connect.ConnectProperties.{ConnectProperties}
@@ -24,9 +25,11 @@ use Rattle.mqtt5_broker.specs.Connection.{connection_at, connection_of, heard, t
 use Rattle.mqtt5_broker.specs.Broker.{Broker, number_of, free_number, on_connection, on_member}
 use Rattle.mqtt5_broker.specs.Broker.{loses_client, leaves_client, refuses, stays_at, expiring}
 use Rattle.mqtt5_broker.specs.Broker.{member_at, has_ended, numbers, number_in}
-use Rattle.mqtt5_broker.specs.Broker.{assigned_name, number_after}
+use Rattle.mqtt5_broker.specs.Broker.{assigned_name, number_after, user_at, owner_at, is_same}
+use Rattle.mqtt5_broker.specs.Rights.{may_do, denial, suback_for, part_of, will_denial}
 use Rattle.mqtt5_broker.specs.Wills.{will_of, delay_in}
-use Rattle.mqtt5_broker.specs.Judging.{first_of, client_fault, connect_fault, new_expiry}
+use Rattle.mqtt5_broker.specs.Judging.{first_of, client_fault, first_code, connect_fault}
+use Rattle.mqtt5_broker.specs.Judging.{new_expiry}
 use Rattle.mqtt5_broker.specs.Bounds.{has_room, quota_fault}
 
 -- ---- a client that is connected
@@ -36,6 +39,22 @@ unfoldable pub arrives_from : ℕ → ℕ → Packet → Broker → Broker
 arrives_from c i x b =
     on_connection c (written_all (replies i x b.sessions))
     (record b { sessions = arrives i x b.sessions })
+
+-- it asks for more than its user may do: a publish comes to no session, and of a Subscribe what the user
+-- may subscribe to does
+unfoldable pub denies : Option ℕ → ℕ → ℕ → Packet → Broker → Broker
+denies user c i (packets.Publish p) b =
+    on_connection c (written_all (option_to_list (denial p.qos p.pkid))) b
+denies user c i (packets.Subscribe s) b =
+    on_connection c (written (suback_for user b.rights s))
+    (record b { sessions = arrives i (packets.Subscribe (part_of user b.rights s)) b.sessions })
+denies user c i other b = b
+
+-- what it asks for is done, where the user whose session it has may do that
+unfoldable pub brings : ℕ → ℕ → Packet → Broker → Broker
+brings c i x b =
+    if may_do (owner_at i b.members) b.rights x then arrives_from c i x b
+    else denies (owner_at i b.members) c i x b
 
 -- a Disconnect: with reason 0 its will is dropped (3.14.4)
 abbrev pub goes : DisconnectReasonCode → ℕ → Broker → Broker
@@ -59,7 +78,7 @@ kind_of other = kinds.Message
 abbrev pub serves_as : Kind → ℕ → ℕ → Packet → Broker → Broker
 serves_as kinds.Ping c i x b = on_connection c (written (packets.PingResp (record {}))) b
 serves_as (kinds.Goodbye reason expiry) c i x b = disconnects c i reason expiry b
-serves_as kinds.Message c i x b = arrives_from c i x b
+serves_as kinds.Message c i x b = brings c i x b
 
 -- one that may be
 abbrev pub serves_by : Option DisconnectReasonCode → ℕ → ℕ → Packet → Broker → Broker
@@ -98,10 +117,11 @@ longest_of (Some set) = set.max_packet_size
 abbrev pub silence_of : Connect → ℕ
 silence_of k = 1500 * k.keep_alive
 
--- by what it is known that says this
-abbrev pub member_of : Connect → Option LastWill → Member
-member_of k will = record {
+-- by what it is known that says this, of a user
+abbrev pub member_of : Option ℕ → Connect → Option LastWill → Member
+member_of user k will = record {
   name = k.client_id;
+  owner = user;
   expiry = expiry_of k.properties;
   delay = delay_in will;
   ends = None;
@@ -173,11 +193,11 @@ abbrev pub starts_anew : ℕ → Connect → Broker → Bool
 starts_anew i k b =
     k.clean_start || not (stays_at i b.members) || has_ended b.moment (member_at i b.members)
 
--- then that one ends; and it is known by what it says now
+-- then that one ends; and it is known by what it says now, of the same user
 unfoldable pub begins : ℕ → Bool → Connect → Option LastWill → Broker → Broker
 begins i anew k will b = record b {
   sessions = if anew then ends i b.sessions else b.sessions;
-  members = slice_set b.members i (Some (member_of k will));
+  members = slice_set b.members i (Some (member_of (owner_at i b.members) k will));
 }
 
 -- one that is known
@@ -190,7 +210,7 @@ returns c i k will b =
 unfoldable pub enters : ℕ → Bool → Connect → Option LastWill → Broker → Broker
 enters c given k will b =
     comes_in c (number_in (free_number b.members) b) false given k will
-    (numbers (member_of k will) (free_number b.members) b)
+    (numbers (member_of (user_at c b) k will) (free_number b.members) b)
 
 -- a Connect is refused
 abbrev pub turns_away : ℕ → ConnectReturnCode → Broker → Broker
@@ -213,8 +233,18 @@ assigns c k will b =
     (record k { client_id = assigned_name b.next_name }) will
     (record b { next_name = number_after b.next_name })
 
+-- whether the session of a number is of the same user as a connection, or both are of none
+abbrev pub is_its : ℕ → ℕ → Broker → Bool
+is_its c i b = is_same (user_at c b) (owner_at i b.members)
+
+-- one that is known has its session, unless that is another user's (5.4.2)
+abbrev pub returns_to_its : ℕ → ℕ → Connect → Option LastWill → Broker → Broker
+returns_to_its c i k will b =
+    if is_its c i b then returns c i k will b
+    else turns_away c return_codes.ClientIdentifierNotValid b
+
 abbrev pub admits_as : Option ℕ → ℕ → Connect → Option LastWill → Broker → Broker
-admits_as (Some i) c k will b = returns c i k will b
+admits_as (Some i) c k will b = returns_to_its c i k will b
 admits_as None c k will b = enters_if_room c false k will b
 
 -- one that isn't refused
@@ -227,8 +257,13 @@ abbrev pub connects_by : Option ConnectReturnCode → ℕ → Connect → Option
 connects_by (Some code) c k will b = turns_away c code b
 connects_by None c k will b = admits c k will b
 
+-- why it is refused, if it is: by itself, or since its user may not publish its will
+unfoldable pub entry_fault : ℕ → Connect → Option LastWill → Broker → Option ConnectReturnCode
+entry_fault c k will b =
+    first_code (connect_fault k will) (will_denial (user_at c b) b.rights will)
+
 unfoldable pub connects : ℕ → Connect → Option LastWill → Broker → Broker
-connects c k will b = connects_by (connect_fault k will) c k will b
+connects c k will b = connects_by (entry_fault c k will b) c k will b
 
 -- ---- any packet
 

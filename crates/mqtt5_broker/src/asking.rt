@@ -3,7 +3,7 @@
 ghost use Rattle.std.specs.Prelude.{◌≡◌, ◌⊎◌, Ok, Some, IfOk, IfErr, OnOk, OnErr};
 ghost use Rattle.mqtt5_base.specs.FrontAt.{front};
 ghost use Rattle.mqtt5_broker.specs.declared.asking.Asks.TheVariants as asks;
-ghost use Rattle.mqtt5_broker.specs.Asking.{kept_on, holds, is_new, sent_by, first_by, asks_of, asks_at, rejects};
+ghost use Rattle.mqtt5_broker.specs.Asking.{kept_on, holds, is_new, sent_by, first_by, asks_of, asks_at, identifies, rejects};
 ghost use Rattle.mqtt5_broker.specs.Connection.{with_connection, connection_at};
 
 use crate::broker::Broker;
@@ -137,6 +137,16 @@ impl Broker {
         }
         let asks = asks_of(alloc, self.longest, &self.connections[connection])?;
         Ok(asks)
+    }
+
+    /// A client that isn't connected yet will connect as a user, who is one of `add_user`: it may publish and subscribe to what that
+    /// user may, and has sessions of that user alone. Who connects as no user may do everything. Takes no memory.
+    pub fn identify(&mut self, connection: usize, user: usize)
+        ensures { self.new ≡ identifies connection user self.old }
+    {
+        if connection < self.connections.len() && is_new(&self.connections[connection]) {
+            self.connections[connection].identify(user);
+        }
     }
 
     /// A client that isn't connected yet is turned away, with a ConnAck of this code, and nothing more is taken of its connection. S12,

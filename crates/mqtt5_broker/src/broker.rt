@@ -12,6 +12,7 @@ use crate::bounds::{Bounds, no_bounds};
 use crate::connection::Connection;
 use crate::connections::{client_at, hold_at, is_open_at, write_some_at};
 use crate::member::{Member, name_in};
+use crate::rights::Rights;
 use bytes::BytesMut;
 use mqtt5_base::{Error, front_laws};
 use mqtt5_codec::{Codec, frame_laws};
@@ -36,12 +37,14 @@ pub struct Limits {
     pub wait: u32,
 }
 
-/// A broker: the sessions of its clients, who has them, and its connections, which are numbers of the caller's (MQTT 5.0 section 4).
+/// A broker: the sessions of its clients, who has them, its connections, which are numbers of the caller's, and what its users may
+/// do (MQTT 5.0 sections 4 and 5.4).
 #[derive(Debug, Drop)]
 pub struct Broker {
     pub(super) sessions: Sessions,
     pub(super) members: Vec<Option<Member>>,
     pub(super) connections: Vec<Connection>,
+    pub(super) rights: Vec<Rights>,
     pub(super) limit: NonZeroU16,
     pub(super) longest: u32,
     pub(super) wait: u32,
@@ -71,6 +74,7 @@ impl Model for Broker {
       sessions = a.sessions;
       members = a.members.items;
       connections = a.connections.items;
+      rights = a.rights.items;
       limit = non_zero_u16_get a.limit;
       longest = a.longest;
       wait = a.wait;
@@ -108,6 +112,7 @@ impl Broker {
           sessions = record { clients = []; retained = [] };
           members = [];
           connections = replicate limits.now.connections closed;
+          rights = [];
           limit = non_zero_u16_get limits.now.ids;
           longest = limits.now.longest;
           wait = limits.now.wait;
@@ -120,6 +125,7 @@ impl Broker {
             sessions: Sessions::new(alloc),
             members: Vec::new(alloc),
             connections: none_of(alloc, limits.connections)?,
+            rights: Vec::new(alloc),
             limit: limits.ids,
             longest: limits.longest,
             wait: limits.wait,

@@ -6,18 +6,19 @@ ghost use Rattle.mqtt5_codec.specs.declared.packet.Packet.TheVariants as packets
 ghost use Rattle.mqtt5_broker.specs.declared.member.Member.{Member};
 ghost use Rattle.mqtt5_broker.specs.Connection.{Connection, shut, written, written_all, heard, taken_by};
 ghost use Rattle.mqtt5_broker.specs.Broker.{on_connection, numbers, number_in, number_of, free_number, assigned_name, number_after};
-ghost use Rattle.mqtt5_broker.specs.Serving.{longest_of, silence_of, some_length, given_name, offers, connack, refusal, welcome, comes_in, displaced, displaces, begins, returns, enters, turns_away, enters_if_room, assigns_by, assigns, admits_as, admits, connects, begins_with, takes, takes_of};
+ghost use Rattle.mqtt5_broker.specs.Serving.{longest_of, silence_of, some_length, given_name, offers, connack, refusal, welcome, comes_in, displaced, displaces, begins, returns, enters, turns_away, enters_if_room, assigns_by, assigns, returns_to_its, admits_as, admits, entry_fault, connects, begins_with, takes, takes_of};
 
 use crate::broker::Broker;
 use crate::connections::{
     Terms, client_at, connection_of, hear_at, is_open_at, own_at, refuse_at, shut_at, tell_at,
-    welcome_at,
+    user_of, welcome_at,
 };
 use crate::judging::connect_fault;
 use crate::member::{
-    Member, assigned_name, free_number, has_ended_at, longest_of, member_of, number_after,
-    number_of, receive_max_of, silence_of, stays_at,
+    Member, assigned_name, free_number, has_ended_at, is_same, longest_of, member_of, number_after,
+    number_of, owner_at, receive_max_of, silence_of, stays_at,
 };
+use crate::rights::will_denial;
 use crate::wills::will_of;
 use mqtt5_base::{Text, copied};
 use mqtt5_codec::Packet;
@@ -211,7 +212,8 @@ impl Broker {
         ensures memory { IfErr result (λ e. e ≡ StateError.OutOfMemory) }
         ensures left { OnErr result (self.new ≡ self.old) }
     {
-        let member = member_of(connect, will)?;
+        let owner = owner_at(client, self.members.as_slice());
+        let member = member_of(owner, connect, will)?;
         if anew {
             self.sessions.end(alloc, client)?;
         }
@@ -307,7 +309,8 @@ impl Broker {
             (self.new ≡ enters connection given connect.now will.now self.old) }
         ensures memory { IfErr result (λ e. e ≡ StateError.OutOfMemory) }
     {
-        let member = member_of(connect, will)?;
+        let user = user_of(self.connections.as_slice(), connection);
+        let member = member_of(user, connect, will)?;
         let client = self.number(alloc, member)?;
         self.come_as(alloc, connection, client, false, given, connect, will)
     }
@@ -379,6 +382,28 @@ impl Broker {
         Ok(())
     }
 
+    /// A client comes that is known, and has its session, unless that is another user's. S12.
+    fn bring_back_its(
+        &mut self,
+        alloc: Global,
+        connection: usize,
+        client: usize,
+        connect: &Connect,
+        will: &Option<LastWill>,
+    ) -> Result<(), StateError>
+        ensures ok { OnOk result
+            (self.new ≡ returns_to_its connection client connect.now will.now self.old) }
+        ensures memory { IfErr result (λ e. e ≡ StateError.OutOfMemory) }
+    {
+        let user = user_of(self.connections.as_slice(), connection);
+        if is_same(user, owner_at(client, self.members.as_slice())) {
+            self.bring_back(alloc, connection, client, connect, will)?;
+            return Ok(());
+        }
+        self.turn_away(connection, ConnectReturnCode::ClientIdentifierNotValid)?;
+        Ok(())
+    }
+
     /// A client comes that isn't refused. S12.
     #[tactic(auto, unfolding(crate::specs::Serving::admits))]
     fn admit(
@@ -396,7 +421,7 @@ impl Broker {
         }
         match number_of(&connect.client_id, self.members.as_slice()) {
             Some(client) => {
-                self.bring_back(alloc, connection, client, connect, will)?;
+                self.bring_back_its(alloc, connection, client, connect, will)?;
                 Ok(())
             }
             None => {
@@ -423,6 +448,25 @@ impl Broker {
         Ok(())
     }
 
+    /// Why a Connect is refused, if it is.
+    #[tactic(auto, unfolding(crate::specs::Serving::entry_fault))]
+    fn entry_fault(
+        &self,
+        connection: usize,
+        connect: &Connect,
+        will: &Option<LastWill>,
+    ) -> Option<ConnectReturnCode>
+        ensures { result ≡ entry_fault connection connect.now will.now self.now }
+    {
+        match connect_fault(connect, will) {
+            Some(code) => Some(code),
+            None => {
+                let user = user_of(self.connections.as_slice(), connection);
+                will_denial(user, self.rights.as_slice(), will)
+            }
+        }
+    }
+
     /// A Connect. S12.
     #[tactic(auto, unfolding(crate::specs::Serving::connects))]
     fn connect(
@@ -435,7 +479,7 @@ impl Broker {
         ensures ok { OnOk result (self.new ≡ connects connection connect.now will.now self.old) }
         ensures memory { IfErr result (λ e. e ≡ StateError.OutOfMemory) }
     {
-        match connect_fault(connect, will) {
+        match self.entry_fault(connection, connect, will) {
             Some(code) => {
                 self.turn_away(connection, code)?;
                 Ok(())

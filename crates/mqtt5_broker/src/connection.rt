@@ -2,7 +2,7 @@
 
 ghost use Rattle.std.specs.Prelude.{◌≡◌, ◌≢◌, ◌∷◌, ◌++◌, Some, OnOk, OnErr, IfOk};
 ghost use Rattle.std.specs.Option.{option_to_list};
-ghost use Rattle.mqtt5_broker.specs.Connection.{closed, opened, heard, taken_by, shut, written, written_all, told, emptied, holding, with_sent};
+ghost use Rattle.mqtt5_broker.specs.Connection.{closed, opened, heard, taken_by, shut, written, written_all, told, of_user, emptied, holding, with_sent};
 ghost use Rattle.mqtt5_broker.specs.Asking.{kept_on};
 
 use crate::moments::unless_zero;
@@ -15,13 +15,14 @@ use std::collections::VecDeque;
 use std::marker::Model;
 use std::mem;
 
-/// A connection of a broker: whether bytes of it are taken, which client connected on it, the longest packet that this client
-/// takes, the bytes that came in and are no whole frame yet, those to be sent, for how many milliseconds it may be silent, and the
-/// moment at which it was silent for too long (MQTT 5.0 sections 3.1.2.10, 3.1.2.11.4 and 4.2).
+/// A connection of a broker: whether bytes of it are taken, which client connected on it, which user's it is, the longest packet
+/// that this client takes, the bytes that came in and are no whole frame yet, those to be sent, for how many milliseconds it may be
+/// silent, and the moment at which it was silent for too long (MQTT 5.0 sections 3.1.2.10, 3.1.2.11.4, 4.2 and 5.4.1).
 #[derive(Debug, Drop)]
 pub struct Connection {
     is_open: bool,
     client: Option<usize>,
+    user: Option<usize>,
     longest: Option<u32>,
     held: BytesMut,
     output: BytesMut,
@@ -37,6 +38,7 @@ impl Model for Connection {
     ghost view = { λ a. record {
       is_open = a.is_open;
       client = a.client;
+      user = a.user;
       longest = a.longest;
       held = a.held.items;
       output = a.output.items;
@@ -63,6 +65,7 @@ impl Connection {
         Connection {
             is_open: false,
             client: None,
+            user: None,
             longest: None,
             held: BytesMut::new(alloc),
             output: BytesMut::new(alloc),
@@ -78,6 +81,7 @@ impl Connection {
         Connection {
             is_open: true,
             client: None,
+            user: None,
             longest: None,
             held: BytesMut::new(alloc),
             output: BytesMut::new(alloc),
@@ -112,6 +116,20 @@ impl Connection {
         ensures { result ≡ self.now.client }
     {
         self.client
+    }
+
+    /// The number of the user that it is of.
+    pub(super) fn user(&self) -> Option<usize>
+        ensures { result ≡ self.now.user }
+    {
+        self.user
+    }
+
+    /// It is of a user.
+    pub(super) fn identify(&mut self, user: usize)
+        ensures { self.new ≡ of_user user self.old }
+    {
+        self.user = Some(user);
     }
 
     /// The bytes to be sent.

@@ -28,6 +28,16 @@ pub(super) fn client_at(connections: &[Connection], connection: usize) -> Option
     connections[connection].client()
 }
 
+/// The user that a connection is of.
+pub(super) fn user_of(connections: &[Connection], connection: usize) -> Option<usize>
+    ensures { result ≡ (connection_at connection connections.now).user }
+{
+    if connection >= connections.len() {
+        return None;
+    }
+    connections[connection].user()
+}
+
 /// Whether a connection is that of a client.
 fn is_of(client: usize, connection: &Connection) -> bool
     ensures { result ≡ is_of client connection.now }

@@ -1,13 +1,27 @@
 //! What holds of the definitions of a broker.
 
-ghost use Rattle.std.specs.Prelude.{◌≡◌, ◌≢◌, ◌++◌, [], ℕ, List, Option, None, false, max, replicate};
+ghost use Rattle.std.specs.Prelude.{◌≡◌, ◌≢◌, ◌⊎◌, ◌++◌, [], ℕ, List, Option, Some, None, Bool, true, false, ◌==◌, length, max, replicate};
+ghost use Rattle.std.specs.List.{All};
+ghost use Rattle.mqtt5_base.specs.Texts.{Utf8};
+ghost use Rattle.mqtt5_base.specs.Topics.{topic_matches};
 ghost use Rattle.mqtt5_base.specs.declared.error.Error.{Error};
+ghost use Rattle.mqtt5_publish.specs.declared.publish.Publish.{Publish};
+ghost use Rattle.mqtt5_connect.specs.declared.connect.Connect.{Connect};
+ghost use Rattle.mqtt5_connect.specs.declared.will.LastWill.{LastWill};
+ghost use Rattle.mqtt5_control.specs.declared.connack.ConnectReturnCode.TheVariants as return_codes;
+ghost use Rattle.mqtt5_control.specs.declared.disconnect.DisconnectReasonCode.{DisconnectReasonCode};
+ghost use Rattle.mqtt5_codec.specs.declared.packet.Packet.{Packet};
+ghost use Rattle.mqtt5_codec.specs.declared.packet.Packet.TheVariants as packets;
+ghost use Rattle.mqtt5_network.specs.declared.subscription.Subscription.{Subscription};
+ghost use Rattle.mqtt5_network.specs.Subscriptions.{forwarded_to};
+ghost use Rattle.mqtt5_network.specs.Retained.{copies_for};
 ghost use Rattle.mqtt5_sessions.specs.Runs.{SessionEvent, after_events};
 ghost use Rattle.mqtt5_broker.specs.Cut.{cut_up, goes_on_as, Breaks};
 ghost use Rattle.mqtt5_broker.specs.Connection.{closed, with_sent, connection_at};
 ghost use Rattle.mqtt5_broker.specs.Moments.{has_come};
-ghost use Rattle.mqtt5_broker.specs.Broker.{Broker, at_moment, on_connection};
-ghost use Rattle.mqtt5_broker.specs.Serving.{passes_on};
+ghost use Rattle.mqtt5_broker.specs.Rights.{Rights, rights_at, is_within, may_publish, may_do};
+ghost use Rattle.mqtt5_broker.specs.Broker.{Broker, at_moment, on_connection, number_of, user_at, owner_at, is_same, refuses};
+ghost use Rattle.mqtt5_broker.specs.Serving.{serves, turns_away, admits, passes_on};
 ghost use Rattle.mqtt5_broker.specs.Receiving.{receives, ends_with, opens, closes};
 ghost use Rattle.mqtt5_broker.specs.Clock.{ticks, next_moment, shuts_down};
 ghost use Rattle.mqtt5_broker.specs.Bounds.{trims_all};
@@ -16,8 +30,9 @@ ghost use Rattle.mqtt5_broker.specs.Acts.{Act, acts, events_in, output_at, Sends
 ghost use Rattle.mqtt5_broker.specs.declared.asking.Asks.TheVariants as asks;
 ghost use Rattle.mqtt5_broker.specs.Asking.{holds, asks_at};
 ghost use Rattle.mqtt5_broker.specs.Calls.{Call, after_calls};
+ghost use Rattle.mqtt5_broker.specs.Within.{subscriptions_at, IsWithin};
 
-use mqtt5_base::front_laws;
+use mqtt5_base::{front_laws, matching_laws};
 
 /// A law, which does nothing when it is called: bytes that come in any pieces are the same as the whole (4.2).
 pub fn pieces_law()
@@ -110,3 +125,38 @@ pub fn any_calls_law()
     ensures standing { (calls : List Call) (b : Broker)
         → IsStanding b → IsStanding (after_calls calls b) }
 {}
+
+/// A law, which does nothing when it is called: what is put into the queue of a client that connected as a user is of topics to which
+/// that user may subscribe, what it may not publish comes to no session, and it has no session of another user (5.4.2).
+pub fn rights_law()
+    // A topic that matches a filter within others matches one of these.
+    ensures filters { (t f : List ℕ) (fs : List Utf8)
+        → topic_matches t f ≡ true → is_within f fs ≡ true → is_within t fs ≡ true }
+    // Each subscription of such a client lies within what its user may subscribe to: so it is in a new broker, and after any calls.
+    ensures new { (b : Broker) → b.sessions.clients ≡ [] → b.members ≡ [] → IsWithin b }
+    ensures calls { (calls : List Call) (b : Broker)
+        → IsStanding b → IsWithin b → IsWithin (after_calls calls b) }
+    // And then so does the topic of what is forwarded to it.
+    ensures forwarded { (i u : ℕ) (own : Bool) (p q : Publish) (b : Broker)
+        → IsWithin b → owner_at i b.members ≡ Some u
+        → forwarded_to own (subscriptions_at i b.sessions) p ≡ Some q
+        → is_within p.topic (rights_at u b.rights).subscribes ≡ true }
+    // So does that of each retained message that a Subscribe of it brings.
+    ensures copies { (u : ℕ) (rs : List Rights) (kept : List Publish) (ss : List Subscription)
+        (x : Packet) → may_do (Some u) rs x ≡ true
+        → All (λ (p : Publish). is_within p.topic (rights_at u rs).subscribes ≡ true)
+        (copies_for kept ss x) }
+    // A publish that its user may not publish changes no session, or its connection ends by a fault of it.
+    ensures publish { (c i : ℕ) (p : Publish) (b : Broker)
+        → may_publish (owner_at i b.members) b.rights p.topic ≡ false
+        → ((serves c i (packets.Publish p) b).sessions ≡ b.sessions)
+        ⊎ ((reason : DisconnectReasonCode)
+        × (serves c i (packets.Publish p) b ≡ refuses c i reason b)) }
+    // A client isn't connected under the identifier of another user's session.
+    ensures other { (c i : ℕ) (k : Connect) (will : Option LastWill) (b : Broker)
+        → (length k.client_id.bytes == 0) ≡ false → number_of k.client_id b.members ≡ Some i
+        → is_same (user_at c b) (owner_at i b.members) ≡ false
+        → admits c k will b ≡ turns_away c return_codes.ClientIdentifierNotValid b }
+{
+    matching_laws();
+}

@@ -13,6 +13,7 @@ mod judging;
 mod laws;
 mod member;
 mod moments;
+mod rights;
 mod serving;
 mod wills;
 
@@ -21,4 +22,5 @@ pub use bounds::Bounds;
 pub use broker::{Broker, Limits};
 pub use laws::{
     acts_law, any_calls_law, asking_law, clock_law, connections_law, fault_law, pieces_law,
+    rights_law,
 };

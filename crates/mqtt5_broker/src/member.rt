@@ -4,7 +4,7 @@ ghost use Rattle.std.specs.Prelude.{◌≡◌, ◌++◌, Some, None, is_none, If
 ghost use Rattle.std.specs.Fmt.{decimal};
 ghost use Rattle.std.specs.List.{position};
 ghost use Rattle.mqtt5_base.specs.Texts.{Utf8};
-ghost use Rattle.mqtt5_broker.specs.Broker.{is_named, number_of, free_number, member_at, name_in, name_of, assigned_name, number_after, stays_at, stays_of, has_ended, will_is_due, end_of, due_of, away, gone, expiring, undue, on_member};
+ghost use Rattle.mqtt5_broker.specs.Broker.{is_named, number_of, free_number, member_at, name_in, name_of, owner_at, owner_of, is_same, assigned_name, number_after, stays_at, stays_of, has_ended, will_is_due, end_of, due_of, away, gone, expiring, undue, on_member};
 ghost use Rattle.mqtt5_broker.specs.Serving.{or_else, expiry_of, receive_max_of, longest_of, silence_of, member_of};
 
 use crate::moments::{has_come, seconds_after};
@@ -18,6 +18,8 @@ use std::alloc::{AllocError, Global};
 pub struct Member {
     /// Its client identifier.
     pub name: Text,
+    /// The number of the user whose session it has, if it connected as one.
+    pub owner: Option<usize>,
     /// After how many seconds its session ends once its connection has: 0 is at once, 4294967295 never.
     pub expiry: u32,
     /// After how many seconds its will is published then, if it has one: 0 is at once.
@@ -156,6 +158,30 @@ pub(super) fn name_in(client: Option<usize>, members: &[Option<Member>]) -> &str
     }
 }
 
+/// The user whose session the client of a number has.
+pub(super) fn owner_at(client: usize, members: &[Option<Member>]) -> Option<usize>
+    ensures { result ≡ owner_at client members.now }
+{
+    if client >= members.len() {
+        return None;
+    }
+    match &members[client] {
+        Some(member) => member.owner,
+        None => None,
+    }
+}
+
+/// Whether two users are the same, or both are none.
+pub(super) fn is_same(user: Option<usize>, other: Option<usize>) -> bool
+    ensures { result ≡ is_same user other }
+{
+    match (user, other) {
+        (None, None) => true,
+        (Some(user), Some(other)) => user == other,
+        _ => false,
+    }
+}
+
 /// The name that a client is given that says none, by its number. Err where memory is refused.
 pub(super) fn assigned_name(alloc: Global, number: u64) -> Result<Text, AllocError>
     ensures { IfOk result (λ t. t ≡ assigned_name number) }
@@ -245,12 +271,17 @@ pub(super) fn silence_of(connect: &Connect) -> u32
     1500 * connect.keep_alive as u32
 }
 
-/// By what a client is known that sent this.
-pub(super) fn member_of(connect: &Connect, will: &Option<LastWill>) -> Result<Member, AllocError>
-    ensures { IfOk result (λ m. m ≡ member_of connect.now will.now) }
+/// By what a client is known that sent this, of a user.
+pub(super) fn member_of(
+    user: Option<usize>,
+    connect: &Connect,
+    will: &Option<LastWill>,
+) -> Result<Member, AllocError>
+    ensures { IfOk result (λ m. m ≡ member_of user connect.now will.now) }
 {
     Ok(Member {
         name: copied(&connect.client_id)?,
+        owner: user,
         expiry: expiry_of(&connect.properties),
         delay: delay_in(will),
         ends: None,

@@ -1,20 +1,23 @@
 //! What a broker makes of the packets of a client that is connected.
 
 ghost use Rattle.std.specs.Prelude.{◌≡◌, Some, OnOk, OnErr, IfErr};
+ghost use Rattle.mqtt5_codec.specs.declared.packet.Packet.TheVariants as packets;
 ghost use Rattle.std.specs.Option.{option_to_list};
 ghost use Rattle.mqtt5_control.specs.declared.disconnect.DisconnectReasonCode.TheVariants as reasons;
 ghost use Rattle.mqtt5_broker.specs.Connection.{written, written_all, shut, told};
 ghost use Rattle.mqtt5_broker.specs.Broker.{forgets, loses_client, leaves_client, publishes_will, refuses, dismisses, dismisses_of, on_connection, stays_at};
-ghost use Rattle.mqtt5_broker.specs.Serving.{kind_of, arrives_from, disconnects, fault_of, serves, serves_as};
+ghost use Rattle.mqtt5_broker.specs.Serving.{kind_of, arrives_from, denies, brings, disconnects, fault_of, serves, serves_as};
 
 use crate::broker::Broker;
 use crate::connections::{client_at, is_open_at, shut_at, tell_at, write_at, write_some_at};
 use crate::judging::{client_fault, new_expiry};
-use crate::member::{away_at, expiring_at, gone_at, stays_at, undue_at};
+use crate::member::{away_at, expiring_at, gone_at, owner_at, stays_at, undue_at};
+use crate::rights::{denial, may_do, part_of, suback_for};
 use mqtt5_codec::Packet;
 use mqtt5_control::DisconnectReasonCode;
 use mqtt5_publish::PingResp;
 use mqtt5_session::StateError;
+use mqtt5_subscribe::Subscribe;
 use std::alloc::Global;
 
 /// What a packet of a client asks for.
@@ -194,6 +197,82 @@ impl Broker {
         Ok(())
     }
 
+    /// Of a Subscribe what its user may subscribe to comes to the session of its client, and the rest is denied. S12.
+    #[tactic(auto, unfolding(crate::specs::Serving::denies))]
+    fn subscribe_part(
+        &mut self,
+        alloc: Global,
+        connection: usize,
+        client: usize,
+        user: Option<usize>,
+        subscribe: Subscribe,
+    ) -> Result<(), StateError>
+        ensures ok { OnOk result (self.new
+            ≡ denies user connection client (packets.Subscribe subscribe) self.old) }
+        ensures memory { IfErr result (λ e. e ≡ StateError.OutOfMemory) }
+    {
+        let rights = self.rights.as_slice();
+        let answer = suback_for(alloc, user, rights, &subscribe)?;
+        let part = Packet::Subscribe(part_of(user, rights, subscribe));
+        let reply = self.sessions.arrive(alloc, client, part)?;
+        drop(reply);
+        let written = write_at(&mut self.connections, connection, &answer);
+        drop(answer);
+        written?;
+        Ok(())
+    }
+
+    /// A packet asks for more than its user may do. S12.
+    #[tactic(auto, unfolding(crate::specs::Serving::denies))]
+    fn deny(
+        &mut self,
+        alloc: Global,
+        connection: usize,
+        client: usize,
+        user: Option<usize>,
+        packet: Packet,
+    ) -> Result<(), StateError>
+        ensures ok { OnOk result (self.new ≡ denies user connection client packet self.old) }
+        ensures memory { IfErr result (λ e. e ≡ StateError.OutOfMemory) }
+    {
+        match packet {
+            Packet::Publish(publish) => {
+                let answer = denial(publish.qos, publish.pkid);
+                drop(publish);
+                let written = write_some_at(&mut self.connections, connection, &answer);
+                drop(answer);
+                written?;
+                Ok(())
+            }
+            Packet::Subscribe(subscribe) => {
+                self.subscribe_part(alloc, connection, client, user, subscribe)
+            }
+            other => {
+                drop(other);
+                Ok(())
+            }
+        }
+    }
+
+    /// What a packet asks for is done, where the user whose session its client has may do that. S12.
+    #[tactic(auto, unfolding(crate::specs::Serving::brings))]
+    fn bring(
+        &mut self,
+        alloc: Global,
+        connection: usize,
+        client: usize,
+        packet: Packet,
+    ) -> Result<(), StateError>
+        ensures ok { OnOk result (self.new ≡ brings connection client packet self.old) }
+        ensures memory { IfErr result (λ e. e ≡ StateError.OutOfMemory) }
+    {
+        let user = owner_at(client, self.members.as_slice());
+        if may_do(user, self.rights.as_slice(), &packet) {
+            return self.arrive(alloc, connection, client, packet);
+        }
+        self.deny(alloc, connection, client, user, packet)
+    }
+
     /// A client says why it ends its connection. S12.
     #[tactic(auto, unfolding(crate::specs::Serving::disconnects))]
     fn disconnect(
@@ -245,7 +324,7 @@ impl Broker {
                 Ok(())
             }
             Kind::Message => {
-                self.arrive(alloc, connection, client, packet)?;
+                self.bring(alloc, connection, client, packet)?;
                 Ok(())
             }
         }

@@ -3,13 +3,15 @@
 use Rattle.std.specs.Prelude.{◌≡◌, ◌⊎◌, ℕ, Bool, not, nat_lt, ◌&&◌, List, [], ◌++◌, length, min}
 use Rattle.std.specs.Prelude.{take, drop, replicate, Option, None, Some, IsSome, option_map}
 use Rattle.std.specs.Prelude.{if◌then◌else◌}
+use Rattle.std.specs.Str.{is_utf8}
+use Rattle.mqtt5_base.specs.Topics.{is_valid_filter}
 use Rattle.mqtt5_control.specs.declared.connack.ConnectReturnCode.{ConnectReturnCode}
 use Rattle.mqtt5_control.specs.declared.connack.ConnectReturnCode.TheVariants as codes
 use Rattle.mqtt5_broker.specs.declared.asking.Asks.{Asks}
 use Rattle.mqtt5_broker.specs.declared.asking.Asks.TheVariants as asks
 use Rattle.mqtt5_broker.specs.Broker.{Broker, no_bounds}
 use Rattle.mqtt5_broker.specs.Connection.{closed, connection_at}
-use Rattle.mqtt5_broker_c.specs.Numbers.{done, no_broker, out_of_memory}
+use Rattle.mqtt5_broker_c.specs.Numbers.{done, no_broker, bad_argument, out_of_memory}
 
 -- the number of a call that is done, or that there is no broker for
 abbrev pub done_of : Option Broker → ℕ
@@ -68,6 +70,7 @@ fresh connections longest ids wait = record {
   sessions = record { clients = []; retained = [] };
   members = [];
   connections = replicate connections closed;
+  rights = [];
   limit = ids;
   longest = longest;
   wait = wait;
@@ -100,3 +103,21 @@ password_in other = []
 -- why one is turned away that said who it is, or didn't (3.2.2.2)
 abbrev pub code_for : Bool → ConnectReturnCode
 code_for named = if named then codes.BadUserNamePassword else codes.NotAuthorized
+
+-- ---- users
+
+-- whether bytes are a topic filter (4.7), and there is a user of this number
+abbrev pub takes_filter : ℕ → List ℕ → Broker → Bool
+takes_filter u f b = is_utf8 f && is_valid_filter f && nat_lt u (length b.rights)
+
+-- the number of a call that takes some arguments alone
+abbrev pub done_if : (Broker → Bool) → Option Broker → ℕ
+done_if takes None = no_broker
+done_if takes (Some b) = if takes b then done else bad_argument
+
+-- It is done where the arguments are taken, and else nothing changes; or memory was refused.
+abbrev pub DoesIf : (Broker → Bool) → (Broker → Broker) → Option Broker → ℕ → Option Broker → Type 0
+DoesIf takes changes before code after =
+    ((code ≡ done_if takes before)
+    × (after ≡ option_map (λ (b : Broker). if takes b then changes b else b) before))
+    ⊎ IsLeft unchanged before code after

@@ -9,4 +9,5 @@ mod connection;
 mod handle;
 mod life;
 mod number;
+mod rights;
 mod stream;

@@ -15,7 +15,9 @@ use std::test::Fail;
 /// answers that without any, `pass` passes the first of a queue on, `name` answers its client's name, and `close` ends the
 /// connection. `tick` says which moment it is, in milliseconds, at first 0; `next` answers the next at which something is due, and
 /// `end` ends the broker. `hold` has bytes held alone, `asks` answers who wants to connect, with name and password, 0 without these and
-/// `-` where there is nobody, and `reject` turns a client away with a code, and answers what it is sent. `bound` says how many clients, subscriptions of a client, retained messages, publishes of a queue and bytes
+/// `-` where there is nobody, and `reject` turns a client away with a code, and answers what it is sent. `user` adds a user, and
+/// answers its number, which `pub` and `sub` let publish and subscribe within a filter, and `as` says that a connection is of one.
+/// `bound` says how many clients, subscriptions of a client, retained messages, publishes of a queue and bytes
 /// of these there may be, and `trim` ends sessions for which there is more. The broker has four connections, takes packets of 64
 /// bytes and fewer, and waits five seconds for a Connect.
 ///
@@ -45,6 +47,9 @@ use std::test::Fail;
 /// Then bounds: one client, who is connected, who is away, and beside one that says no name; one subscription, which another
 /// replaces; one retained message, which another replaces and an empty one drops; and queues, of a client that is connected and of
 /// one that is away, by messages and by bytes.
+///
+/// Then users: what one may not publish, of each QoS and retained, and subscribe to, of two filters one; filters with wildcards, and
+/// one that may do more; a will; a session that is another user's, or nobody's, until it has ended; and a user that there isn't.
 const ROWS: &str =
     "open:0=1; open:0=0; open:9=0; open:1=1; in:0:100E00044D5154540502000000000161=200C000009270000004029002A00; in:1:100E00044D5154540502000000000162=200C000009270000004029002A00; in:1:82090001000003612F6202=900400010002; in:0:34090003612F6200050078=50020005; out:1=-; pass:1=1; out:1=34090003612F6200010078; pass:1=0; in:1:50020001=62020001; in:1:70020001=-; in:0:62020005=70020005; in:0:C000=D000; in:0:E000=-; is:0=0; is:1=1; in:0:C000=-; close:0; open:0=1
 open:0=1; in:0:10=-; in:0:0E00044D5154540502=-; in:0:000000000161C000=200C000009270000004029002A00D000; in:0:C0=-; in:0:00C0=D000; in:0:00=D000
@@ -118,6 +123,11 @@ bound:9,9,1,9,999; open:0=1; in:0:100E00044D5154540502000000000161=200C000009270
 bound:9,9,9,1,999; open:0=1; open:1=1; in:0:100E00044D5154540502000000000161=200C000009270000004029002A00; in:0:820700010000017700=900400010000; in:1:100E00044D5154540502000000000162=200C000009270000004029002A00; in:1:30050001770067=-; trim; is:0=1; in:1:30050001770067=-; trim; is:0=0; out:0=E0029700; in:1:C000=D000
 bound:9,9,9,1,999; open:0=1; open:1=1; in:0:101300044D515454050000000511FFFFFFFF000161=200C000009270000004029002A00; in:0:820700010000017700=900400010000; close:0; in:1:100E00044D5154540502000000000162=200C000009270000004029002A00; in:1:30050001770067=-; in:1:30050001770067=-; trim; open:0=1; in:0:101300044D515454050000000511FFFFFFFF000161=200C000009270000004029002A00; pass:0=0
 bound:9,9,9,9,13; open:0=1; open:1=1; in:0:100E00044D5154540502000000000161=200C000009270000004029002A00; in:0:820700010000017700=900400010000; in:1:100E00044D5154540502000000000162=200C000009270000004029002A00; in:1:30050001770067=-; trim; is:0=1; in:1:30050001770067=-; trim; is:0=0; out:0=E0029700
+user=0; pub:0:a; sub:0:a/#; open:0=1; as:0:0; in:0:100E00044D5154540502000000000161=200C000009270000004029002A00; in:0:820B0001000001610100016201=90050001000187; in:0:32070001620009007A=400400098700; in:0:3407000162000A007A=5004000A8700; in:0:3005000162007A=-; in:0:3105000162007A=-; pass:0=0; in:0:320700016100090078=40020009; pass:0=1; out:0=320700016100010078; open:1=1; in:1:100E00044D5154540502000000000162=200C000009270000004029002A00; in:1:820B0002000001620100016101=90050002000101; pass:1=0; in:1:30050001620079=-; pass:0=0; pass:1=1; out:1=30050001620079
+user=0; sub:0:+/b; open:0=1; as:0:0; in:0:100E00044D5154540502000000000161=200C000009270000004029002A00; in:0:820D0001000003612F620200012B00=90050001000287; in:0:820800020000022B2F00=900400020087; in:0:820800030000022F6201=900400030001; in:0:32090003612F6200050078=400400058700; sub:0:+; pub:0:#; in:0:820700040000012B01=900400040001; in:0:32090003612F6200050078=40020005; pass:0=1; out:0=32090003612F6200010078
+user=0; pub:0:w; open:0=1; as:0:0; in:0:101500044D515454050600000000016100000176000167=2003008700; is:0=0; open:1=1; as:1:0; in:1:101500044D515454050600000000016100000177000167=200C000009270000004029002A00
+user=0; user=1; open:0=1; as:0:0; in:0:101300044D515454050000000511FFFFFFFF000161=200C000009270000004029002A00; open:1=1; as:1:1; in:1:100E00044D5154540502000000000161=2003008500; is:1=0; in:0:C000=D000; as:0:1; close:0; close:1; open:1=1; in:1:100E00044D5154540502000000000161=2003008500; open:2=1; as:2:0; in:2:101300044D515454050000000511FFFFFFFF000161=200C010009270000004029002A00; in:2:E0070000051100000000=-; close:2; open:2=1; as:2:1; in:2:100E00044D5154540502000000000161=200C000009270000004029002A00
+open:0=1; as:0:5; in:0:100E00044D5154540502000000000161=200C000009270000004029002A00; in:0:820700010000016101=900400010087; in:0:320700016100090078=400400098700; pub:5:#; as:9:0; user=0; in:0:C000=D000
 ";
 
 /// What stands before the first mark of a text, and what behind it.
@@ -260,6 +270,12 @@ fn calls(
             let asks = broker.asks(alloc, connection)?;
             Ok(adds_asks(alloc, &asks, text)?)
         }
+        "pub" => broker.allow_publish(alloc, connection, bytes),
+        "sub" => broker.allow_subscribe(alloc, connection, bytes),
+        "as" => {
+            broker.identify(connection, number_of(bytes)?);
+            Ok(())
+        }
         "reject" => {
             rejects(broker, connection, bytes)?;
             Ok(sends(alloc, broker, connection, text)?)
@@ -299,6 +315,11 @@ fn happens(
         }
         "bound" => {
             broker.set_bounds(bounds_of(digits)?);
+            Ok(at)
+        }
+        "user" => {
+            let user = broker.add_user(alloc)?;
+            adds_moment(alloc, Some(user as u64), text)?;
             Ok(at)
         }
         "trim" => {
