@@ -109,7 +109,7 @@ static const char *const reasons[] = {
 
 /* A byte of the body of a packet that is sent. The reason of a ConnAck is the second one (3.2.2.2), and that of a Disconnect the first
    (3.14.2.1). That of a PubAck and a PubRec is the third (3.4.2, 3.5.2), and a SubAck, which has no properties here, has codes from the
-   fourth on (3.9.3). What is denied is logged once of each connection. */
+   fourth on (3.9.3). That something is denied is logged once of each connection; of a publish of QoS 0 nothing is sent. */
 static void note(struct connection *k, uint8_t byte) {
     unsigned kind = k->first >> 4, at = k->at;
     if ((kind == 2 && at == 1) || (kind == 14 && at == 0)) k->reason = byte;
@@ -291,7 +291,8 @@ static uint32_t hand_in(size_t c, size_t len) {
     }
     if (judgement == NO_MEMORY) return MQTT5_BROKER_OUT_OF_MEMORY;
     if (asks != MQTT5_BROKER_NOBODY && judgement != KNOWN) return mqtt5_broker_reject(&broker, c, asks == MQTT5_BROKER_NAMED);
-    if (judgement == KNOWN) mqtt5_broker_identify(&broker, c, user);
+    if (judgement == KNOWN) done = mqtt5_broker_identify(&broker, c, user);
+    if (done != MQTT5_BROKER_DONE) return done;
     return mqtt5_broker_receive(&broker, c, in, 0, now);
 }
 

@@ -64,6 +64,7 @@ static char *access_of(char *rest, bool *reads, bool *writes) {
     if ((filter = behind(rest, "readwrite"))) return filter;
     if ((filter = behind(rest, "read"))) *writes = false;
     else if ((filter = behind(rest, "write"))) *reads = false;
+    if (!filter && strpbrk(rest, " \t")) refuse_line("has none of read, write and readwrite before a filter with a blank");
     return filter ? filter : rest;
 }
 
@@ -95,7 +96,7 @@ void rights_read(mqtt5_broker *of, const char *file) {
     size_t number;
     broker = of;
     for (size_t each = 0; users_name(each); each++) {
-        if (mqtt5_broker_add_user(broker, &number) != MQTT5_BROKER_DONE) refuse("users", strerror(ENOMEM));
+        if (mqtt5_broker_add_user(broker, &number) != MQTT5_BROKER_DONE || number != each) refuse("users", strerror(ENOMEM));
         if (!file) allow(each, "#", true, true);
     }
     if (file) each_line(file, read_line);

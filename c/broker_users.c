@@ -48,6 +48,7 @@ static void read_line(char *line) {
     char *colon = strchr(line, ':');
     if (!colon || colon == line) refuse_line("isn't NAME:HASH");
     *colon = 0;
+    if (strchr(" \t", *line) || strchr(" \t\r", colon[-1])) refuse_line("has a name that begins or ends with white space");
     if (users_find((const uint8_t *)line, strlen(line)) < count) refuse_line("has a name that another line has");
     clock_gettime(CLOCK_MONOTONIC, &from);
     if (!is_method(colon + 1) || !hashed("", colon + 1)) refuse_line("has no hash of a method that is taken");

@@ -79,10 +79,10 @@ uint32_t mqtt5_broker_add_user(mqtt5_broker *b, size_t *user);
 uint32_t mqtt5_broker_allow_publish(mqtt5_broker *b, size_t user, const uint8_t *filter, size_t filter_len);
 uint32_t mqtt5_broker_allow_subscribe(mqtt5_broker *b, size_t user, const uint8_t *filter, size_t filter_len);
 
-/* The client of a connection that isn't connected yet will connect as this user. What it may not do is answered with Not authorized
-   (0x87), its Connect where its will is of that; a publish of QoS 0 is dropped. And it has sessions of that user alone: by the
-   identifier of another's it is refused with Client Identifier not valid (0x85). Clients that connect as no user may do
-   everything, but with sessions of no user. */
+/* The client of a connection that isn't connected yet will connect as this user; of one that is connected, or isn't open, nothing
+   changes. What it may not do is answered with Not authorized (0x87), its Connect where its will is of that; a publish of QoS 0 is
+   dropped. And it has sessions of that user alone: by the identifier of another's it is refused with Client Identifier not valid
+   (0x85). Clients that connect as no user may do everything, but with sessions of no user. */
 uint32_t mqtt5_broker_identify(mqtt5_broker *b, size_t connection, size_t user);
 
 /* Turns a client away that isn't connected yet, with Bad User Name or Password (0x86) where `named` is true, and else with Not

@@ -155,6 +155,7 @@ static void as_user(mqtt5_broker *b, size_t connection, told *t) {
     EXPECT(mqtt5_broker_allow_subscribe(b, user, NULL, 0), MQTT5_BROKER_BAD_ARGUMENT);
     TWICE(mqtt5_broker_allow_publish(b, user, BYTES("a")));
     TWICE(mqtt5_broker_allow_subscribe(b, user, BYTES("a/#")));
+    EXPECT(mqtt5_broker_identify(b, connection, 2), MQTT5_BROKER_BAD_ARGUMENT);
     EXPECT(mqtt5_broker_identify(b, connection, user), MQTT5_BROKER_DONE);
     comes(b, connection, BYTES(CONNECT_E), 0, t);
     comes(b, connection, BYTES(SUBSCRIBE_TO_BOTH), 0, t);

@@ -1281,7 +1281,7 @@ async def users_file(_):
             ("", "has no user"), ("# nobody\n", "has no user"), ("ada\n", "line 1 isn't NAME:HASH"), (f"\n:{known}\n", "line 2 isn't NAME:HASH"),
             ("ada:\n", "line 1 has no hash"), ("ada:x\n", "line 1 has no hash"), ("ada:secret\n", "line 1 has no hash"),
             (f"ada:{hash_of('longpassword', 'ab')}\n", "line 1 has no hash"), ("ada:$6$rounds=abc$x\n", "line 1 has no hash"),
-            ("ada:$2b$99$" + 53 * "a" + "\n", "line 1 has no hash"), (f"ada:{known}\r\n", "line 1 has no hash"), (f"a:b:{known}\n", "line 1 has no hash"),
+            ("ada:$2b$99$" + 53 * "a" + "\n", "line 1 has no hash"), (f"ada:{known}\r\n", "line 1 has no hash"), (f"a:b:{known}\n", "line 1 has no hash"), (f" ada:{known}\n", "line 1 has a name that begins or ends"),
             (f"ada:{known}\nada:{known}\n", "line 2 has a name that another line has"), (f"a\0da:{known}\n", "line 1 has a zero byte")):
         path = f"{FOLDER}/users-file"
         with open(path, "w", newline="") as file:
@@ -1299,7 +1299,7 @@ topic read news/+
 topic write inbox/bé b
 
 user bé b
-topic inbox/bé b
+topic readwrite inbox/bé b
 topic write  news/a b
 
 pattern readwrite of/%u/#
@@ -1350,7 +1350,7 @@ async def rights(_):
 
 @row(mosquitto=False)
 async def rights_subscribe(_):
-    """Each filter of a Subscribe is granted where all that it matches lies within those of the user, and else denied, by itself
+    """Each filter of a Subscribe is granted where it lies, level by level, within one of the user's, and else denied, by itself
     (3.9.3); a will beyond them refuses the Connect (3.2.2.2)."""
     async with started(users=USERS, rights=RIGHTS) as b:
         ada = b.client("rights-subscribe")
@@ -1382,7 +1382,7 @@ async def rights_subscribe(_):
                 one.cut()
             else:
                 await one.is_refused(0x87)
-        # One without a line may do nothing, and one for whom a pattern doesn't stand as much as the other lines say.
+        # One without lines of its own has those for all.
         none = b.client("rights-none")
         await none.connect(login=("none", ""))
         assert await none.subscribe("all", "of/none/x", "ada/x") == [2, 2, 0x87]
@@ -1435,13 +1435,28 @@ async def rights_file(_):
             ("\nuser ada\ntopic a/#/b\n", "line 3 has no topic filter"), ("user ada\ntopic read \n", "line 2 ends with white space"),
             ("user ada\ntopic deny a\n", "line 2 has deny"), ("pattern of/%c\n", "line 1 has %c"), ("pattern of/x%u\n", "line 1 has %u within"),
             ("pattern of/%ux\n", "line 1 has %u within"), ("user ada\ntopics a\n", "line 2 isn't user"), ("user\n", "line 1 isn't user"),
-            ("user ada\ntopic \xff\n", "line 2 has no topic filter"), ("user ada\r\n", "line 1 ends with white space"), ("a\0\n", "line 1 has a zero byte")):
+            ("user ada\ntopic \xff\n", "line 2 has no topic filter"), ("user ada\r\n", "line 1 ends with white space"), ("user ada\ntopic raed a\n", "line 2 has none of read"),
+            ("a\0\n", "line 1 has a zero byte")):
         with open(path, "w", newline="", encoding="latin-1") as file:
             file.write(lines)
         status, _, told = await says(*who, "--acl-file", path, "-p", "0")
         assert status == 2 and why in told and told.count("\n") == 1, (lines, status, told)
     for words in ((*who, "--acl-file", f"{FOLDER}/no such file"), (*who, "--acl-file"), ("--acl-file", path)):
         assert (await says(*words))[0] == 2
+    # One that no line is for may do nothing.
+    async with started(users={"ada": "x", "bo": "x"}, rights="user ada\ntopic a\n") as b:
+        one = b.client("rights-nothing")
+        await one.connect(login=("bo", "x"))
+        assert await one.subscribe("a", "bo") == [0x87, 0x87]
+        assert await one.publish("a", b"", 1) == 0x87
+    # With users a topic that begins with $ is nobody's (4.7.2). What is retained isn't told by a bound either.
+    async with started("--max-retained", "0", users=USERS, rights=RIGHTS) as b:
+        one = b.client("rights-bound")
+        await one.connect(**ADA)
+        assert await one.subscribe("$SYS/#", "$x") == [0x87, 0x87]
+        assert await one.publish("secret", b"x", 1, retain=1) == 0x87
+        one.send(publish_frame("ada/x", b"x", 1, retain=1, id=9))
+        await one.ends_by(0x97)
     # A name that isn't part of a level has nothing of a pattern with it.
     async with started(users={"ada": "x", "b/b": "x"}, rights="pattern of/%u/#\npattern read both\n") as b:
         for login, codes in ((("ada", "x"), [2, 2, 0x87]), (("b/b", "x"), [0x87, 2, 0x87])):

@@ -11,10 +11,12 @@ use Rattle.mqtt5_base.specs.Topics.{IsMatching, topic_matches}
 use Rattle.mqtt5_base.specs.declared.quality.QoS.{QoS}
 use Rattle.mqtt5_publish.specs.declared.publish.Publish.{Publish}
 use Rattle.mqtt5_subscribe.specs.declared.filter.Filter.{Filter}
+use Rattle.mqtt5_subscribe.specs.declared.subscribe.Subscribe.{Subscribe}
 use Rattle.mqtt5_codec.specs.declared.packet.Packet.{Packet}
 use Rattle.mqtt5_codec.specs.declared.packet.Packet.TheVariants as packets
 use Rattle.mqtt5_connect.specs.declared.connect.Connect.{Connect}
 use Rattle.mqtt5_connect.specs.declared.will.LastWill.{LastWill}
+use Rattle.mqtt5_control.specs.declared.connack.ConnectReturnCode.{ConnectReturnCode}
 use Rattle.mqtt5_control.specs.declared.connack.ConnectReturnCode.TheVariants as return_codes
 use Rattle.mqtt5_control.specs.declared.disconnect.DisconnectReasonCode.{DisconnectReasonCode}
 use Rattle.mqtt5_network.specs.declared.subscription.Subscription.{Subscription}
@@ -26,16 +28,17 @@ use Rattle.mqtt5_network.specs.Forwarded.{greater, forwarded}
 use Rattle.mqtt5_sessions.specs.Sessions.{ClientState}
 use Rattle.mqtt5_broker.specs.declared.member.Member.{Member}
 use Rattle.mqtt5_broker.specs.declared.serving.Kind.TheVariants as kinds
-use Rattle.mqtt5_broker.specs.Rights.{Rights, no_rights, publishing, subscribing, rights_at, is_within, may_publish, may_do}
+use Rattle.mqtt5_broker.specs.Rights.{Rights, no_rights, publishing, subscribing, rights_at, is_within, may_publish, may_subscribe, may_do, part_of, will_denial}
 use Rattle.mqtt5_broker.specs.Connection.{Connection, of_user, shut, written, with_sent, connection_at}
 use Rattle.mqtt5_broker.specs.Broker.{Broker, on_connection, knows_user, lets, member_at, number_of, user_at, owner_at, is_same, refuses}
 use Rattle.mqtt5_broker.specs.Asking.{kept_on, is_new}
-use Rattle.mqtt5_broker.specs.Serving.{arrives_from, denies, brings, serves_by, fault_of, serves, refusal, turns_away, returns, assigns, is_its, admits_as, admits}
+use Rattle.mqtt5_broker.specs.Serving.{arrives_from, denies, brings, serves_by, fault_of, serves, refusal, turns_away, returns, assigns, is_its, admits_as, admits, entry_fault, connects_by, connects}
+use Rattle.mqtt5_broker.specs.Judging.{first_code, connect_fault}
 use Rattle.mqtt5_broker.specs.Standing.{IsStanding}
 use Rattle.mqtt5_broker.specs.Within.{subscriptions_in, subscriptions_at, AreWithin, IsWithin}
 use Rattle.mqtt5_broker.specs.Calls.{Call, Open, Hold, Identify, Reject, Receive, Sent, Pass, Close, Tick, SetBounds, Trim, ShutDown, AddUser, AllowPublish, AllowSubscribe, after_call, after_calls}
 use Rattle.mqtt5_broker.proofs.Calling.{one_stands}
-use Rattle.mqtt5_broker.proofs.Within.{on_within, choice_within, opens_within, receives_within, passes_within, closes_within, ticks_within, trims_all_within, shuts_down_within}
+use Rattle.mqtt5_broker.proofs.Within.{all_filtered, on_within, choice_within, opens_within, receives_within, passes_within, closes_within, ticks_within, trims_all_within, shuts_down_within}
 
 -- ---- a new broker
 
@@ -124,6 +127,13 @@ all_within (c ∷ cs) b s w = all_within cs (after_call c b) (one_stands c b s) 
 
 -- ---- what is forwarded
 
+abbrev Topic : List Utf8 → Publish → Type 0
+Topic fs p = is_within p.topic fs ≡ true
+
+abbrev TopicOf : List Utf8 → Option Publish → Type 0
+TopicOf fs None = ⊤
+TopicOf fs (Some p) = Topic fs p
+
 or_false : (v : Bool) → (v || false) ≡ true → v ≡ true
 or_false true e = refl
 or_false false e = e
@@ -160,21 +170,14 @@ module _ (matching : IsMatching) where
       by rest true h r = here h
       by rest false h r = rest r
 
-  forwarded_by : (fs : List Utf8) (own : Bool) (ss : List Subscription) (p q : Publish) → AreWithin fs ss → (o : Option QoS) → granted_for own ss p ≡ o → option_map (λ (k : QoS). forwarded k p) o ≡ Some q → is_within p.topic fs ≡ true
+  forwarded_by : (fs : List Utf8) (own : Bool) (ss : List Subscription) (p q : Publish) → AreWithin fs ss → (o : Option QoS) → granted_for own ss p ≡ o → option_map (λ (k : QoS). forwarded k p) o ≡ Some q → is_within q.topic fs ≡ true
   forwarded_by fs own ss p q w None h e = absurd (none-some q e)
-  forwarded_by fs own ss p q w (Some k) h e = granted_within fs own ss p k w h
+  forwarded_by fs own ss p q w (Some k) h e = subst (TopicOf fs) e (granted_within fs own ss p k w h)
 
-  pub forwarded_within : (i u : ℕ) (own : Bool) (p q : Publish) (b : Broker) → IsWithin b → owner_at i b.members ≡ Some u → forwarded_to own (subscriptions_at i b.sessions) p ≡ Some q → is_within p.topic (rights_at u b.rights).subscribes ≡ true
+  pub forwarded_within : (i u : ℕ) (own : Bool) (p q : Publish) (b : Broker) → IsWithin b → owner_at i b.members ≡ Some u → forwarded_to own (subscriptions_at i b.sessions) p ≡ Some q → is_within q.topic (rights_at u b.rights).subscribes ≡ true
   forwarded_within i u own p q b w e h = forwarded_by (rights_at u b.rights).subscribes own (subscriptions_at i b.sessions) p q (w.within i u e) (granted_for own (subscriptions_at i b.sessions) p) refl h
 
   -- ---- what a Subscribe brings of retained messages
-
-  abbrev Topic : List Utf8 → Publish → Type 0
-  Topic fs p = is_within p.topic fs ≡ true
-
-  abbrev TopicOf : List Utf8 → Option Publish → Type 0
-  TopicOf fs None = ⊤
-  TopicOf fs (Some p) = Topic fs p
 
   put_within : (fs : List Utf8) (o : Option Publish) (ps : List Publish) → TopicOf fs o → All (Topic fs) ps → All (Topic fs) (cons_option o ps)
   put_within fs None ps h k = k
@@ -212,13 +215,29 @@ module _ (c i : ℕ) (p : Publish) (b : Broker) (h : may_publish (owner_at i b.m
   unfolding brings denies
   denied = ap (λ (v : Bool). (if v then arrives_from c i (packets.Publish p) b else denies (owner_at i b.members) c i (packets.Publish p) b).sessions) h
 
-  dropped_by : (o : Option DisconnectReasonCode) → ((serves_by o c i (packets.Publish p) b).sessions ≡ b.sessions) ⊎ ((reason : DisconnectReasonCode) × (serves_by o c i (packets.Publish p) b ≡ refuses c i reason b))
-  dropped_by None = inl denied
-  dropped_by (Some reason) = inr (reason, refl)
+  dropped_by : (o : Option DisconnectReasonCode) → fault_of i (packets.Publish p) b ≡ o
+      → ((serves_by o c i (packets.Publish p) b).sessions ≡ b.sessions) ⊎ ((reason : DisconnectReasonCode) × (fault_of i (packets.Publish p) b ≡ Some reason) × (serves_by o c i (packets.Publish p) b ≡ refuses c i reason b))
+  dropped_by None e = inl denied
+  dropped_by (Some reason) e = inr (reason, e, refl)
 
-  pub publish_dropped : ((serves c i (packets.Publish p) b).sessions ≡ b.sessions) ⊎ ((reason : DisconnectReasonCode) × (serves c i (packets.Publish p) b ≡ refuses c i reason b))
+  pub publish_dropped : ((serves c i (packets.Publish p) b).sessions ≡ b.sessions) ⊎ ((reason : DisconnectReasonCode) × (fault_of i (packets.Publish p) b ≡ Some reason) × (serves c i (packets.Publish p) b ≡ refuses c i reason b))
   unfolding serves
-  publish_dropped = dropped_by (fault_of i (packets.Publish p) b)
+  publish_dropped = dropped_by (fault_of i (packets.Publish p) b) refl
+
+-- a will
+module _ (c : ℕ) (k : Connect) (w : LastWill) (b : Broker) (h : may_publish (user_at c b) b.rights w.topic ≡ false) where
+  refused_by : (o : Option ConnectReturnCode) → (code : ConnectReturnCode) × (connects_by (first_code o (will_denial (user_at c b) b.rights (Some w))) c k (Some w) b ≡ turns_away c code b)
+  refused_by (Some code) = (code, refl)
+  refused_by None =
+      (return_codes.NotAuthorized, ap (λ (v : Bool). connects_by (if v then None else Some return_codes.NotAuthorized) c k (Some w) b) h)
+
+  pub will_refused : (code : ConnectReturnCode) × (connects c k (Some w) b ≡ turns_away c code b)
+  unfolding connects entry_fault
+  will_refused = refused_by (connect_fault k (Some w))
+
+-- what comes of a Subscribe to the session
+pub part_allowed : (u : ℕ) (rs : List Rights) (s : Subscribe) → may_do (Some u) rs (packets.Subscribe (part_of (Some u) rs s)) ≡ true
+part_allowed u rs s = all_filtered (may_subscribe (Some u) rs) s.filters
 
 -- the session of another user
 pub other_refused : (c i : ℕ) (k : Connect) (will : Option LastWill) (b : Broker) → (length k.client_id.bytes == 0) ≡ false → number_of k.client_id b.members ≡ Some i → is_same (user_at c b) (owner_at i b.members) ≡ false → admits c k will b ≡ turns_away c return_codes.ClientIdentifierNotValid b

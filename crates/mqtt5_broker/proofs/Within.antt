@@ -397,7 +397,7 @@ module _ (i : ℕ) (x : Packet) (b : Broker) (known : member_at i b.members ≡ 
 
 -- ---- a client that is connected
 
-all_filtered : (p : Filter → Bool) (gs : List Filter) → list_all p (filter p gs) ≡ true
+pub all_filtered : (p : Filter → Bool) (gs : List Filter) → list_all p (filter p gs) ≡ true
 all_filtered p [] = refl
 all_filtered p (g ∷ gs) = by (all_filtered p gs) (p g) refl
   where

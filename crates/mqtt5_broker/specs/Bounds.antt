@@ -13,7 +13,8 @@ use Rattle.mqtt5_sessions.specs.declared.counts.Counts.{Counts}
 use Rattle.mqtt5_sessions.specs.Counts.{counts}
 use Rattle.mqtt5_broker.specs.declared.bounds.Bounds.{Bounds}
 use Rattle.mqtt5_broker.specs.Connection.{told, connection_of}
-use Rattle.mqtt5_broker.specs.Broker.{Broker, free_number, on_connection, forgets}
+use Rattle.mqtt5_broker.specs.Rights.{may_do}
+use Rattle.mqtt5_broker.specs.Broker.{Broker, free_number, owner_at, on_connection, forgets}
 use Rattle.mqtt5_broker.specs.Clock.{for_each}
 
 -- other bounds from now on
@@ -36,8 +37,11 @@ asks_too_much (packets.Publish p) b =
     adds_retained p b && nat_le b.bounds.retained (length b.sessions.retained)
 asks_too_much other b = false
 
-abbrev pub quota_fault : Packet → Broker → Option DisconnectReasonCode
-quota_fault x b = if asks_too_much x b then Some reasons.QuotaExceeded else None
+-- then it is refused, where its user may do what it asks for (5.4.2)
+abbrev pub quota_fault : ℕ → Packet → Broker → Option DisconnectReasonCode
+quota_fault i x b =
+    if asks_too_much x b && may_do (owner_at i b.members) b.rights x
+    then Some reasons.QuotaExceeded else None
 
 -- ---- sessions
 

@@ -87,7 +87,7 @@ serves_by None c i x b = serves_as (kind_of x) c i x b
 
 -- why one is refused, if it is: by itself, or since it asks for more than may be kept
 unfoldable pub fault_of : ℕ → Packet → Broker → Option DisconnectReasonCode
-fault_of i x b = first_of (client_fault (stays_at i b.members) x) (quota_fault x b)
+fault_of i x b = first_of (client_fault (stays_at i b.members) x) (quota_fault i x b)
 
 unfoldable pub serves : ℕ → ℕ → Packet → Broker → Broker
 serves c i x b = serves_by (fault_of i x b) c i x b

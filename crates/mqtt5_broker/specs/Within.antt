@@ -1,4 +1,4 @@
--- What holds of a broker at any time: of a client that connected as a user each subscription lies within
+-- What holds of a broker, where memory isn't refused: of a client that connected as a user each subscription lies within
 -- what that user may subscribe to (MQTT 5.0 section 5.4.2).
 use Rattle.std.specs.Prelude.{◌≡◌, ℕ, zero, suc, true, List, [], ◌∷◌, length, Some, None}
 use Rattle.std.specs.List.{All}

@@ -139,8 +139,9 @@ impl Broker {
         Ok(asks)
     }
 
-    /// A client that isn't connected yet will connect as a user, who is one of `add_user`: it may publish and subscribe to what that
-    /// user may, and has sessions of that user alone. Who connects as no user may do everything. Takes no memory.
+    /// A client that isn't connected yet will connect as a user: it may publish and subscribe to what that user may, and has sessions of
+    /// that user alone. A number that no user has may do nothing, until it has one. Who connects as no user may do everything, with
+    /// sessions of no user. Takes no memory.
     pub fn identify(&mut self, connection: usize, user: usize)
         ensures { self.new ≡ identifies connection user self.old }
     {

@@ -10,7 +10,8 @@ ghost use Rattle.mqtt5_broker.specs.Bounds.{bounded, has_room, adds_retained, as
 
 use crate::broker::Broker;
 use crate::connections::connection_of;
-use crate::member::free_number;
+use crate::member::{free_number, owner_at};
+use crate::rights::may_do;
 use mqtt5_codec::Packet;
 use mqtt5_control::DisconnectReasonCode;
 use mqtt5_publish::Publish;
@@ -106,11 +107,12 @@ impl Broker {
         }
     }
 
-    /// Why it is refused then.
-    pub(super) fn quota_fault(&self, packet: &Packet) -> Option<DisconnectReasonCode>
-        ensures { result ≡ quota_fault packet.now self.now }
+    /// Why a packet of a client is refused then, where its user may do what it asks for.
+    pub(super) fn quota_fault(&self, client: usize, packet: &Packet) -> Option<DisconnectReasonCode>
+        ensures { result ≡ quota_fault client packet.now self.now }
     {
-        if self.asks_too_much(packet) {
+        let user = owner_at(client, self.members.as_slice());
+        if self.asks_too_much(packet) && may_do(user, self.rights.as_slice(), packet) {
             Some(DisconnectReasonCode::QuotaExceeded)
         } else {
             None

@@ -8,6 +8,8 @@ ghost use Rattle.mqtt5_base.specs.declared.error.Error.{Error};
 ghost use Rattle.mqtt5_publish.specs.declared.publish.Publish.{Publish};
 ghost use Rattle.mqtt5_connect.specs.declared.connect.Connect.{Connect};
 ghost use Rattle.mqtt5_connect.specs.declared.will.LastWill.{LastWill};
+ghost use Rattle.mqtt5_subscribe.specs.declared.subscribe.Subscribe.{Subscribe};
+ghost use Rattle.mqtt5_control.specs.declared.connack.ConnectReturnCode.{ConnectReturnCode};
 ghost use Rattle.mqtt5_control.specs.declared.connack.ConnectReturnCode.TheVariants as return_codes;
 ghost use Rattle.mqtt5_control.specs.declared.disconnect.DisconnectReasonCode.{DisconnectReasonCode};
 ghost use Rattle.mqtt5_codec.specs.declared.packet.Packet.{Packet};
@@ -19,9 +21,9 @@ ghost use Rattle.mqtt5_sessions.specs.Runs.{SessionEvent, after_events};
 ghost use Rattle.mqtt5_broker.specs.Cut.{cut_up, goes_on_as, Breaks};
 ghost use Rattle.mqtt5_broker.specs.Connection.{closed, with_sent, connection_at};
 ghost use Rattle.mqtt5_broker.specs.Moments.{has_come};
-ghost use Rattle.mqtt5_broker.specs.Rights.{Rights, rights_at, is_within, may_publish, may_do};
+ghost use Rattle.mqtt5_broker.specs.Rights.{Rights, rights_at, is_within, may_publish, may_do, part_of};
 ghost use Rattle.mqtt5_broker.specs.Broker.{Broker, at_moment, on_connection, number_of, user_at, owner_at, is_same, refuses};
-ghost use Rattle.mqtt5_broker.specs.Serving.{serves, turns_away, admits, passes_on};
+ghost use Rattle.mqtt5_broker.specs.Serving.{fault_of, serves, turns_away, admits, connects, passes_on};
 ghost use Rattle.mqtt5_broker.specs.Receiving.{receives, ends_with, opens, closes};
 ghost use Rattle.mqtt5_broker.specs.Clock.{ticks, next_moment, shuts_down};
 ghost use Rattle.mqtt5_broker.specs.Bounds.{trims_all};
@@ -126,13 +128,15 @@ pub fn any_calls_law()
         → IsStanding b → IsStanding (after_calls calls b) }
 {}
 
-/// A law, which does nothing when it is called: what is put into the queue of a client that connected as a user is of topics to which
-/// that user may subscribe, what it may not publish comes to no session, and it has no session of another user (5.4.2).
+/// A law, which does nothing when it is called: what is forwarded to a client that connected as a user, or copied for it of what is
+/// retained, is of topics to which that user may subscribe; what it may not publish comes to no session; and nobody is connected
+/// under the identifier of another user's session (5.4.2).
 pub fn rights_law()
     // A topic that matches a filter within others matches one of these.
     ensures filters { (t f : List ℕ) (fs : List Utf8)
         → topic_matches t f ≡ true → is_within f fs ≡ true → is_within t fs ≡ true }
-    // Each subscription of such a client lies within what its user may subscribe to: so it is in a new broker, and after any calls.
+    // Each subscription of such a client lies within what its user may subscribe to: so it is in a new broker, and after any calls,
+    // of which none was refused for want of memory.
     ensures new { (b : Broker) → b.sessions.clients ≡ [] → b.members ≡ [] → IsWithin b }
     ensures calls { (calls : List Call) (b : Broker)
         → IsStanding b → IsWithin b → IsWithin (after_calls calls b) }
@@ -140,18 +144,26 @@ pub fn rights_law()
     ensures forwarded { (i u : ℕ) (own : Bool) (p q : Publish) (b : Broker)
         → IsWithin b → owner_at i b.members ≡ Some u
         → forwarded_to own (subscriptions_at i b.sessions) p ≡ Some q
-        → is_within p.topic (rights_at u b.rights).subscribes ≡ true }
-    // So does that of each retained message that a Subscribe of it brings.
+        → is_within q.topic (rights_at u b.rights).subscribes ≡ true }
+    // So does that of each retained message that is copied for a Subscribe, where its user may subscribe to all that it asks for, as
+    // it may to the part that comes to the session.
+    ensures part { (u : ℕ) (rs : List Rights) (s : Subscribe)
+        → may_do (Some u) rs (packets.Subscribe (part_of (Some u) rs s)) ≡ true }
     ensures copies { (u : ℕ) (rs : List Rights) (kept : List Publish) (ss : List Subscription)
         (x : Packet) → may_do (Some u) rs x ≡ true
         → All (λ (p : Publish). is_within p.topic (rights_at u rs).subscribes ≡ true)
         (copies_for kept ss x) }
-    // A publish that its user may not publish changes no session, or its connection ends by a fault of it.
+    // A publish that its user may not publish changes no session, or its connection ends by a fault of it; and who has a will that
+    // it may not publish isn't connected.
     ensures publish { (c i : ℕ) (p : Publish) (b : Broker)
         → may_publish (owner_at i b.members) b.rights p.topic ≡ false
         → ((serves c i (packets.Publish p) b).sessions ≡ b.sessions)
         ⊎ ((reason : DisconnectReasonCode)
+        × (fault_of i (packets.Publish p) b ≡ Some reason)
         × (serves c i (packets.Publish p) b ≡ refuses c i reason b)) }
+    ensures will { (c : ℕ) (k : Connect) (w : LastWill) (b : Broker)
+        → may_publish (user_at c b) b.rights w.topic ≡ false
+        → (code : ConnectReturnCode) × (connects c k (Some w) b ≡ turns_away c code b) }
     // A client isn't connected under the identifier of another user's session.
     ensures other { (c i : ℕ) (k : Connect) (will : Option LastWill) (b : Broker)
         → (length k.client_id.bytes == 0) ≡ false → number_of k.client_id b.members ≡ Some i

@@ -338,7 +338,7 @@ impl Broker {
         let stays = stays_at(client, self.members.as_slice());
         match client_fault(stays, packet) {
             Some(reason) => Some(reason),
-            None => self.quota_fault(packet),
+            None => self.quota_fault(client, packet),
         }
     }
 

@@ -106,9 +106,13 @@ code_for named = if named then codes.BadUserNamePassword else codes.NotAuthorize
 
 -- ---- users
 
+-- whether there is a user of this number
+abbrev pub has_user : ℕ → Broker → Bool
+has_user u b = nat_lt u (length b.rights)
+
 -- whether bytes are a topic filter (4.7), and there is a user of this number
 abbrev pub takes_filter : ℕ → List ℕ → Broker → Bool
-takes_filter u f b = is_utf8 f && is_valid_filter f && nat_lt u (length b.rights)
+takes_filter u f b = is_utf8 f && is_valid_filter f && has_user u b
 
 -- the number of a call that takes some arguments alone
 abbrev pub done_if : (Broker → Bool) → Option Broker → ℕ

@@ -6,7 +6,7 @@ ghost use Rattle.mqtt5_base.specs.Topics.{is_valid_filter};
 ghost use Rattle.mqtt5_broker.specs.Rights.{publishing, subscribing};
 ghost use Rattle.mqtt5_broker.specs.Broker.{knows_user, lets};
 ghost use Rattle.mqtt5_broker.specs.Asking.{identifies};
-ghost use Rattle.mqtt5_broker_c.specs.Calls.{Does, DoesOrLeaves, DoesIf, told, unchanged, takes_filter};
+ghost use Rattle.mqtt5_broker_c.specs.Calls.{DoesOrLeaves, DoesIf, told, unchanged, has_user, takes_filter};
 ghost use Rattle.mqtt5_broker_c.specs.Handles.{IsKept};
 ghost use Rattle.mqtt5_broker_c.specs.Numbers.{done};
 
@@ -112,7 +112,8 @@ pub extern "C" fn mqtt5_broker_allow_subscribe(
     code_of(&outcome)
 }
 
-/// A client that isn't connected yet will connect as a user. 0; 200.
+/// A client that isn't connected yet will connect as a user; of one that is connected nothing changes. 0; 200; 201 where there is no
+/// such user.
 #[unsafe(no_mangle)]
 pub extern "C" fn mqtt5_broker_identify(
     alloc: Global,
@@ -122,12 +123,16 @@ pub extern "C" fn mqtt5_broker_identify(
 ) -> u32
     requires { IsKept h.old }
     ensures kept { IsKept h.new }
-    ensures answer { Does (identifies connection user) h.old.broker_ptr.value result
-        h.new.broker_ptr.value }
+    ensures answer { DoesIf (has_user user) (identifies connection user) h.old.broker_ptr.value
+        result h.new.broker_ptr.value }
 {
     let Some(mut broker) = take(alloc, h) else {
         return NO_BROKER;
     };
+    if user >= broker.users() {
+        put(h, broker);
+        return BAD_ARGUMENT;
+    }
     broker.identify(connection, user);
     put(h, broker);
     DONE

@@ -16,7 +16,7 @@ use std::test::Fail;
 /// connection. `tick` says which moment it is, in milliseconds, at first 0; `next` answers the next at which something is due, and
 /// `end` ends the broker. `hold` has bytes held alone, `asks` answers who wants to connect, with name and password, 0 without these and
 /// `-` where there is nobody, and `reject` turns a client away with a code, and answers what it is sent. `user` adds a user, and
-/// answers its number, which `pub` and `sub` let publish and subscribe within a filter, and `as` says that a connection is of one.
+/// answers its number; `pub` and `sub` let that user publish and subscribe within a filter, and `as` says that a connection is of it.
 /// `bound` says how many clients, subscriptions of a client, retained messages, publishes of a queue and bytes
 /// of these there may be, and `trim` ends sessions for which there is more. The broker has four connections, takes packets of 64
 /// bytes and fewer, and waits five seconds for a Connect.
@@ -49,7 +49,8 @@ use std::test::Fail;
 /// one that is away, by messages and by bytes.
 ///
 /// Then users: what one may not publish, of each QoS and retained, and subscribe to, of two filters one; filters with wildcards, and
-/// one that may do more; a will; a session that is another user's, or nobody's, until it has ended; and a user that there isn't.
+/// one that may do more; a will; a session that is another user's, or nobody's, until it has ended; a user that there isn't; and where
+/// no message may be retained one that may not be published either.
 const ROWS: &str =
     "open:0=1; open:0=0; open:9=0; open:1=1; in:0:100E00044D5154540502000000000161=200C000009270000004029002A00; in:1:100E00044D5154540502000000000162=200C000009270000004029002A00; in:1:82090001000003612F6202=900400010002; in:0:34090003612F6200050078=50020005; out:1=-; pass:1=1; out:1=34090003612F6200010078; pass:1=0; in:1:50020001=62020001; in:1:70020001=-; in:0:62020005=70020005; in:0:C000=D000; in:0:E000=-; is:0=0; is:1=1; in:0:C000=-; close:0; open:0=1
 open:0=1; in:0:10=-; in:0:0E00044D5154540502=-; in:0:000000000161C000=200C000009270000004029002A00D000; in:0:C0=-; in:0:00C0=D000; in:0:00=D000
@@ -128,6 +129,8 @@ user=0; sub:0:+/b; open:0=1; as:0:0; in:0:100E00044D5154540502000000000161=200C0
 user=0; pub:0:w; open:0=1; as:0:0; in:0:101500044D515454050600000000016100000176000167=2003008700; is:0=0; open:1=1; as:1:0; in:1:101500044D515454050600000000016100000177000167=200C000009270000004029002A00
 user=0; user=1; open:0=1; as:0:0; in:0:101300044D515454050000000511FFFFFFFF000161=200C000009270000004029002A00; open:1=1; as:1:1; in:1:100E00044D5154540502000000000161=2003008500; is:1=0; in:0:C000=D000; as:0:1; close:0; close:1; open:1=1; in:1:100E00044D5154540502000000000161=2003008500; open:2=1; as:2:0; in:2:101300044D515454050000000511FFFFFFFF000161=200C010009270000004029002A00; in:2:E00700051100000000=-; close:2; open:2=1; as:2:1; in:2:100E00044D5154540502000000000161=200C000009270000004029002A00
 open:0=1; as:0:5; in:0:100E00044D5154540502000000000161=200C000009270000004029002A00; in:0:820700010000016101=900400010087; in:0:320700016100090078=400400098700; pub:5:#; as:9:0; user=0; in:0:C000=D000
+bound:9,9,0,9,999; user=0; pub:0:a; open:0=1; as:0:0; in:0:100E00044D5154540502000000000161=200C000009270000004029002A00; in:0:330700016200090078=400400098700; in:0:31050001620078=-; is:0=1; in:0:330700016100090078=E0029700
+user=0; open:0=1; in:0:101300044D515454050000000511FFFFFFFF000161=200C000009270000004029002A00; open:1=1; as:1:0; in:1:100E00044D5154540502000000000161=2003008500; in:0:C000=D000
 ";
 
 /// What stands before the first mark of a text, and what behind it.
