@@ -1,6 +1,6 @@
 -- What any calls make of a broker.
-use Rattle.std.proofs.Common.{◌≡◌, ℕ, Bool, List, [], ◌∷◌, ◌++◌, refl, sym, ap, ◌∙◌, if◌then◌else◌}
-use Rattle.mqtt5_sessions.specs.Runs.{SessionEvent, after_events}
+use Rattle.std.proofs.Common.{ℕ, List, [], ◌∷◌, ◌++◌, refl, sym, ap, ◌∙◌}
+use Rattle.mqtt5_sessions.specs.Runs.{after_events}
 use Rattle.mqtt5_broker.specs.Connection.{Connection, opened, of_user, connection_at}
 use Rattle.mqtt5_broker.specs.Broker.{Broker, at_moment, on_connection}
 use Rattle.mqtt5_broker.specs.Serving.{turns_away}

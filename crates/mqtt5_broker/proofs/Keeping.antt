@@ -17,7 +17,7 @@ use Rattle.mqtt5_broker.specs.declared.serving.Kind.{Kind}
 use Rattle.mqtt5_broker.specs.declared.serving.Kind.TheVariants as kinds
 use Rattle.mqtt5_broker.specs.Connection.{Connection, closed, shut, told, heard, taken_by, with_bytes, written, written_all, connection_at, connection_of}
 use Rattle.mqtt5_broker.specs.Broker.{Broker, on_connection, on_member, expiring, forgets, loses_client, leaves_client, stays_at, refuses, dismisses, dismisses_of, numbers, number_in, free_number, number_of, assigned_name, number_after, user_at, owner_at}
-use Rattle.mqtt5_broker.specs.Rights.{may_do, denial, suback_for, part_of}
+use Rattle.mqtt5_broker.specs.Rights.{may_do, denial, suback_for}
 use Rattle.mqtt5_broker.specs.Bounds.{has_room}
 use Rattle.mqtt5_broker.specs.Serving.{kind_of, arrives_from, denies, brings, goes, disconnects, serves_as, serves_by, fault_of, serves, refusal, longest_of, silence_of, member_of, welcome, comes_in, displaced, displaces, starts_anew, begins, enters, turns_away, enters_if_room, assigns_by, assigns, is_its, admits_as, admits, entry_fault, connects_by, connects, begins_with, takes_of, takes}
 use Rattle.mqtt5_broker.specs.Receiving.{takes_all}

@@ -1,7 +1,7 @@
 -- What any calls make of the subscriptions of users, and what is forwarded under these.
 use Rattle.std.proofs.Common.{◌≡◌, ℕ, zero, suc, Bool, true, false, List, [], ◌∷◌, ◌++◌, Option, Some, None, refl, sym, subst, ap, ◌∙◌, get_or, set, if◌then◌else◌, not, length, ◌==◌, ◌&&◌, ◌||◌, ◌⊎◌, inl, inr}
 use Rattle.std.specs.Prelude.{option_map, ⊤}
-use Rattle.std.specs.List.{All, list_all, list_any, filter_map, cons_option}
+use Rattle.std.specs.List.{All, list_all, filter_map, cons_option}
 use Rattle.std.specs.Str.{is_utf8}
 use Rattle.std.proofs.lemmas.Bool.{and_parts}
 use Rattle.std.proofs.lemmas.Option.{none-some}
@@ -25,14 +25,11 @@ use Rattle.mqtt5_network.specs.Asking.{subscription_of}
 use Rattle.mqtt5_network.specs.Retained.{copy_for, gets_copies, copies_of, copies_all, copies_for}
 use Rattle.mqtt5_progress.specs.Subscribers.{hits}
 use Rattle.mqtt5_network.specs.Forwarded.{greater, forwarded}
-use Rattle.mqtt5_sessions.specs.Sessions.{ClientState}
-use Rattle.mqtt5_broker.specs.declared.member.Member.{Member}
-use Rattle.mqtt5_broker.specs.declared.serving.Kind.TheVariants as kinds
 use Rattle.mqtt5_broker.specs.Rights.{Rights, no_rights, publishing, subscribing, rights_at, is_within, may_publish, may_subscribe, may_do, part_of, will_denial}
 use Rattle.mqtt5_broker.specs.Connection.{Connection, of_user, shut, written, with_sent, connection_at}
-use Rattle.mqtt5_broker.specs.Broker.{Broker, on_connection, knows_user, lets, member_at, number_of, user_at, owner_at, is_same, refuses}
+use Rattle.mqtt5_broker.specs.Broker.{Broker, on_connection, knows_user, lets, number_of, user_at, owner_at, is_same, refuses}
 use Rattle.mqtt5_broker.specs.Asking.{kept_on, is_new}
-use Rattle.mqtt5_broker.specs.Serving.{arrives_from, denies, brings, serves_by, fault_of, serves, refusal, turns_away, returns, assigns, is_its, admits_as, admits, entry_fault, connects_by, connects}
+use Rattle.mqtt5_broker.specs.Serving.{arrives_from, denies, brings, serves_by, fault_of, serves, refusal, turns_away, returns, assigns, admits_as, admits, entry_fault, connects_by, connects}
 use Rattle.mqtt5_broker.specs.Judging.{first_code, connect_fault}
 use Rattle.mqtt5_broker.specs.Standing.{IsStanding}
 use Rattle.mqtt5_broker.specs.Within.{subscriptions_in, subscriptions_at, AreWithin, IsWithin}

@@ -1,14 +1,13 @@
 -- A client that connected as a user has subscriptions within what that user may subscribe to, whatever is called.
-use Rattle.std.proofs.Common.{◌≡◌, ◌≢◌, ◌<◌, ℕ, zero, suc, Bool, true, false, List, [], ◌∷◌, ◌++◌, Option, Some, None, refl, sym, subst, ap, ◌∙◌, get_or, set, slice_set, slice_index_or, if◌then◌else◌, cond, not, length, map, ◌==◌, ◌&&◌, Result, Ok, Err, ◌⊎◌, inl, inr, arith}
+use Rattle.std.proofs.Common.{◌≡◌, ◌≢◌, ℕ, zero, suc, Bool, true, false, List, [], ◌∷◌, ◌++◌, Option, Some, None, refl, sym, subst, ap, ◌∙◌, set, slice_set, if◌then◌else◌, cond, not, length, map, ◌==◌, Result, Ok, Err, ◌⊎◌, inl, inr, arith}
 use Rattle.std.specs.Prelude.{option_map, filter, is_none}
-use Rattle.std.specs.List.{All, list_all}
+use Rattle.std.specs.List.{list_all}
 use Rattle.std.specs.Option.{option_to_list}
 use Rattle.std.proofs.lemmas.Bool.{and_parts, and_from}
 use Rattle.std.proofs.lemmas.Option.{none-some}
 use Rattle.std.proofs.lemmas.List.Elements.{All-nil, All-cons, All-append, All-filter}
 use Rattle.std.proofs.lemmas.List.Quantifiers.{position-Some}
 use Rattle.mqtt5_base.specs.Texts.{Utf8}
-use Rattle.mqtt5_base.specs.Topics.{IsMatching, topic_matches}
 use Rattle.mqtt5_inflight.specs.declared.error.StateError.{StateError}
 use Rattle.mqtt5_publish.specs.declared.publish.Publish.{Publish}
 use Rattle.mqtt5_subscribe.specs.declared.filter.Filter.{Filter}
@@ -30,8 +29,8 @@ use Rattle.mqtt5_network.specs.Client as network_client
 use Rattle.mqtt5_network.specs.Retained.{copies_for}
 use Rattle.mqtt5_network.specs.Place.{lost_message, waiting, replaced_message, due_message, not_due, left_will, message_of}
 use Rattle.mqtt5_network.specs.declared.event.Will.{Will}
-use Rattle.mqtt5_router.specs.Kept.{Kept, new_kept, without_events, kept_of, alone, after_packet, after_pass}
-use Rattle.mqtt5_sessions.specs.Sessions.{Sessions, ClientState, new_state, gets, queues, queues_all, with_client, of_client, changes, joins, arrives, replies, passes_here, passed, passes, loses, is_due, leaves, taken_up, comes, ends}
+use Rattle.mqtt5_router.specs.Kept.{Kept, new_kept, without_events, kept_of, alone, after_packet}
+use Rattle.mqtt5_sessions.specs.Sessions.{Sessions, ClientState, new_state, gets, queues, queues_all, with_client, of_client, changes, arrives, replies, passes_here, passed, passes, loses, is_due, leaves, taken_up, comes, ends}
 use Rattle.mqtt5_sessions.specs.Counts.{counts}
 use Rattle.mqtt5_broker.specs.declared.member.Member.{Member}
 use Rattle.mqtt5_broker.specs.declared.serving.Kind.{Kind}
@@ -44,7 +43,7 @@ use Rattle.mqtt5_broker.specs.Broker.{Broker, at_moment, on_connection, on_membe
 use Rattle.mqtt5_broker.specs.Wills.{will_of}
 use Rattle.mqtt5_broker.specs.Bounds.{has_room, exceeds, ends_of, trims, trims_all}
 use Rattle.mqtt5_broker.specs.Serving.{kind_of, arrives_from, denies, brings, goes, disconnects, serves_as, serves_by, fault_of, serves, refusal, receive_max_of, longest_of, silence_of, member_of, welcome, comes_in, displaced, displaces, starts_anew, begins, returns, enters, turns_away, enters_if_room, assigns_by, assigns, is_its, admits_as, admits, entry_fault, connects_by, connects, begins_with, takes_of, takes, passes_of, passes_on}
-use Rattle.mqtt5_broker.specs.Receiving.{takes_all, reason_for, ends_with, receives_now, receives, opens_now, opens, closes_of, closes_now, closes}
+use Rattle.mqtt5_broker.specs.Receiving.{takes_all, reason_for, ends_with, receives_now, receives, opens, closes_of, closes_now, closes}
 use Rattle.mqtt5_broker.specs.Clock.{for_each, silences, silences_all, expires, ticks, ends_now, shuts_down}
 use Rattle.mqtt5_broker.specs.Standing.{client_at, IsHere, IsStanding}
 use Rattle.mqtt5_broker.specs.Within.{subscriptions_in, subscriptions_at, AreWithin, IsWithin}
