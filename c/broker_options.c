@@ -23,7 +23,7 @@ static const char help[] =
     "  -p, --port PORT          the port, else 1883; 0 takes a free one, and the first line of the log says which\n"
     "  --bind ADDRESS           the address, else 127.0.0.1; without users one of 127.0.0.0/8, ::1, or localhost\n"
     "  --users FILE             who may connect: lines NAME:HASH, with hashes as mkpasswd makes them\n"
-    "  --acl-file FILE          what each may do, in the form of mosquitto's acl_file; else all but topics with $\n"
+    "  --acl-file FILE          what each may do, in the form of mosquitto's acl_file; else all that doesn't begin with $\n"
     "  --max-connections N      how many connections there are at once, else 1024\n"
     "  --max-packet-size N      the greatest remaining length of a packet that is taken, in bytes, else 1048576\n"
     "  --max-inflight N         how many messages of QoS 1 and 2 a client is sent ahead of their acks, else 1024\n"

@@ -17,10 +17,10 @@ use Rattle.mqtt5_broker.specs.Connection.{Connection, shut, told, with_connectio
 use Rattle.mqtt5_broker.specs.Connection.{connection_at}
 
 -- the sessions, numbered from 0; by the same numbers the client that has each, or none; the
--- connections; what each user may do; the greatest packet identifier that is used to a client (2.2.1); the greatest
--- remaining length of what a client sends; for how many milliseconds a connection may be open
--- without a Connect, or 0 for any time; what may be kept at most; the last moment; and the number of
--- the next name that a client is given
+-- connections; what each user may do; the greatest packet identifier that is used to a client
+-- (2.2.1); the greatest remaining length of what a client sends; for how many milliseconds a
+-- connection may be open without a Connect, or 0 for any time; what may be kept at most; the last
+-- moment; and the number of the next name that a client is given
 pub record Broker : Type 0 where
   pub sessions : Sessions
   pub members : List (Option Member)
