@@ -1,7 +1,7 @@
 -- What a client is told by answers: as many of them at most as it asked for, and as many only where the broker took all in.
-use Rattle.std.proofs.Common.{◌≡◌, ℕ, ◌+◌, ◌≤◌, Bool, true, false, cond, List, [], ◌∷◌, ◌++◌, length, count_by, Option, Some, refl, sym, ap, ◌∙◌, subst, arith, ◌==◌, append-nil, append_assoc}
+use Rattle.std.proofs.Common.{◌≡◌, ℕ, zero, suc, ◌+◌, ◌<◌, ◌≤◌, Bool, true, false, cond, List, [], ◌∷◌, ◌++◌, length, count_by, Option, Some, None, refl, sym, ap, ◌∙◌, subst, arith, ◌==◌, append-nil, append_assoc}
 use Rattle.std.specs.Prelude.{not, option_map, slice_get, IfSome}
-use Rattle.std.specs.List.{Contains}
+use Rattle.std.specs.List.{Contains, slice_index_or}
 use Rattle.std.proofs.lemmas.Bool.{eqb-true, eq-eqb}
 use Rattle.std.proofs.lemmas.List.{nil_from_length}
 use Rattle.std.proofs.lemmas.List.Elements.{filter-append, Contains-append_right}
@@ -13,12 +13,13 @@ use Rattle.mqtt5_codec.specs.declared.packet.Packet.{Packet}
 use Rattle.mqtt5_codec.specs.declared.packet.Packet.TheVariants as packets
 use Rattle.mqtt5_world.specs.Delivery.{IsClass}
 use Rattle.mqtt5_network.specs.Receiver.{shown}
+use Rattle.mqtt5_network.specs.declared.subscription.Share.{Share}
 use Rattle.mqtt5_network.specs.declared.subscription.Subscription.{Subscription}
 use Rattle.mqtt5_network.specs.declared.event.ClientEvent.TheVariants as events
 use Rattle.mqtt5_network.specs.declared.event.NetworkEvent.{NetworkEvent}
 use Rattle.mqtt5_network.specs.declared.event.Will.{Will}
-use Rattle.mqtt5_network.specs.Subscriptions.{is_of, subscribed, unsubscribed}
-use Rattle.mqtt5_network.specs.Asking.{subscription_of, subscribed_all, unsubscribed_all, subscriptions_after, others}
+use Rattle.mqtt5_network.specs.Subscriptions.{is_of, subscribed, unsubscribed, has_turn, with_turn, without_turns}
+use Rattle.mqtt5_network.specs.Asking.{identifier_of, subscription_of, subscribed_all, unsubscribed_all, subscriptions_after, others}
 use Rattle.mqtt5_network.specs.Client.{Client}
 use Rattle.mqtt5_network.specs.Place.{Place, becomes_with, copies_in, queues_at, gets_at}
 use Rattle.mqtt5_network.specs.Network.{Network, start_network, handed_by, happens_in, run_network, IsReached, AllAtRest, given_in, lost_in}
@@ -95,16 +96,16 @@ module _ (n : Network) (es : List NetworkEvent) (i : ℕ) (p q : Place) (r : IsR
           down = nil_from_length (others q.client.down) (omega (arith, m, d, as_many));
         }
 
-    all_taken : q.client.subscriptions ≡ subscriptions_by asked p.client.subscriptions
+    all_taken : without_turns q.client.subscriptions ≡ subscriptions_by asked (without_turns p.client.subscriptions)
     all_taken =
         let a = ap length clear_then.up in
         let b = ap length clear_then.down in
         let d = due_before in
-        sym (ap (λ xs. subscriptions_by xs q.client.subscriptions) clear_then.up)
+        sym (ap (λ xs. subscriptions_by xs (without_turns q.client.subscriptions)) clear_then.up)
         ∙ tells.all (omega (arith, a, b, d, as_many))
-        ∙ ap (λ xs. subscriptions_by asked (subscriptions_by xs p.client.subscriptions)) clear.up
+        ∙ ap (λ xs. subscriptions_by asked (subscriptions_by xs (without_turns p.client.subscriptions))) clear.up
 
-    pub taken_in : IsClear q.client × (q.client.subscriptions ≡ subscriptions_by asked p.client.subscriptions)
+    pub taken_in : IsClear q.client × (without_turns q.client.subscriptions ≡ subscriptions_by asked (without_turns p.client.subscriptions))
     taken_in = (clear_then, all_taken)
 
 -- ---- what requests make of no subscriptions they make of some too
@@ -119,11 +120,11 @@ unsubscribed_both f xs ys = filter-append (λ s. not (is_of f s)) xs ys
 subscribed_both : (s : Subscription) (xs ys : List Subscription) → subscribed s (xs ++ ys) ≡ unsubscribed s.topic_filter xs ++ subscribed s ys
 subscribed_both s xs ys = ap (λ l. l ++ s ∷ []) (unsubscribed_both s.topic_filter xs ys) ∙ append_assoc (unsubscribed s.topic_filter xs) (unsubscribed s.topic_filter ys) (s ∷ [])
 
-subscribed_behind : (fs : List Filter) → Behind (subscribed_all fs)
-subscribed_behind [] xs ys = (xs, refl)
-subscribed_behind (f ∷ fs) xs ys =
-    let rest = subscribed_behind fs (unsubscribed f.path xs) (subscribed (subscription_of f) ys) in
-    (rest.0, ap (subscribed_all fs) (subscribed_both (subscription_of f) xs ys) ∙ rest.1)
+subscribed_behind : (n : Option ℕ) (fs : List Filter) → Behind (subscribed_all n fs)
+subscribed_behind n [] xs ys = (xs, refl)
+subscribed_behind n (f ∷ fs) xs ys =
+    let rest = subscribed_behind n fs (unsubscribed f.path xs) (subscribed (subscription_of n f) ys) in
+    (rest.0, ap (subscribed_all n fs) (subscribed_both (subscription_of n f) xs ys) ∙ rest.1)
 
 unsubscribed_behind : (fs : List Utf8) → Behind (unsubscribed_all fs)
 unsubscribed_behind [] xs ys = (xs, refl)
@@ -132,7 +133,7 @@ unsubscribed_behind (f ∷ fs) xs ys =
     (rest.0, ap (unsubscribed_all fs) (unsubscribed_both f xs ys) ∙ rest.1)
 
 after_behind : (x : Packet) → Behind (λ ss. subscriptions_after ss x)
-after_behind (packets.Subscribe p) xs ys = subscribed_behind p.filters xs ys
+after_behind (packets.Subscribe p) xs ys = subscribed_behind (identifier_of p.properties) p.filters xs ys
 after_behind (packets.Unsubscribe p) xs ys = unsubscribed_behind p.filters xs ys
 after_behind other xs ys = (xs, refl)
 
@@ -148,6 +149,22 @@ there_too ps ss s has =
     let b = by_behind ps ss [] in
     subst (λ l. Contains l s) (sym (ap (subscriptions_by ps) (sym (append-nil ss)) ∙ b.1)) (Contains-append_right b.0 (subscriptions_by ps []) s has)
 
+-- one of those without turns that has its turn isn't shared, and is there
+not_shared : (t s : Subscription) → with_turn false t ≡ s → has_turn s.share ≡ true → t ≡ s
+not_shared t s e turn = ap (λ o. record t { share = o }) (by t.share (ap (λ (x : Subscription). has_turn x.share) e ∙ turn)) ∙ e
+  where
+    by : (o : Option Share) → has_turn (option_map (λ (h : Share). record h { turn = false }) o) ≡ true → o ≡ option_map (λ (h : Share). record h { turn = false }) o
+    by None h = refl
+    by (Some x) h = absurd cc
+
+has_it : (ss : List Subscription) (s : Subscription) (k : ℕ) → k < length (without_turns ss) → slice_index_or (without_turns ss) k s ≡ s → has_turn s.share ≡ true → (k < length ss) × (slice_index_or ss k s ≡ s)
+has_it [] s k l e turn = absurd (omega (arith, l))
+has_it (t ∷ ss) s zero l e turn = (omega arith, not_shared t s e turn)
+has_it (t ∷ ss) s (suc k) l e turn = let r = has_it ss s k (omega (arith, l)) e turn in let b = r.0 in (omega (arith, b), r.1)
+
+with_turns : (ss : List Subscription) (s : Subscription) → Contains (without_turns ss) s → has_turn s.share ≡ true → Contains ss s
+with_turns ss s has turn = let r = has_it ss s has.0 has.1 has.2 turn in (has.0, r.0, r.1)
+
 -- ---- what it is shown from then on
 
 run_more : (es fs : List NetworkEvent) (n : Network) → run_network (es ++ fs) n ≡ run_network fs (run_network es n)
@@ -161,5 +178,5 @@ shown_since_answered n m es more i p q s test r on same was is clear as_many has
     let there : slice_get (run_network es n).places i ≡ Some q = ap (λ (x : Network). slice_get x.places i) (sym same) ∙ is in
     let t = taken_in n es i p q r on was there clear as_many in
     let reached : IsReached m = record { profiles = r.profiles; events = r.events ++ es; reached = same ∙ ap (run_network es) r.reached ∙ sym (run_more r.events es (start_network r.profiles)) } in
-    let stands : Contains q.client.subscriptions s = subst (λ l. Contains l s) (sym t.1) (there_too (asked_in i es n) p.client.subscriptions s has) in
+    let stands : Contains q.client.subscriptions s = with_turns q.client.subscriptions s (subst (λ l. Contains l s) (sym t.1) (there_too (asked_in i es n) (without_turns p.client.subscriptions) s has)) covers.turn in
     shown_by_one m more i s test reached k new covers none (subst (λ o. IfSome o (λ (x : Place). IsHeard x.client × Contains x.client.subscriptions s)) (sym is) (t.0.up, stands)) u rest

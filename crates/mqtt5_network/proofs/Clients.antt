@@ -1,12 +1,13 @@
 -- What is kept of each client: its flows, and of a class of QoS 2 no more is put into its queue than was handed on.
 use Rattle.std.proofs.Common.{◌≡◌, ℕ, ◌+◌, ◌≤◌, Bool, List, ◌++◌, count_by, sym, ap, subst, arith, append_assoc}
 use Rattle.std.specs.List.{AllByRecursion, filter_map}
+use Rattle.mqtt5_base.specs.Texts.{Utf8}
 use Rattle.mqtt5_base.specs.declared.quality.QoS.TheVariants.{ExactlyOnce}
 use Rattle.mqtt5_publish.specs.declared.publish.Publish.{Publish}
 use Rattle.mqtt5_world.specs.Delivery.{IsClass}
 use Rattle.mqtt5_network.specs.declared.subscription.Subscription.{Subscription}
 use Rattle.mqtt5_network.specs.Subscriptions.{forwarded_to}
-use Rattle.mqtt5_network.specs.Client.{Client, routed, new_client, queues}
+use Rattle.mqtt5_network.specs.Client.{Client, routed, new_client, queues, takes_turn}
 use Rattle.mqtt5_network.specs.Granted.{published, IsNew}
 use Rattle.mqtt5_network.proofs.Moves.{Move, moved}
 use Rattle.mqtt5_network.proofs.Good.{IsForwarded, all_both, IsGood, good_next, good_start, good_queues, routed_same, routed_queues}
@@ -48,8 +49,18 @@ client_queues handed more own c i =
           let b = count_both test (routed c) (filter_map (forwarded_to own c.subscriptions) more) in
           let d = count_both (published test) handed more in
           let f = i.few test k new in
-          let g = forwarded_few test own c.subscriptions k more in
+          let g = forwarded_few test own c.subscriptions k new more in
           omega (arith, a, b, d, f, g);
+    }
+
+-- and once it is given a turn, or that is taken from it
+pub client_turned : (handed : List Publish) (f : Utf8) (turn : Bool) (c : Client) → IsClient handed c → IsClient handed (takes_turn f turn c)
+client_turned handed f turn c i =
+    record {
+      limit = i.limit;
+      sender_limit = i.sender_limit;
+      good = record { from = i.good.from; to = i.good.to; own = i.good.own; range = i.good.range; queued = i.good.queued; told = i.good.told };
+      few = i.few;
     }
 
 -- publishes go into its queue as they are

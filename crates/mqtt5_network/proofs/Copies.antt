@@ -1,8 +1,9 @@
 -- The copies of retained messages: none is new, and each is as it is to be forwarded; and what is retained of a topic is the last
 -- that was handed on to it with retain.
-use Rattle.std.proofs.Common.{◌≡◌, ℕ, Bool, true, false, cond, ◌&&◌, List, [], ◌∷◌, ◌++◌, filter, Some, None, refl, sym, ap, ◌∙◌, subst, arith}
-use Rattle.std.specs.Prelude.{not, nat_eq}
+use Rattle.std.proofs.Common.{◌≡◌, ℕ, Bool, true, false, cond, ◌&&◌, List, [], ◌∷◌, ◌++◌, filter, Option, Some, None, refl, sym, ap, ◌∙◌, subst, arith}
+use Rattle.std.specs.Prelude.{not, nat_eq, is_none}
 use Rattle.std.specs.List.{filter_map, cons_option, find}
+use Rattle.std.specs.Option.{option_to_list}
 use Rattle.std.specs.Cmp.Lexicographic.{pointwise, same_text}
 use Rattle.std.proofs.lemmas.Cmp.{nat_list_eq_equiv}
 use Rattle.mqtt5_publish.specs.declared.publish.Publish.{Publish}
@@ -11,13 +12,12 @@ use Rattle.mqtt5_codec.specs.declared.packet.Packet.{Packet}
 use Rattle.mqtt5_codec.specs.declared.packet.Packet.TheVariants as packets
 use Rattle.mqtt5_world.proofs.Step.{one}
 use Rattle.mqtt5_progress.specs.Subscribers.{hits}
-use Rattle.mqtt5_network.specs.Forwarded.{forwarded}
 use Rattle.mqtt5_network.specs.declared.subscription.Subscription.{Subscription}
 use Rattle.mqtt5_network.specs.declared.event.ClientEvent.{ClientEvent}
 use Rattle.mqtt5_network.specs.declared.event.ClientEvent.TheVariants as events
-use Rattle.mqtt5_network.specs.Subscriptions.{subscribed}
-use Rattle.mqtt5_network.specs.Asking.{subscription_of}
-use Rattle.mqtt5_network.specs.Retained.{is_to, kept_of, retains, retained_after, retained_of, some_of, last_with, last_after, copy_for, gets_copies, copies_of, copies_all, copies_for, copies_first}
+use Rattle.mqtt5_network.specs.Subscriptions.{subscribed, pattern_of}
+use Rattle.mqtt5_network.specs.Asking.{identifier_of, share_of, subscription_of}
+use Rattle.mqtt5_network.specs.Retained.{is_to, kept_of, retains, retained_after, retained_of, some_of, last_with, last_after, copied_under, copy_for, gets_copies, copies_of, copies_all, copies_for, copies_first}
 use Rattle.mqtt5_network.specs.Place.{Place, copies_in}
 use Rattle.mqtt5_network.specs.Granted.{IsNew}
 use Rattle.mqtt5_network.proofs.Good.{no_alias, IsForwarded}
@@ -35,7 +35,7 @@ not_new test new p e = by (test p) refl
   where
     by : (b : Bool) → test p ≡ b → b ≡ false
     by false h = refl
-    by true h = absurd (let z = sym (new p h) ∙ e in cc)
+    by true h = absurd (let z = sym (new.retain p h) ∙ e in cc)
 
 one_copy : (x : Publish) (xs : List Publish) → IsForwarded x → x.retain ≡ true → AreCopies xs → AreCopies (x ∷ xs)
 one_copy x xs is retain all =
@@ -63,25 +63,27 @@ both_copies (x ∷ xs) ys all more =
 
 copied_all : (s : Subscription) (kept : List Publish) → AreCopies (filter_map (copy_for s) kept)
 copied_all s [] = no_copies
-copied_all s (p ∷ kept) = by (hits (s.topic_filter ∷ []) p) (copied_all s kept)
+copied_all s (p ∷ kept) = by (hits (pattern_of s ∷ []) p) (copied_all s kept)
   where
-    by : (b : Bool) → AreCopies (filter_map (copy_for s) kept) → AreCopies (cons_option (cond b (Some (record (forwarded s.granted p) { retain = true })) None) (filter_map (copy_for s) kept))
-    by true all = one_copy (record (forwarded s.granted p) { retain = true }) (filter_map (copy_for s) kept) (record { plain = no_alias p.properties; unnumbered = refl }) refl all
+    by : (b : Bool) → AreCopies (filter_map (copy_for s) kept) → AreCopies (cons_option (cond b (Some (copied_under s p)) None) (filter_map (copy_for s) kept))
+    by true all = one_copy (copied_under s p) (filter_map (copy_for s) kept) (record { plain = no_alias (option_to_list s.identifier) p.properties; unnumbered = refl }) refl all
     by false all = all
 
-copied_of : (kept : List Publish) (ss : List Subscription) (f : Filter) → AreCopies (copies_of kept ss f)
-copied_of kept ss f = by (gets_copies f.retain_forward_rule f.path ss)
+copied_of : (kept : List Publish) (n : Option ℕ) (ss : List Subscription) (f : Filter) → AreCopies (copies_of kept n ss f)
+copied_of kept n ss f = by (is_none (share_of f.path) && gets_copies f.retain_forward_rule f.path ss)
   where
-    by : (b : Bool) → AreCopies (cond b (filter_map (copy_for (subscription_of f)) kept) [])
-    by true = copied_all (subscription_of f) kept
+    by : (b : Bool) → AreCopies (cond b (filter_map (copy_for (subscription_of n f)) kept) [])
+    by true = copied_all (subscription_of n f) kept
     by false = no_copies
 
-copied_filters : (kept : List Publish) (fs : List Filter) (ss : List Subscription) → AreCopies (copies_all kept fs ss)
-copied_filters kept [] ss = no_copies
-copied_filters kept (f ∷ fs) ss = both_copies (copies_of kept ss f) (copies_all kept fs (subscribed (subscription_of f) ss)) (copied_of kept ss f) (copied_filters kept fs (subscribed (subscription_of f) ss))
+copied_filters : (kept : List Publish) (n : Option ℕ) (fs : List Filter) (ss : List Subscription) → AreCopies (copies_all kept n fs ss)
+copied_filters kept n [] ss = no_copies
+copied_filters kept n (f ∷ fs) ss =
+    let next = subscribed (subscription_of n f) ss in
+    both_copies (copies_of kept n ss f) (copies_all kept n fs next) (copied_of kept n ss f) (copied_filters kept n fs next)
 
 copied_for : (kept : List Publish) (ss : List Subscription) (x : Packet) → AreCopies (copies_for kept ss x)
-copied_for kept ss (packets.Subscribe p) = copied_filters kept p.filters ss
+copied_for kept ss (packets.Subscribe p) = copied_filters kept (identifier_of p.properties) p.filters ss
 copied_for kept ss other = no_copies
 
 copied_first : (kept : List Publish) (ss : List Subscription) (way : List Packet) → AreCopies (copies_first kept ss way)
@@ -97,6 +99,7 @@ are_copies handed p events.Down = no_copies
 are_copies handed p events.PassOn = no_copies
 are_copies handed p events.Lost = no_copies
 are_copies handed p events.Left = no_copies
+are_copies handed p (events.Turn f turn) = no_copies
 are_copies handed p events.Due = no_copies
 are_copies handed p (events.Back m n w) = no_copies
 are_copies handed p events.Ends = no_copies

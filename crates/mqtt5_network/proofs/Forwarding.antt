@@ -1,6 +1,6 @@
 -- How often a class is among what is forwarded of publishes that are handed on.
-use Rattle.std.proofs.Common.{◌≡◌, ℕ, ◌+◌, ◌≤◌, Bool, true, false, cond, List, [], ◌∷◌, ◌++◌, count_by, Option, Some, None, refl, sym, ap, ◌∙◌, arith}
-use Rattle.std.specs.Prelude.{option_map, IsSomeAnd}
+use Rattle.std.proofs.Common.{◌≡◌, ℕ, ◌+◌, ◌≤◌, Bool, true, false, cond, ◌&&◌, List, [], ◌∷◌, ◌++◌, count_by, Option, Some, None, refl, sym, ap, ◌∙◌, arith}
+use Rattle.std.specs.Prelude.{option_map}
 use Rattle.std.specs.List.{filter_map, cons_option}
 use Rattle.std.proofs.lemmas.List.Sums.{sum_by-cons, sum_by-append}
 use Rattle.mqtt5_base.specs.declared.quality.QoS.{QoS}
@@ -10,8 +10,8 @@ use Rattle.mqtt5_world.specs.Delivery.{IsClass}
 use Rattle.mqtt5_world.proofs.Step.{one}
 use Rattle.mqtt5_network.specs.Forwarded.{lesser, forwarded, passes}
 use Rattle.mqtt5_network.specs.declared.subscription.Subscription.{Subscription}
-use Rattle.mqtt5_network.specs.Subscriptions.{granted_for, forwarded_to}
-use Rattle.mqtt5_network.specs.Granted.{published}
+use Rattle.mqtt5_network.specs.Subscriptions.{granted_for, holding, identifiers_of, keep_retain, forwarded_under, forwarded_to}
+use Rattle.mqtt5_network.specs.Granted.{published, IsNew}
 
 -- ---- counts
 
@@ -39,19 +39,31 @@ lesser_two ExactlyOnce = refl
 pub published_class : (q : QoS) (test : Publish → Bool) → IsClass q test → IsClass q (published test)
 published_class q test k = record { of_qos = λ p h. sym (lesser_two p.qos) ∙ k.of_qos (forwarded ExactlyOnce p) h; blind = λ p id. refl; blind_again = λ p. refl }
 
+-- of a class of new messages it is forwarded so without its retain and without identifiers
+pub under_plain : (test : Publish → Bool) → IsNew test → (ss : List Subscription) (q : QoS) (p : Publish) → test (forwarded_under ss q p) ≡ true → test (forwarded q p) ≡ true
+under_plain test new ss q p e =
+    let b : Bool = p.retain && keep_retain ss in
+    let x : Publish = record (forwarded q p) { retain = b } in
+    let h : test x ≡ true = sym (new.blind x (identifiers_of ss)) ∙ e in
+    ap (λ r. test (record (forwarded q p) { retain = r })) (sym (new.retain x h)) ∙ h
+
 module _ (test : Publish → Bool) (own : Bool) (ss : List Subscription) where
+  -- a publish as it is forwarded
+  abbrev under : Publish → QoS → Publish
+  under p q = forwarded_under (holding own ss p) q p
+
   -- whether one is forwarded as one of the class
   abbrev fits : Publish → Option QoS → ℕ
-  fits p o = count_by test (cons_option (option_map (λ q. forwarded q p) o) [])
+  fits p o = count_by test (cons_option (option_map (under p) o) [])
 
-  fits_more : (p : Publish) (o : Option QoS) (ps : List Publish) → count_by test (cons_option (option_map (λ q. forwarded q p) o) ps) ≡ fits p o + count_by test ps
+  fits_more : (p : Publish) (o : Option QoS) (ps : List Publish) → count_by test (cons_option (option_map (under p) o) ps) ≡ fits p o + count_by test ps
   fits_more p None ps = omega arith
-  fits_more p (Some q) ps = let a = count_here test (forwarded q p) ps in let b = count_here test (forwarded q p) [] in omega (arith, a, b)
+  fits_more p (Some q) ps = let a = count_here test (under p q) ps in let b = count_here test (under p q) [] in omega (arith, a, b)
 
   -- how many are, by those that are handed on
-  fits_one : (p : Publish) (o : Option QoS) → fits p o ≡ one (passes test (option_map (λ q. forwarded q p) o))
+  fits_one : (p : Publish) (o : Option QoS) → fits p o ≡ one (passes test (option_map (under p) o))
   fits_one p None = refl
-  fits_one p (Some q) = let a = count_here test (forwarded q p) [] in omega (arith, a)
+  fits_one p (Some q) = let a = count_here test (under p q) [] in omega (arith, a)
 
   pub forwarded_kind : (kind : Publish → Bool) → ((p : Publish) → passes test (forwarded_to own ss p) ≡ kind p) → (ps : List Publish) → count_by test (filter_map (forwarded_to own ss) ps) ≡ count_by kind ps
   forwarded_kind kind reaches [] = refl
@@ -62,8 +74,8 @@ module _ (test : Publish → Bool) (own : Bool) (ss : List Subscription) where
       let r = forwarded_kind kind reaches ps in
       omega (arith, a, b, c, r)
 
-  -- where the QoS of each of the class is granted, it is each of them at least
-  pub forwarded_least : ((p : Publish) → published test p ≡ true → IsSomeAnd (granted_for own ss p) (λ q. lesser p.qos q ≡ p.qos)) → (ps : List Publish) → count_by (published test) ps ≤ count_by test (filter_map (forwarded_to own ss) ps)
+  -- where each of the class is forwarded as one of it, it is each of them at least
+  pub forwarded_least : ((p : Publish) → published test p ≡ true → passes test (forwarded_to own ss p) ≡ true) → (ps : List Publish) → count_by (published test) ps ≤ count_by test (filter_map (forwarded_to own ss) ps)
   forwarded_least grants [] = omega arith
   forwarded_least grants (p ∷ ps) =
       let a = count_here (published test) p ps in
@@ -72,29 +84,26 @@ module _ (test : Publish → Bool) (own : Bool) (ss : List Subscription) where
       let r = forwarded_least grants ps in
       omega (arith, a, b, c, r)
     where
-      granted : (o : Option QoS) → IsSomeAnd o (λ q. lesser p.qos q ≡ p.qos) → one (published test p) ≤ fits p o
-      granted None h = absurd h
-      granted (Some q) h =
-          let a = count_here test (forwarded q p) [] in
-          let b = ap (λ r. one (test (record (forwarded ExactlyOnce p) { qos = r }))) (h ∙ sym (lesser_two p.qos)) in
-          omega (arith, a, b)
-
       by : (b : Bool) → published test p ≡ b → one (published test p) ≤ fits p (granted_for own ss p)
       by false e = let z = ap one e in omega (arith, z)
-      by true e = granted (granted_for own ss p) (grants p e)
+      by true e =
+          let z = ap one e in
+          let y = fits_one p (granted_for own ss p) ∙ ap one (grants p e) in
+          omega (arith, z, y)
 
-  module _ (k : IsClass ExactlyOnce test) where
-    -- of a class of QoS 2 it is at most each of them
+  module _ (k : IsClass ExactlyOnce test) (new : IsNew test) where
+    -- of a class of new messages of QoS 2 it is at most each of them
     fits_few : (p : Publish) (o : Option QoS) → fits p o ≤ one (published test p)
     fits_few p None = omega arith
-    fits_few p (Some q) = by (test (forwarded q p)) refl
+    fits_few p (Some q) = by (test (under p q)) refl
       where
-        by : (b : Bool) → test (forwarded q p) ≡ b → fits p (Some q) ≤ one (published test p)
-        by false e = let a = count_here test (forwarded q p) [] in let b = ap one e in omega (arith, a, b)
+        by : (b : Bool) → test (under p q) ≡ b → fits p (Some q) ≤ one (published test p)
+        by false e = let a = count_here test (under p q) [] in let b = ap one e in omega (arith, a, b)
         by true e =
-            let a = count_here test (forwarded q p) [] in
+            let a = count_here test (under p q) [] in
             let b = ap one e in
-            let c = ap one (ap (λ g. test (forwarded g p)) (sym (two_granted p.qos q (k.of_qos (forwarded q p) e))) ∙ e) in
+            let h = under_plain test new (holding own ss p) q p e in
+            let c = ap one (ap (λ g. test (forwarded g p)) (sym (two_granted p.qos q (k.of_qos (forwarded q p) h))) ∙ h) in
             omega (arith, a, b, c)
 
     pub forwarded_few : (ps : List Publish) → count_by test (filter_map (forwarded_to own ss) ps) ≤ count_by (published test) ps

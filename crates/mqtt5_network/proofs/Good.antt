@@ -26,7 +26,7 @@ use Rattle.mqtt5_world.specs.World.{World}
 use Rattle.mqtt5_progress.specs.Packets.{numbered}
 use Rattle.mqtt5_progress.proofs.Closed.{Closed, IsSent, APublish, ARelease, again_of}
 use Rattle.mqtt5_network.specs.Receiver.{as_receiver, IsPlain}
-use Rattle.mqtt5_network.specs.Forwarded.{passed_on, forwarded}
+use Rattle.mqtt5_network.specs.Forwarded.{passed_on, with_identifiers}
 use Rattle.mqtt5_network.specs.Connection.{reply_in, is_sending, sent, connected, sent_in}
 use Rattle.mqtt5_network.proofs.Taking.{back_range}
 use Rattle.mqtt5_network.proofs.Sending.{InRange, Costs, Kept, Aside, IsAnswer, ToSubscribe, ToUnsubscribe, out_apart, ack_apart, ack_kept, back_kept, subscribe_aside, unsubscribe_aside, answer_aside}
@@ -38,7 +38,7 @@ use Rattle.mqtt5_inflight.specs.declared.event.Outgoing.TheVariants as outgoing
 use Rattle.mqtt5_inflight.specs.declared.error.StateError.TheVariants as errors
 use Rattle.mqtt5_subscribe.specs.declared.subscribe.Subscribe.{Subscribe}
 use Rattle.mqtt5_subscribe.specs.declared.unsubscribe.Unsubscribe.{Unsubscribe}
-use Rattle.mqtt5_network.specs.Subscriptions.{granted_for, forwarded_to}
+use Rattle.mqtt5_network.specs.Subscriptions.{granted_for, holding, identifiers_of, forwarded_under, forwarded_to}
 use Rattle.mqtt5_network.specs.Answered.{answers_told}
 use Rattle.mqtt5_network.specs.Client.{Client, routed, new_client, asked_of, sends_of, comes_to, goes_up, takes_in, goes_down, queues, taken_for, passes_on, reconnects}
 use Rattle.mqtt5_network.proofs.Telling.{Same, out_same, subscribe_same, unsubscribe_same, sending_same, ack_same, answer_more, back_same, Tells, tells_still, tells_same, tells_taken, tells_lost, tells_asked}
@@ -65,9 +65,11 @@ plain_sent : (x : Packet) → IsSent x → Plain x → IsPlain x
 plain_sent _ (APublish p) q = q
 plain_sent _ (ARelease id) q = refl
 
-pub no_alias : (o : Option PublishProperties) → alias_in (option_map passed_on o) ≡ None
-no_alias None = refl
-no_alias (Some set) = refl
+pub no_alias : (ns : List ℕ) (o : Option PublishProperties) → alias_in (with_identifiers ns (option_map passed_on o)) ≡ None
+no_alias [] None = refl
+no_alias [] (Some set) = refl
+no_alias (n ∷ ns) None = refl
+no_alias (n ∷ ns) (Some set) = refl
 
 numbered_plain : (q : QoS) (p : Publish) (c : Core) → alias_of p ≡ None → Plain (packets.Publish (numbered q c p))
 numbered_plain AtMostOnce p c e = e
@@ -91,9 +93,9 @@ module _ (own : Bool) (ss : List Subscription) where
   all_forwarded [] = tt
   all_forwarded (p ∷ ps) = by (granted_for own ss p) (all_forwarded ps)
     where
-      by : (o : Option QoS) → AllByRecursion IsForwarded (filter_map (forwarded_to own ss) ps) → AllByRecursion IsForwarded (cons_option (option_map (λ q. forwarded q p) o) (filter_map (forwarded_to own ss) ps))
+      by : (o : Option QoS) → AllByRecursion IsForwarded (filter_map (forwarded_to own ss) ps) → AllByRecursion IsForwarded (cons_option (option_map (λ q. forwarded_under (holding own ss p) q p) o) (filter_map (forwarded_to own ss) ps))
       by None all = all
-      by (Some q) all = (record { plain = no_alias p.properties; unnumbered = refl }, all)
+      by (Some q) all = (record { plain = no_alias (identifiers_of (holding own ss p)) p.properties; unnumbered = refl }, all)
 
 -- without the last id
 abbrev without_last : Session → Session
@@ -129,8 +131,7 @@ new_few old new g =
     let a = ap length g.grown in
     let b = length-append old g.more in
     let c = length-drop (length old) new in
-    let d = g.few in
-    omega (arith, a, b, c, d)
+    omega (arith, a, b, c, g.few)
 
 pub none_new : (ps : List Publish) → length (drop (length ps) ps) ≤ 0
 none_new ps = let a = length-drop (length ps) ps in omega (arith, a)
@@ -417,10 +418,9 @@ module _ (limit sender_limit : ℕ) (c : Client) (i : IsGood limit sender_limit 
 
         one_more_down : length (others d.down) ≤ length (others c.down) + 1
         one_more_down =
-            let m = ap length behind.0 in
             let o = length-append (others c.down) (option_to_list (answer_of c.subscriptions x)) in
             let p = one_answer (answer_of c.subscriptions x) in
-            omega (arith, m, o, p)
+            omega (arith, ap length behind.0, o, p)
 
         own : flow_from d ≡ flow_from c
         own = same_flow c.session c.session c.receiver c.receiver c.up rest c.down d.down c.accepted refl refl (sym front.1) behind.2

@@ -13,12 +13,12 @@ use Rattle.mqtt5_world.proofs.Step.{one}
 use Rattle.mqtt5_network.specs.Receiver.{shown}
 use Rattle.mqtt5_network.specs.Forwarded.{forwarded, passes}
 use Rattle.mqtt5_network.specs.declared.event.NetworkEvent.{NetworkEvent}
-use Rattle.mqtt5_network.specs.Subscriptions.{granted_for, forwarded_to}
+use Rattle.mqtt5_network.specs.Subscriptions.{granted_for, holding, forwarded_under, forwarded_to}
 use Rattle.mqtt5_network.specs.Client.{Client, routed}
 use Rattle.mqtt5_network.specs.Place.{Place, happens_at, becomes_with, queues_at, AtRest}
 use Rattle.mqtt5_network.specs.Network.{Network, new_of, newly, handed_by, happens_in, run_network, IsReached, AllAtRest, given_in, lost_in, unacked_in}
 use Rattle.mqtt5_network.specs.Granted.{published, Grants, GrantsNone, GrantsOthers, Reaches, IsNew, AtPlace, Throughout, GoesOn, Lives}
-use Rattle.mqtt5_network.proofs.Forwarding.{count_here, count_both, published_class, two_granted, forwarded_kind, forwarded_least, forwarded_few, forwarded_none}
+use Rattle.mqtt5_network.proofs.Forwarding.{count_here, count_both, published_class, two_granted, under_plain, forwarded_kind, forwarded_least, forwarded_few, forwarded_none}
 use Rattle.mqtt5_network.proofs.Counted.{shown_exactly, shown_least, own_exactly}
 use Rattle.mqtt5_network.proofs.Places.{IsPlace, goes_on, hidden_of, here_of}
 use Rattle.mqtt5_network.proofs.Copies.{are_copies}
@@ -154,7 +154,7 @@ module _ (test : Publish → Bool) (es : List NetworkEvent) (n : Network) (i : �
   pub none_added : IsClass ExactlyOnce test → IsNew test → Throughout es (AtPlace i (GrantsNone test)) n → count_by test (routed q.client) ≡ count_by test (routed p.client)
   none_added k new t =
       let a = least_added test (λ x. false) (GrantsNone test) i (λ c g own xs. let z = none_of xs in omega (arith, z)) es n p q was is on t in
-      let b = most_added test (λ x. false) (GrantsNone test) i (λ c g own xs. let z = forwarded_none test own c.subscriptions k (g own) xs in omega (arith, z)) es n p q (bare_new test new i es n) was is on t in
+      let b = most_added test (λ x. false) (GrantsNone test) i (λ c g own xs. let z = forwarded_none test own c.subscriptions k new (g own) xs in omega (arith, z)) es n p q (bare_new test new i es n) was is on t in
       let x = none_of n.handed in
       let y = none_of later.handed in
       omega (arith, a, b, x, y)
@@ -192,7 +192,7 @@ module _ (test : Publish → Bool) (es : List NetworkEvent) (n : Network) (i : �
       exactly_granted : count_by test (routed q.client) + count_by (published test) n.handed ≡ count_by test (routed p.client) + count_by (published test) later.handed
       exactly_granted =
           let a = least_granted t in
-          let b = most_added test (published test) (Grants test) i (λ c g own xs. forwarded_few test own c.subscriptions k xs) es n p q (bare_new test new i es n) was is on t in
+          let b = most_added test (published test) (Grants test) i (λ c g own xs. forwarded_few test own c.subscriptions k new xs) es n p q (bare_new test new i es n) was is on t in
           omega (arith, a, b)
 
       handed_after : count_by (published test) later.handed + lost_in later (published test) ≡ given_in later (published test)
@@ -227,9 +227,11 @@ module _ (test : Publish → Bool) (es : List NetworkEvent) (n : Network) (i : �
         let g : Reaches test kind p.client = subst (λ o. IfSome o (λ (p : Place). Reaches test kind p.client)) was (first (AtPlace i (Reaches test kind)) es n t) in
         by (granted_for false p.client.subscriptions x) (g false x ∙ h)
       where
-        by : (o : Option QoS) → passes test (option_map (λ q. forwarded q x) o) ≡ true → published test x ≡ true
+        by : (o : Option QoS) → passes test (option_map (λ q. forwarded_under (holding false p.client.subscriptions x) q x) o) ≡ true → published test x ≡ true
         by None e = absurd cc
-        by (Some q) e = ap (λ g. test (forwarded g x)) (sym (two_granted x.qos q (k.of_qos (forwarded q x) e))) ∙ e
+        by (Some q) e =
+            let h = under_plain test new (holding false p.client.subscriptions x) q x e in
+            ap (λ g. test (forwarded g x)) (sym (two_granted x.qos q (k.of_qos (forwarded q x) h))) ∙ h
 
     kind_shown : given_in n (published test) ≡ 0 → count_by test (shown q.client.session) + lost_in later kind ≡ given_in later kind
     kind_shown none =
@@ -267,11 +269,11 @@ module _ (test : Publish → Bool) (k : IsClass ExactlyOnce test) (new : IsNew t
       by : (b : Bool) → (i == e.client) ≡ b → GrantsOthers test (queues_at b (handed_by n e) (cond b (becomes_with n.handed e.what p) p)).client
           → count_by test (filter_map (forwarded_to b (cond b (becomes_with n.handed e.what p) p).client.subscriptions) (handed_by n e)) + own_of (queues_at b (handed_by n e) (cond b (becomes_with n.handed e.what p) p)) ≡ own_of p + count_by (published test) (handed_by n e)
       by false at g =
-          let x = forwarded_few test false p.client.subscriptions k (handed_by n e) in
+          let x = forwarded_few test false p.client.subscriptions k new (handed_by n e) in
           let y = forwarded_least test false p.client.subscriptions g.0 (handed_by n e) in
           omega (arith, x, y)
       by true at g =
-          let x = forwarded_none test true (becomes_with n.handed e.what p).client.subscriptions k g.1 (handed_by n e) in
+          let x = forwarded_none test true (becomes_with n.handed e.what p).client.subscriptions k new g.1 (handed_by n e) in
           let y = one_more (published test) n.handed e.what p j in
           let s = ap own_of (goes_on p e.what (on (eqb-true i e.client at))).0 in
           let z = ap (count_by (published test)) (newly_at e.client (λ p. happens_at p e.what) n.places p (ap (slice_get n.places) (sym (eqb-true i e.client at)) ∙ was)) in

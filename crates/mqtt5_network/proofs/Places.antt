@@ -10,15 +10,15 @@ use Rattle.mqtt5_session.specs.Session.{Session}
 use Rattle.mqtt5_session.specs.Requests.{on_request}
 use Rattle.mqtt5_network.specs.declared.event.ClientEvent.{ClientEvent}
 use Rattle.mqtt5_network.specs.declared.event.ClientEvent.TheVariants as events
-use Rattle.mqtt5_network.specs.Client.{Client, routed, asked_of, sends_of, asks_for, requests_for, goes_up, goes_down, taken_for, passes_on}
+use Rattle.mqtt5_network.specs.Client.{Client, routed, asked_of, sends_of, asks_for, requests_for, goes_up, goes_down, taken_for, passes_on, takes_turn}
 use Rattle.mqtt5_network.specs.declared.event.Will.{Will}
 use Rattle.mqtt5_network.specs.Place.{Place, message_of, lost_message, replaced_message, due_message, cut_off, sent_from, passes, loses, ended, happens_at, renewed, becomes, ends_of, queues_at, gets_at}
 use Rattle.mqtt5_network.specs.Granted.{GoesOn, KeepsSubscriptions}
 use Rattle.mqtt5_network.specs.Answered.{asked_by, IsClear}
-use Rattle.mqtt5_network.proofs.Telling.{subscribe_same, unsubscribe_same, Tells, tells_same, tells_lost, asked_away, requests_away}
+use Rattle.mqtt5_network.proofs.Telling.{subscribe_same, unsubscribe_same, turned_without, Tells, tells_same, tells_lost, asked_away, requests_away}
 use Rattle.mqtt5_network.proofs.Moves as moves
 use Rattle.mqtt5_network.proofs.Good.{Grows, Quiet, client_grows, client_quiet, client_tells, back_heard, back_answered, back_told, routed_same}
-use Rattle.mqtt5_network.proofs.Clients.{IsClient, AreCopies, client_start, client_moved, client_queues, client_gets}
+use Rattle.mqtt5_network.proofs.Clients.{IsClient, AreCopies, client_start, client_moved, client_queues, client_turned, client_gets}
 
 -- ---- here and away
 
@@ -91,6 +91,7 @@ module _ (handed : List Publish) (p : Place) where
   here_next events.PassOn h = inl (record { is = h.is; client = subst (λ b. IsClient handed (passes b p.client)) (sym h.is) (client_moved handed moves.PassOn p.client h.client) })
   here_next events.Lost h = inr (here_lost h)
   here_next events.Left h = inr (record { is = refl; up = refl; down = refl; hidden = record { up = p.client.up; down = p.client.down; client = h.client } })
+  here_next (events.Turn f turn) h = inl (record { is = h.is; client = client_turned handed f turn p.client h.client })
   here_next events.Due h = inl (record { is = h.is; client = h.client })
   here_next (events.Back m n w) h = inl (record { is = refl; client = client_moved handed (moves.Back m n) p.client h.client })
   here_next events.Ends h = inr (here_ended h)
@@ -104,6 +105,7 @@ module _ (handed : List Publish) (p : Place) where
   gone_next events.PassOn h = inr (subst (λ b. IsGone handed (record p { client = passes b p.client })) (sym h.is) h)
   gone_next events.Lost h = inr (gone_lost h)
   gone_next events.Left h = inr (record { is = refl; up = refl; down = refl; hidden = record { up = h.hidden.up; down = h.hidden.down; client = h.hidden.client } })
+  gone_next (events.Turn f turn) h = inr (record { is = h.is; up = h.up; down = h.down; hidden = record { up = h.hidden.up; down = h.hidden.down; client = client_turned handed f turn (seen p.client h.hidden.up h.hidden.down) h.hidden.client } })
   gone_next events.Due h = inr (record { is = h.is; up = h.up; down = h.down; hidden = record { up = h.hidden.up; down = h.hidden.down; client = h.hidden.client } })
   gone_next (events.Back m n w) h = inl (record { is = refl; client = client_moved handed (moves.Back m n) (seen p.client h.hidden.up h.hidden.down) h.hidden.client })
   gone_next events.Ends h = inr (gone_ended h)
@@ -139,6 +141,7 @@ goes_on p events.Down g = (refl, refl)
 goes_on p events.PassOn g = (refl, refl)
 goes_on p events.Lost g = (refl, refl)
 goes_on p events.Left g = (refl, refl)
+goes_on p (events.Turn f turn) g = (refl, refl)
 goes_on p events.Due g = (refl, refl)
 goes_on p (events.Back m n w) g = (refl, refl)
 goes_on p events.Ends g = absurd g
@@ -157,6 +160,7 @@ course events.Down = On events.Down tt
 course events.PassOn = On events.PassOn tt
 course events.Lost = On events.Lost tt
 course events.Left = On events.Left tt
+course (events.Turn f turn) = On (events.Turn f turn) tt
 course events.Due = On events.Due tt
 course (events.Back m n w) = On (events.Back m n w) tt
 course events.Ends = End
@@ -220,6 +224,7 @@ module _ (handed : List Publish) (p : Place) (i : IsPlace handed p) where
   place_grows events.PassOn = stays _ _ (passes_handed p.here p.client)
   place_grows events.Lost = stays _ _ refl
   place_grows events.Left = stays _ _ refl
+  place_grows (events.Turn f turn) = stays _ _ refl
   place_grows events.Due = stays _ _ refl
   place_grows (events.Back m n w) = stays _ _ refl
   place_grows events.Ends = stays _ _ refl
@@ -253,6 +258,7 @@ wills_grow p events.Down = stays _ _ refl
 wills_grow p events.PassOn = stays _ _ refl
 wills_grow p events.Lost = record { more = lost_message p.will; grown = refl; few = lost_few p.will }
 wills_grow p events.Left = stays _ _ refl
+wills_grow p (events.Turn f turn) = stays _ _ refl
 wills_grow p events.Due = record { more = due_message p.here p.will; grown = refl; few = due_few p.here p.will }
 wills_grow p (events.Back m n w) = record { more = replaced_message p.here p.will; grown = refl; few = replaced_few p.here p.will }
 wills_grow p events.Ends = record { more = message_of p.will; grown = refl; few = message_few p.will }
@@ -274,6 +280,7 @@ place_routed p events.Down = routed_same p.client moves.Down
 place_routed p events.PassOn = passes_routed p.here p.client
 place_routed p events.Lost = refl
 place_routed p events.Left = refl
+place_routed p (events.Turn f turn) = refl
 place_routed p events.Due = refl
 place_routed p (events.Back m n w) = refl
 place_routed p events.Ends = refl
@@ -301,6 +308,7 @@ module _ (handed : List Publish) (p : Place) where
   here_quiet events.PassOn k h = subst (λ b. Quiet p.client (passes b p.client)) (sym h.is) (client_quiet h.client.limit h.client.sender_limit p.client h.client.good moves.PassOn (tt {0}))
   here_quiet events.Lost k h = λ q. (refl, refl)
   here_quiet events.Left k h = λ q. (refl, refl)
+  here_quiet (events.Turn f turn) k h = absurd k
   here_quiet events.Due k h = λ q. (q, refl)
   here_quiet (events.Back m n w) k h = client_quiet h.client.limit h.client.sender_limit p.client h.client.good (moves.Back m n) (tt {0})
   here_quiet events.Ends k h = absurd k
@@ -316,6 +324,7 @@ module _ (handed : List Publish) (p : Place) where
   gone_quiet events.PassOn k h = subst (λ b. Quiet p.client (passes b p.client)) (sym h.is) (λ q. (q, refl))
   gone_quiet events.Lost k h = λ q. (refl, refl)
   gone_quiet events.Left k h = λ q. (refl, refl)
+  gone_quiet (events.Turn f turn) k h = absurd k
   gone_quiet events.Due k h = λ q. (q, refl)
   gone_quiet (events.Back m n w) k h = λ q. (back_heard h.hidden.client.limit h.hidden.client.sender_limit (seen p.client h.hidden.up h.hidden.down) h.hidden.client.good m n, refl)
   gone_quiet events.Ends k h = absurd k
@@ -342,6 +351,7 @@ module _ (handed : List Publish) (p : Place) where
   here_tells events.PassOn g h = subst (λ b. Tells p.client (passes b p.client) []) (sym h.is) (client_tells h.client.limit h.client.sender_limit p.client h.client.good moves.PassOn)
   here_tells events.Lost g h = tells_lost p.client (cut_off p.client) [] refl refl refl refl
   here_tells events.Left g h = tells_lost p.client (cut_off p.client) [] refl refl refl refl
+  here_tells (events.Turn f turn) g h = tells_same p.client (takes_turn f turn p.client) refl refl refl (turned_without f turn p.client.subscriptions)
   here_tells events.Due g h = tells_same p.client p.client refl refl refl refl
   here_tells (events.Back m n w) g h = client_tells h.client.limit h.client.sender_limit p.client h.client.good (moves.Back m n)
   here_tells events.Ends g h = absurd g
@@ -355,6 +365,7 @@ module _ (handed : List Publish) (p : Place) where
   gone_tells events.PassOn g h = subst (λ b. Tells p.client (passes b p.client) []) (sym h.is) (tells_same p.client p.client refl refl refl refl)
   gone_tells events.Lost g h = tells_lost p.client (cut_off p.client) [] refl refl refl refl
   gone_tells events.Left g h = tells_lost p.client (cut_off p.client) [] refl refl refl refl
+  gone_tells (events.Turn f turn) g h = tells_same p.client (takes_turn f turn p.client) refl refl refl (turned_without f turn p.client.subscriptions)
   gone_tells events.Due g h = tells_same p.client p.client refl refl refl refl
   gone_tells (events.Back m n w) g h = let c = seen p.client h.hidden.up h.hidden.down in let i = h.hidden.client in tells_lost p.client (happens_at p (events.Back m n w)).client [] (back_told i.limit i.sender_limit c i.good m n) (back_answered i.limit i.sender_limit c i.good m n) (back_heard i.limit i.sender_limit c i.good m n) refl
   gone_tells events.Ends g h = absurd g

@@ -124,7 +124,7 @@ ready p = record p {
     up = [];
     down = [];
     accepted = [];
-    subscriptions = subscription_of asked_filter ∷ [];
+    subscriptions = subscription_of None asked_filter ∷ [];
     queue = [];
   };
   here = true;
@@ -176,7 +176,7 @@ waits p = record p {
     sender = record p.client.sender { core = (fresh 1 false).core };
     up = [];
     down = [];
-    subscriptions = subscription_of asked_filter ∷ [];
+    subscriptions = subscription_of None asked_filter ∷ [];
     queue = sample ∷ [];
   };
   here = true;
@@ -212,7 +212,7 @@ module _ (h : List Publish) (p : Place) where
   unfolding on_request on_packet resume_of back
   back_accepted = simp (looks, text) refl
 
-  back_subscriptions : back.client.subscriptions ≡ subscription_of asked_filter ∷ []
+  back_subscriptions : back.client.subscriptions ≡ subscription_of None asked_filter ∷ []
   unfolding on_request on_packet resume_of back
   back_subscriptions = simp (looks, text) refl
 

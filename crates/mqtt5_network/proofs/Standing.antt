@@ -15,11 +15,11 @@ use Rattle.mqtt5_world.proofs.Step.{one}
 use Rattle.mqtt5_inflight.specs.Unacked.{again as again_publish}
 use Rattle.mqtt5_progress.specs.Subscribers.{hits}
 use Rattle.mqtt5_network.specs.Receiver.{shown}
-use Rattle.mqtt5_network.specs.Forwarded.{lesser, greater, forwarded, passes}
+use Rattle.mqtt5_network.specs.Forwarded.{lesser, greater, passes}
 use Rattle.mqtt5_network.specs.Connection.{kept_at}
 use Rattle.mqtt5_network.specs.declared.subscription.Subscription.{Subscription}
 use Rattle.mqtt5_network.specs.declared.event.NetworkEvent.{NetworkEvent}
-use Rattle.mqtt5_network.specs.Subscriptions.{holds_for, granted_for, forwarded_to}
+use Rattle.mqtt5_network.specs.Subscriptions.{has_turn, pattern_of, holds_for, granted_for, holding, forwarded_under, forwarded_to}
 use Rattle.mqtt5_network.specs.Client.{Client, routed}
 use Rattle.mqtt5_network.specs.Place.{Place, AtRest}
 use Rattle.mqtt5_network.specs.Network.{Network, Profile, begins, start_network, happens_in, run_network, AllAtRest, given_by, given_in, most_by, most_in, kept_by, lost_in, unacked_by, unacked_in}
@@ -83,21 +83,32 @@ lesser_once g e = absurd cc
 granted_same : (ss : List Subscription) (p q : Publish) → q.topic ≡ p.topic → granted_for false ss q ≡ granted_for false ss p
 granted_same [] p q e = refl
 granted_same (s ∷ ss) p q e =
-    let hit : hits (s.topic_filter ∷ []) q ≡ hits (s.topic_filter ∷ []) p = ap (λ t. is_utf8 t && list_any (λ (f : Utf8). topic_matches t f.bytes) (s.topic_filter ∷ [])) e in
+    let hit : holds_for false s q ≡ holds_for false s p = ap (λ t. has_turn s.share && (is_utf8 t && list_any (λ (f : Utf8). topic_matches t f.bytes) (pattern_of s ∷ []))) e in
     let rest = granted_same ss p q e in
     λ n. cond (hit n) (Some (greater s.granted (rest n))) (rest n)
 
--- without No Local its own are granted as the others'
+-- without No Local a subscription holds for its own as for the others'
+own_holds : (own : Bool) (s : Subscription) → s.no_local ≡ false → (p : Publish) → holds_for own s p ≡ holds_for false s p
+own_holds own s local p = ap (λ b. has_turn s.share && b) (by own)
+  where
+    by : (b : Bool) → (not (b && s.no_local) && hits (pattern_of s ∷ []) p) ≡ hits (pattern_of s ∷ []) p
+    by true = ap (λ l. not l && hits (pattern_of s ∷ []) p) local
+    by false = refl
+
+-- so they are granted as these, under the same ones
 own_granted : (own : Bool) (ss : List Subscription) → AllByRecursion (λ (s : Subscription). s.no_local ≡ false) ss → (p : Publish) → granted_for own ss p ≡ granted_for false ss p
 own_granted own [] all p = refl
 own_granted own (s ∷ ss) all p =
-    let hold : holds_for own s p ≡ holds_for false s p = by own in
+    let hold = own_holds own s all.0 p in
     let rest = own_granted own ss all.1 p in
     λ n. cond (hold n) (Some (greater s.granted (rest n))) (rest n)
-  where
-    by : (b : Bool) → (not (b && s.no_local) && hits (s.topic_filter ∷ []) p) ≡ hits (s.topic_filter ∷ []) p
-    by true = ap (λ l. not l && hits (s.topic_filter ∷ []) p) all.0
-    by false = refl
+
+own_holding : (own : Bool) (ss : List Subscription) → AllByRecursion (λ (s : Subscription). s.no_local ≡ false) ss → (p : Publish) → holding own ss p ≡ holding false ss p
+own_holding own [] all p = refl
+own_holding own (s ∷ ss) all p =
+    let hold = own_holds own s all.0 p in
+    let rest = own_holding own ss all.1 p in
+    λ n. cond (hold n) (s ∷ rest n) (rest n)
 
 -- ---- what reaches it
 
@@ -105,19 +116,23 @@ module _ (ss : List Subscription) (test : Publish → Bool) where
   abbrev reach : Publish → Bool
   reach = reaching ss test
 
+  -- a publish as it is forwarded
+  abbrev under : Publish → QoS → Publish
+  under p g = forwarded_under (holding false ss p) g p
+
   -- under some QoS
-  reach_under : (p : Publish) → reach p ≡ true → (g : QoS) × (test (forwarded g p) ≡ true)
+  reach_under : (p : Publish) → reach p ≡ true → (g : QoS) × (test (under p g) ≡ true)
   reach_under p h = by (granted_for false ss p) h
     where
-      by : (o : Option QoS) → passes test (option_map (λ g. forwarded g p) o) ≡ true → (g : QoS) × (test (forwarded g p) ≡ true)
+      by : (o : Option QoS) → passes test (option_map (under p) o) ≡ true → (g : QoS) × (test (under p g) ≡ true)
       by None h = absurd cc
       by (Some g) h = (g, h)
 
   -- whatever the id and dup
-  reach_same : (p q : Publish) → q.topic ≡ p.topic → ((g : QoS) → forwarded g q ≡ forwarded g p) → reach q ≡ reach p
-  reach_same p q e f = ap (λ o. passes test (option_map (λ g. forwarded g q) o)) (granted_same ss p q e) ∙ by (granted_for false ss p)
+  reach_same : (p q : Publish) → q.topic ≡ p.topic → ((g : QoS) → under q g ≡ under p g) → reach q ≡ reach p
+  reach_same p q e f = ap (λ o. passes test (option_map (under q) o)) (granted_same ss p q e) ∙ by (granted_for false ss p)
     where
-      by : (o : Option QoS) → passes test (option_map (λ g. forwarded g q) o) ≡ passes test (option_map (λ g. forwarded g p) o)
+      by : (o : Option QoS) → passes test (option_map (under q) o) ≡ passes test (option_map (under p) o)
       by None = refl
       by (Some g) = ap test (f g)
 
@@ -125,7 +140,7 @@ module _ (ss : List Subscription) (test : Publish → Bool) where
   twice_class : IsClass ExactlyOnce test → IsClass ExactlyOnce reach
   twice_class k =
       record {
-        of_qos = λ p h. let u = reach_under p h in lesser_twice p.qos u.0 (k.of_qos (forwarded u.0 p) u.1);
+        of_qos = λ p h. let u = reach_under p h in lesser_twice p.qos u.0 (k.of_qos (under p u.0) u.1);
         blind = λ p id. reach_same p (record p { pkid = id }) refl (λ g. refl);
         blind_again = λ p. reach_same p (again_publish p) refl (λ g. refl);
       }
@@ -167,19 +182,19 @@ module _ (ss : List Subscription) (test : Publish → Bool) where
 
   -- what is shown as of QoS 1 wasn't published at QoS 0
   none_light : IsClass AtLeastOnce test → (ps : List Publish) → count_by (at AtMostOnce) ps ≡ 0
-  none_light k = none_at AtMostOnce (λ p h e. let u = reach_under p h in lesser_once u.0 (ap (λ q. lesser q u.0) (sym e) ∙ k.of_qos (forwarded u.0 p) u.1))
+  none_light k = none_at AtMostOnce (λ p h e. let u = reach_under p h in lesser_once u.0 (ap (λ q. lesser q u.0) (sym e) ∙ k.of_qos (under p u.0) u.1))
 
   -- of what no filter matches
   none_reach : ((p : Publish) → test p ≡ true → granted_for false ss p ≡ None) → (p : Publish) → reach p ≡ false
   none_reach none p = by (granted_for false ss p) refl
     where
-      by : (o : Option QoS) → granted_for false ss p ≡ o → passes test (option_map (λ g. forwarded g p) o) ≡ false
+      by : (o : Option QoS) → granted_for false ss p ≡ o → passes test (option_map (under p) o) ≡ false
       by None e = refl
-      by (Some g) e = tested (test (forwarded g p)) refl
+      by (Some g) e = tested (test (under p g)) refl
         where
-          tested : (b : Bool) → test (forwarded g p) ≡ b → b ≡ false
+          tested : (b : Bool) → test (under p g) ≡ b → b ≡ false
           tested false h = refl
-          tested true h = absurd (let n = sym e ∙ sym (granted_same ss p (forwarded g p) refl) ∙ none (forwarded g p) h in cc)
+          tested true h = absurd (let n = sym e ∙ sym (granted_same ss p (under p g) refl) ∙ none (under p g) h in cc)
 
   -- ---- sums
 
@@ -300,7 +315,10 @@ module _ (n : Network) (i : ℕ) (p : Place) (b : KeepsFirst n i p) (test : Publ
   ReachesBy l = (own : Bool) (x : Publish) → passes test (forwarded_to own l x) ≡ kind x
 
   reaches : ReachesBy ss
-  reaches own x = ap (λ o. passes test (option_map (λ q. forwarded q x) o)) (own_granted own ss (recursion_from_All (λ (s : Subscription). s.no_local ≡ false) ss b.local) x)
+  reaches own x =
+      let local = recursion_from_All (λ (s : Subscription). s.no_local ≡ false) ss b.local in
+      ap (λ o. passes test (option_map (λ q. forwarded_under (holding own ss x) q x) o)) (own_granted own ss local x)
+      ∙ ap (λ l. passes test (option_map (λ q. forwarded_under l q x) (granted_for false ss x))) (own_holding own ss local x)
 
   all_along : Throughout b.events (AtPlace i (Reaches test kind)) start
   all_along = stays ReachesBy i b.events start first_joined b.unchanged (subst (λ o. IfSome o (λ (x : Place). IsHeard x.client × ReachesBy x.client.subscriptions)) (sym began.1) (first.1, subst ReachesBy same_subscriptions reaches))

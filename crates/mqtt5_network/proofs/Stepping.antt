@@ -1,6 +1,6 @@
 -- Each step of a network that finds something to do leaves less work, and where a client that is here isn't at rest some step does.
 use Rattle.std.proofs.Common.{◌≡◌, ℕ, zero, suc, ◌+◌, ◌-◌, ◌*◌, ◌<◌, ◌≤◌, Bool, true, false, cond, ◌&&◌, List, [], ◌∷◌, ◌++◌, length, drop, filter, map, Option, Some, None, Result, Ok, Err, refl, sym, ap, ◌∙◌, subst, arith, ◌⊎◌, inl, inr, ⊎_elim, length-append, mul-le-mul_left, mul-suc}
-use Rattle.std.specs.Prelude.{not, sum_by, option_map}
+use Rattle.std.specs.Prelude.{is_none, not, sum_by, option_map}
 use Rattle.std.specs.List.{All, AllByRecursion, filter_map, cons_option}
 use Rattle.std.proofs.lemmas.List.Elements.{All-from_recursion, recursion_from_All}
 use Rattle.std.proofs.lemmas.List.Sums.{sum_by-cons}
@@ -17,7 +17,6 @@ use Rattle.mqtt5_world.specs.World.{World}
 use Rattle.mqtt5_progress.specs.Progress.{work, found}
 use Rattle.mqtt5_progress.proofs.Work.{lowers}
 use Rattle.mqtt5_progress.specs.Subscribers.{hits}
-use Rattle.mqtt5_network.specs.Forwarded.{forwarded}
 use Rattle.mqtt5_network.specs.Connection.{is_sending, sent}
 use Rattle.mqtt5_network.proofs.Sending.{InRange}
 use Rattle.mqtt5_network.proofs.Taking.{IsTaken, out_taken}
@@ -26,9 +25,9 @@ use Rattle.mqtt5_network.specs.declared.event.ClientEvent.{ClientEvent}
 use Rattle.mqtt5_network.specs.declared.event.ClientEvent.TheVariants as events
 use Rattle.mqtt5_network.specs.declared.event.NetworkEvent.{NetworkEvent}
 use Rattle.mqtt5_subscribe.specs.declared.filter.Filter.{Filter}
-use Rattle.mqtt5_network.specs.Subscriptions.{subscribed, granted_for, forwarded_to}
-use Rattle.mqtt5_network.specs.Asking.{subscription_of, is_ack, acks, others}
-use Rattle.mqtt5_network.specs.Retained.{is_to, kept_of, retains, retained_after, retained_of, copy_for, gets_copies, copies_of, copies_all, copies_for, copies_first}
+use Rattle.mqtt5_network.specs.Subscriptions.{subscribed, pattern_of, granted_for, holding, forwarded_under, forwarded_to}
+use Rattle.mqtt5_network.specs.Asking.{identifier_of, share_of, subscription_of, is_ack, acks, others}
+use Rattle.mqtt5_network.specs.Retained.{is_to, kept_of, retains, retained_after, retained_of, copied_under, copy_for, gets_copies, copies_of, copies_all, copies_for, copies_first}
 use Rattle.mqtt5_network.specs.Client.{Client, goes_up, goes_down, taken_for, passes_on}
 use Rattle.mqtt5_network.specs.Place.{Place, passes, happens_at, becomes_with, copies_in, queues_at, gets_at, AtRest}
 use Rattle.mqtt5_network.specs.Network.{Network, changed, new_of, newly, routes, handed_by, happens_in, run_network, IsReached}
@@ -68,6 +67,7 @@ step_on events.Down s = tt
 step_on events.PassOn s = tt
 step_on events.Lost s = tt
 step_on events.Left s = tt
+step_on (events.Turn f turn) s = tt
 step_on events.Due s = tt
 step_on (events.Back m n w) s = tt
 step_on events.Ends s = absurd s
@@ -113,6 +113,7 @@ module _ (p : Place) where
         (here_less _ (length p.client.queue - length (passes_on p.client p.client.queue).queue) 0 h.is (pass_less h.client.limit h.client.sender_limit p.client h.client.good))
     here_step events.Lost s h = absurd s
     here_step events.Left s h = absurd s
+    here_step (events.Turn f turn) s h = absurd s
     here_step events.Due s h = absurd s
     here_step (events.Back m n w) s h = absurd s
     here_step events.Ends s h = absurd s
@@ -128,6 +129,7 @@ module _ (p : Place) where
         (subst (λ m. PlaceLess p p m 0) (omega arith) same_less)
     gone_step events.Lost s h = absurd s
     gone_step events.Left s h = absurd s
+    gone_step (events.Turn f turn) s h = absurd s
     gone_step events.Due s h = absurd s
     gone_step (events.Back m n w) s h = absurd s
     gone_step events.Ends s h = absurd s
@@ -147,7 +149,7 @@ fits_length : (own : Bool) (ss : List Subscription) (xs : List Publish) → leng
 fits_length own ss [] = omega arith
 fits_length own ss (x ∷ xs) = by (granted_for own ss x) (fits_length own ss xs)
   where
-    by : (o : Option QoS) → length (filter_map (forwarded_to own ss) xs) ≤ length xs → length (cons_option (option_map (λ q. forwarded q x) o) (filter_map (forwarded_to own ss) xs)) ≤ length (x ∷ xs)
+    by : (o : Option QoS) → length (filter_map (forwarded_to own ss) xs) ≤ length xs → length (cons_option (option_map (λ q. forwarded_under (holding own ss x) q x) o) (filter_map (forwarded_to own ss) xs)) ≤ length (x ∷ xs)
     by None h = omega (arith, h)
     by (Some q) h = omega (arith, h)
 
@@ -255,29 +257,29 @@ after_few kept (x ∷ xs) =
 -- a filter brings a copy of each at most
 copied_few : (s : Subscription) (kept : List Publish) → length (filter_map (copy_for s) kept) ≤ length kept
 copied_few s [] = omega arith
-copied_few s (x ∷ kept) = by (hits (s.topic_filter ∷ []) x) (copied_few s kept)
+copied_few s (x ∷ kept) = by (hits (pattern_of s ∷ []) x) (copied_few s kept)
   where
-    by : (b : Bool) → length (filter_map (copy_for s) kept) ≤ length kept → length (cons_option (cond b (Some (record (forwarded s.granted x) { retain = true })) None) (filter_map (copy_for s) kept)) ≤ length (x ∷ kept)
+    by : (b : Bool) → length (filter_map (copy_for s) kept) ≤ length kept → length (cons_option (cond b (Some (copied_under s x)) None) (filter_map (copy_for s) kept)) ≤ length (x ∷ kept)
     by true h = omega (arith, h)
     by false h = omega (arith, h)
 
-copies_of_few : (kept : List Publish) (ss : List Subscription) (f : Filter) → length (copies_of kept ss f) ≤ length kept
-copies_of_few kept ss f = by (gets_copies f.retain_forward_rule f.path ss)
+copies_of_few : (kept : List Publish) (n : Option ℕ) (ss : List Subscription) (f : Filter) → length (copies_of kept n ss f) ≤ length kept
+copies_of_few kept n ss f = by (is_none (share_of f.path) && gets_copies f.retain_forward_rule f.path ss)
   where
-    by : (b : Bool) → length (cond b (filter_map (copy_for (subscription_of f)) kept) []) ≤ length kept
-    by true = copied_few (subscription_of f) kept
+    by : (b : Bool) → length (cond b (filter_map (copy_for (subscription_of n f)) kept) []) ≤ length kept
+    by true = copied_few (subscription_of n f) kept
     by false = omega arith
 
-copies_all_few : (kept : List Publish) (fs : List Filter) (ss : List Subscription) → length (copies_all kept fs ss) ≤ length fs * length kept
-copies_all_few kept [] ss = omega arith
-copies_all_few kept (f ∷ fs) ss =
-    let a = length-append (copies_of kept ss f) (copies_all kept fs (subscribed (subscription_of f) ss)) in
-    let b = copies_of_few kept ss f in
-    let c = copies_all_few kept fs (subscribed (subscription_of f) ss) in
+copies_all_few : (kept : List Publish) (n : Option ℕ) (fs : List Filter) (ss : List Subscription) → length (copies_all kept n fs ss) ≤ length fs * length kept
+copies_all_few kept n [] ss = omega arith
+copies_all_few kept n (f ∷ fs) ss =
+    let a = length-append (copies_of kept n ss f) (copies_all kept n fs (subscribed (subscription_of n f) ss)) in
+    let b = copies_of_few kept n ss f in
+    let c = copies_all_few kept n fs (subscribed (subscription_of n f) ss) in
     omega (arith, a, b, c)
 
 copies_for_few : (kept : List Publish) (ss : List Subscription) (x : Packet) → length (copies_for kept ss x) ≤ filters_in x * length kept
-copies_for_few kept ss (packets.Subscribe x) = copies_all_few kept x.filters ss
+copies_for_few kept ss (packets.Subscribe x) = copies_all_few kept (identifier_of x.properties) x.filters ss
 copies_for_few kept ss other = omega arith
 
 copies_first_few : (kept : List Publish) (ss : List Subscription) (way : List Packet) → length (copies_first kept ss way) ≤ filters_first way * length kept
@@ -301,6 +303,7 @@ copies_few handed p events.Down = omega arith
 copies_few handed p events.PassOn = omega arith
 copies_few handed p events.Lost = omega arith
 copies_few handed p events.Left = omega arith
+copies_few handed p (events.Turn f turn) = omega arith
 copies_few handed p events.Due = omega arith
 copies_few handed p (events.Back m n w) = omega arith
 copies_few handed p events.Ends = omega arith

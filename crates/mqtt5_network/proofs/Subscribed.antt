@@ -1,8 +1,8 @@
 -- What is granted by a subscription that a client has, and how long: while the client asks for nothing about its subscriptions, and
 -- no such request is on its way.
 use Rattle.std.proofs.Common.{◌≡◌, ℕ, zero, suc, ◌+◌, ◌<◌, Bool, true, false, cond, ◌&&◌, List, [], ◌∷◌, length, count_by, Option, Some, None, refl, sym, ap, ◌∙◌, subst, arith, ◌==◌}
-use Rattle.std.specs.Prelude.{not, option_map, slice_get, IfSome, IsSomeAnd}
-use Rattle.std.specs.List.{Contains, slice_index_or}
+use Rattle.std.specs.Prelude.{not, option_map, slice_get, IfSome}
+use Rattle.std.specs.List.{Contains, slice_index_or, list_all}
 use Rattle.std.proofs.lemmas.Bool.{eqb-true}
 use Rattle.mqtt5_base.specs.declared.quality.QoS.{QoS}
 use Rattle.mqtt5_base.specs.declared.quality.QoS.TheVariants.{AtMostOnce, AtLeastOnce, ExactlyOnce}
@@ -10,17 +10,16 @@ use Rattle.mqtt5_publish.specs.declared.publish.Publish.{Publish}
 use Rattle.mqtt5_world.specs.Delivery.{IsClass}
 use Rattle.mqtt5_progress.specs.Subscribers.{hits}
 use Rattle.mqtt5_network.specs.Receiver.{shown}
-use Rattle.mqtt5_network.specs.Forwarded.{lesser, greater}
+use Rattle.mqtt5_network.specs.Forwarded.{greater, forwarded, passes}
 use Rattle.mqtt5_network.specs.declared.subscription.Subscription.{Subscription}
 use Rattle.mqtt5_network.specs.declared.event.ClientEvent.{ClientEvent}
 use Rattle.mqtt5_network.specs.declared.event.ClientEvent.TheVariants as events
 use Rattle.mqtt5_network.specs.declared.event.NetworkEvent.{NetworkEvent}
-use Rattle.mqtt5_network.specs.Subscriptions.{holds_for, granted_for}
+use Rattle.mqtt5_network.specs.Subscriptions.{pattern_of, holds_for, granted_for, holding, identifiers_of, keep_retain, forwarded_under, forwarded_to}
 use Rattle.mqtt5_network.specs.Client.{Client}
 use Rattle.mqtt5_network.specs.Place.{Place, becomes_with, copies_in, queues_at, gets_at}
 use Rattle.mqtt5_network.specs.Network.{Network, handed_by, happens_in, run_network, IsReached, AllAtRest, given_in, lost_in}
 use Rattle.mqtt5_network.specs.Granted.{published, Grants, Covers, IsNew, AtPlace, Throughout, GoesOn, Lives, KeepsSubscriptions, Unchanged, IsHeard}
-use Rattle.mqtt5_network.proofs.Forwarding.{lesser_two}
 use Rattle.mqtt5_network.proofs.Good.{Quiet}
 use Rattle.mqtt5_network.proofs.Places.{IsPlace, goes_on, place_quiet}
 use Rattle.mqtt5_network.proofs.Joined.{place_after, happens_there, IsJoined, joined, next_joined}
@@ -41,10 +40,10 @@ two_greatest (Some ExactlyOnce) = refl
 
 module _ (test : Publish → Bool) (s : Subscription) (covers : Covers test s) (own : Bool) (p : Publish) (of_class : published test p ≡ true) where
   holds : holds_for own s p ≡ true
-  holds = by own
+  holds = ap (λ t. t && (not (own && s.no_local) && hits (pattern_of s ∷ []) p)) covers.turn ∙ by own
     where
-      by : (b : Bool) → (not (b && s.no_local) && hits (s.topic_filter ∷ []) p) ≡ true
-      by true = ap (λ l. not l && hits (s.topic_filter ∷ []) p) covers.local ∙ covers.matches p of_class
+      by : (b : Bool) → (not (b && s.no_local) && hits (pattern_of s ∷ []) p) ≡ true
+      by true = ap (λ l. not l && hits (pattern_of s ∷ []) p) covers.local ∙ covers.matches p of_class
       by false = covers.matches p of_class
 
   -- one of the subscriptions
@@ -58,9 +57,35 @@ module _ (test : Publish → Bool) (s : Subscription) (covers : Covers test s) (
       by rest true = ap (λ o. Some (greater t.granted o)) rest ∙ ap Some (greater_two t.granted)
       by rest false = rest
 
-pub grants_by_one : (c : Client) (s : Subscription) (test : Publish → Bool) → Contains c.subscriptions s → Covers test s → Grants test c
-grants_by_one c s test has covers own p h =
-    subst (λ o. IsSomeAnd o (λ q. lesser p.qos q ≡ p.qos)) (sym (granted_in test s covers own p h c.subscriptions has.0 has.1 has.2)) (lesser_two p.qos)
+  -- without the retain, since this one doesn't ask for it
+  kept_in : (ss : List Subscription) (k : ℕ) → k < length ss → slice_index_or ss k s ≡ s → keep_retain (holding own ss p) ≡ false
+  kept_in [] k l e = absurd (omega (arith, l))
+  kept_in (t ∷ ss) zero l e = subst (λ (t : Subscription). keep_retain (holding own (t ∷ ss) p) ≡ false) (sym e)
+      (ap (λ b. keep_retain (cond b (s ∷ holding own ss p) (holding own ss p))) holds ∙ ap (λ b. b && keep_retain (holding own ss p)) covers.retain)
+  kept_in (t ∷ ss) (suc k) l e = by (kept_in ss k (omega (arith, l)) e) (holds_for own t p)
+    where
+      both : (a b : Bool) → b ≡ false → (a && b) ≡ false
+      both true b e = e
+      both false b e = refl
+
+      by : keep_retain (holding own ss p) ≡ false → (b : Bool) → keep_retain (cond b (t ∷ holding own ss p) (holding own ss p)) ≡ false
+      by rest true = both t.retain_as_published (keep_retain (holding own ss p)) rest
+      by rest false = rest
+
+pub grants_by_one : (c : Client) (s : Subscription) (test : Publish → Bool) → IsNew test → Contains c.subscriptions s → Covers test s → Grants test c
+grants_by_one c s test new has covers own p h =
+    let ss = c.subscriptions in
+    let all = holding own ss p in
+    let x : Publish = record (forwarded ExactlyOnce p) { retain = p.retain && keep_retain all } in
+    ap (λ o. passes test (option_map (λ q. forwarded_under all q p) o)) (granted_in test s covers own p h ss has.0 has.1 has.2)
+    ∙ new.blind x (identifiers_of all)
+    ∙ ap (λ b. test (record (forwarded ExactlyOnce p) { retain = p.retain && b })) (kept_in test s covers own p h ss has.0 has.1 has.2)
+    ∙ ap (λ b. test (record (forwarded ExactlyOnce p) { retain = b })) (no p.retain)
+    ∙ h
+  where
+    no : (b : Bool) → (b && false) ≡ false
+    no true = refl
+    no false = refl
 
 -- ---- how long it stands
 
@@ -74,6 +99,7 @@ on_if_kept events.Down k = tt
 on_if_kept events.PassOn k = tt
 on_if_kept events.Lost k = tt
 on_if_kept events.Left k = tt
+on_if_kept (events.Turn f turn) k = absurd k
 on_if_kept events.Due k = tt
 on_if_kept (events.Back m n w) k = tt
 on_if_kept events.Ends k = absurd k
@@ -116,7 +142,7 @@ module _ (Q : List Subscription → Type 0) (i : ℕ) where
   stays (e ∷ es) n j u g = (said n g, stays es (happens_in n e) (next_joined n e j) u.1 (stays_once n e j u.0 g))
 
 abbrev GrantsBy : (Publish → Bool) → List Subscription → Type 0
-GrantsBy test ss = (own : Bool) (p : Publish) → published test p ≡ true → IsSomeAnd (granted_for own ss p) (λ q. lesser p.qos q ≡ p.qos)
+GrantsBy test ss = (own : Bool) (p : Publish) → published test p ≡ true → passes test (forwarded_to own ss p) ≡ true
 
 pub grants_stay : (n : Network) (es : List NetworkEvent) (i : ℕ) (test : Publish → Bool) → IsReached n → Unchanged i es → AtPlace i (λ (c : Client). IsHeard c × Grants test c) n → Throughout es (AtPlace i (Grants test)) n
 grants_stay n es i test r u g = stays (GrantsBy test) i es n (joined n r) u g
@@ -130,4 +156,4 @@ shown_by_one n es i s test reached k new covers none has u r = shown_exactly_onc
   where
     by : (o : Option Place) → IfSome o (λ (p : Place). IsHeard p.client × Contains p.client.subscriptions s) → IfSome o (λ (p : Place). IsHeard p.client × Grants test p.client)
     by None h = tt
-    by (Some p) h = (h.0, grants_by_one p.client s test h.1 covers)
+    by (Some p) h = (h.0, grants_by_one p.client s test new h.1 covers)

@@ -1,12 +1,13 @@
 -- Of how many answers to its requests about subscriptions a client was told, and what is still on its way.
 use Rattle.std.proofs.Common.{◌≡◌, ℕ, ◌+◌, ◌≤◌, Bool, true, false, cond, ◌&&◌, List, [], ◌∷◌, ◌++◌, length, count_by, Option, Some, None, Result, Ok, Err, refl, sym, ap, ◌∙◌, arith, ◌==◌, append-nil, length-append}
-use Rattle.std.specs.Prelude.{is_some, unwrap_or}
+use Rattle.std.specs.Prelude.{not, is_some, unwrap_or, option_map}
 use Rattle.std.specs.Option.{option_to_list}
 use Rattle.std.specs.List.{filter_map}
 use Rattle.std.specs.FinMap as map
 use Rattle.std.specs.FinSet as set
-use Rattle.std.proofs.lemmas.List.{nil_from_length}
+use Rattle.std.proofs.lemmas.List.{nil_from_length, map-append}
 use Rattle.std.proofs.lemmas.List.Sums.{sum_by-cons, sum_by-append}
+use Rattle.mqtt5_base.specs.Texts.{Utf8}
 use Rattle.mqtt5_base.specs.declared.quality.QoS.{QoS}
 use Rattle.mqtt5_base.specs.declared.quality.QoS.TheVariants.{AtMostOnce, AtLeastOnce, ExactlyOnce}
 use Rattle.mqtt5_publish.specs.declared.publish.Publish.{Publish}
@@ -14,6 +15,7 @@ use Rattle.mqtt5_publish.specs.declared.puback.PubAckReason.{PubAckReason}
 use Rattle.mqtt5_publish.specs.declared.pubrel.PubRel.{PubRel}
 use Rattle.mqtt5_publish.specs.declared.pubrel.PubRelReason.{PubRelReason}
 use Rattle.mqtt5_publish.specs.declared.pubrel.PubRelReason.TheVariants.{Success}
+use Rattle.mqtt5_subscribe.specs.declared.filter.Filter.{Filter}
 use Rattle.mqtt5_subscribe.specs.declared.subscribe.Subscribe.{Subscribe}
 use Rattle.mqtt5_subscribe.specs.declared.unsubscribe.Unsubscribe.{Unsubscribe}
 use Rattle.mqtt5_codec.specs.declared.packet.Packet.{Packet}
@@ -37,8 +39,10 @@ use Rattle.mqtt5_world.specs.World.{taken_back}
 use Rattle.mqtt5_world.proofs.Step.{one}
 use Rattle.mqtt5_progress.proofs.Closed.{again_of}
 use Rattle.mqtt5_network.specs.Connection.{is_sending, reply_in, connected}
+use Rattle.mqtt5_network.specs.declared.subscription.Share.{Share}
 use Rattle.mqtt5_network.specs.declared.subscription.Subscription.{Subscription}
-use Rattle.mqtt5_network.specs.Asking.{is_ack as is_an_ack, others, subscriptions_after}
+use Rattle.mqtt5_network.specs.Subscriptions.{is_of, unsubscribed, subscribed, with_turn, turned, without_turns}
+use Rattle.mqtt5_network.specs.Asking.{is_ack as is_an_ack, others, identifier_of, shared_filter, share_in, subscription_of, subscribed_all, unsubscribed_all, subscriptions_after}
 use Rattle.mqtt5_network.specs.Client.{Client, asked_of, asks_for, sends_of, requests_for}
 use Rattle.mqtt5_network.specs.Place.{cut_off}
 use Rattle.mqtt5_network.specs.Answered.{is_answer, answers_told, subscriptions_by}
@@ -222,9 +226,59 @@ back_same m s =
 abbrev pub due : Client → ℕ
 due c = answers_told c.session + length (others c.down) + length (others c.up)
 
--- its subscriptions once the requests that are on their way have arrived
+-- its subscriptions once the requests that are on their way have arrived, but for its turns
 abbrev pub wanted : Client → List Subscription
-wanted c = subscriptions_by (others c.up) c.subscriptions
+wanted c = subscriptions_by (others c.up) (without_turns c.subscriptions)
+
+-- a turn that is given or taken doesn't change them
+turn_without : (turn : Bool) (s : Subscription) → with_turn false (with_turn turn s) ≡ with_turn false s
+turn_without turn s = ap (λ o. record s { share = o }) (by s.share)
+  where
+    by : (o : Option Share) → option_map (λ (h : Share). record h { turn = false }) (option_map (λ (h : Share). record h { turn = turn }) o) ≡ option_map (λ (h : Share). record h { turn = false }) o
+    by None = refl
+    by (Some h) = refl
+
+pub turned_without : (f : Utf8) (turn : Bool) (ss : List Subscription) → without_turns (turned f turn ss) ≡ without_turns ss
+turned_without f turn [] = refl
+turned_without f turn (s ∷ ss) = λ n. by (is_of f s) n ∷ turned_without f turn ss n
+  where
+    by : (b : Bool) → with_turn false (cond b (with_turn turn s) s) ≡ with_turn false s
+    by true = turn_without turn s
+    by false = refl
+
+-- a request makes the same of them
+filter_without : (f : Utf8) (ss : List Subscription) → without_turns (unsubscribed f ss) ≡ unsubscribed f (without_turns ss)
+filter_without f [] = refl
+filter_without f (s ∷ ss) = by (is_of f s) (filter_without f ss)
+  where
+    by : (b : Bool) → without_turns (unsubscribed f ss) ≡ unsubscribed f (without_turns ss) → without_turns (cond (not b) (s ∷ unsubscribed f ss) (unsubscribed f ss)) ≡ cond (not b) (with_turn false s ∷ unsubscribed f (without_turns ss)) (unsubscribed f (without_turns ss))
+    by true rest = rest
+    by false rest = ap (λ l. with_turn false s ∷ l) rest
+
+made_without : (k : Option ℕ) (f : Filter) → with_turn false (subscription_of k f) ≡ subscription_of k f
+made_without k f = ap (λ o. record (subscription_of k f) { share = o }) (by (shared_filter f.path.bytes))
+  where
+    by : (o : Option (List ℕ)) → option_map (λ (h : Share). record h { turn = false }) (share_in o) ≡ share_in o
+    by None = refl
+    by (Some bytes) = refl
+
+subscribed_without : (s : Subscription) (ss : List Subscription) → with_turn false s ≡ s → without_turns (subscribed s ss) ≡ subscribed s (without_turns ss)
+subscribed_without s ss e =
+    map-append (with_turn false) (unsubscribed s.topic_filter ss) (s ∷ [])
+    ∙ (λ n. filter_without s.topic_filter ss n ++ e n ∷ [])
+
+all_without : (k : Option ℕ) (fs : List Filter) (ss : List Subscription) → without_turns (subscribed_all k fs ss) ≡ subscribed_all k fs (without_turns ss)
+all_without k [] ss = refl
+all_without k (f ∷ fs) ss = all_without k fs (subscribed (subscription_of k f) ss) ∙ ap (subscribed_all k fs) (subscribed_without (subscription_of k f) ss (made_without k f))
+
+none_without : (fs : List Utf8) (ss : List Subscription) → without_turns (unsubscribed_all fs ss) ≡ unsubscribed_all fs (without_turns ss)
+none_without [] ss = refl
+none_without (f ∷ fs) ss = none_without fs (unsubscribed f ss) ∙ ap (unsubscribed_all fs) (filter_without f ss)
+
+after_without : (ss : List Subscription) (x : Packet) → without_turns (subscriptions_after ss x) ≡ subscriptions_after (without_turns ss) x
+after_without ss (packets.Subscribe p) = all_without (identifier_of p.properties) p.filters ss
+after_without ss (packets.Unsubscribe p) = none_without p.filters ss
+after_without ss other = refl
 
 -- a client before and after it asked for these: what is due grows by their number at most, and where it grows by that, it is to have what
 -- they make of what it was to have
@@ -237,19 +291,19 @@ by_append [] ys ss = refl
 by_append (x ∷ xs) ys ss = by_append xs ys (subscriptions_after ss x)
 
 -- these go behind the requests that are on their way
-tells_on : (c d : Client) (asked : List Packet) → answers_told d.session + length (others d.down) ≡ answers_told c.session + length (others c.down) → others d.up ≡ others c.up ++ asked → d.subscriptions ≡ c.subscriptions → Tells c d asked
+tells_on : (c d : Client) (asked : List Packet) → answers_told d.session + length (others d.down) ≡ answers_told c.session + length (others c.down) → others d.up ≡ others c.up ++ asked → without_turns d.subscriptions ≡ without_turns c.subscriptions → Tells c d asked
 tells_on c d asked told up same =
     record {
       most = let a = ap length up in let b = length-append (others c.up) asked in omega (arith, told, a, b);
-      all = λ e. let a : wanted d ≡ subscriptions_by (others c.up ++ asked) c.subscriptions = λ n. subscriptions_by (up n) (same n) in a ∙ by_append (others c.up) asked c.subscriptions;
+      all = λ e. let a : wanted d ≡ subscriptions_by (others c.up ++ asked) (without_turns c.subscriptions) = λ n. subscriptions_by (up n) (same n) in a ∙ by_append (others c.up) asked (without_turns c.subscriptions);
     }
 
 -- nothing is asked for
-pub tells_still : (c d : Client) → answers_told d.session + length (others d.down) ≡ answers_told c.session + length (others c.down) → others d.up ≡ others c.up → d.subscriptions ≡ c.subscriptions → Tells c d []
+pub tells_still : (c d : Client) → answers_told d.session + length (others d.down) ≡ answers_told c.session + length (others c.down) → others d.up ≡ others c.up → without_turns d.subscriptions ≡ without_turns c.subscriptions → Tells c d []
 tells_still c d told up same = tells_on c d [] told (up ∙ sym (append-nil (others c.up))) same
 
 -- and no answer comes
-pub tells_same : (c d : Client) → Same c.session d.session → others d.down ≡ others c.down → others d.up ≡ others c.up → d.subscriptions ≡ c.subscriptions → Tells c d []
+pub tells_same : (c d : Client) → Same c.session d.session → others d.down ≡ others c.down → others d.up ≡ others c.up → without_turns d.subscriptions ≡ without_turns c.subscriptions → Tells c d []
 tells_same c d told down up same = tells_still c d (let a = ap length down in omega (arith, told, a)) up same
 
 -- the first request is taken in, and answered at most
@@ -257,11 +311,14 @@ pub tells_taken : (c d : Client) (x : Packet) (rest : List Packet) → others c.
 tells_taken c d x rest front told down up same =
     record {
       most = let a = ap length front in let b = ap length up in omega (arith, a, b, told, down);
-      all = λ e. let a : wanted d ≡ subscriptions_by rest (subscriptions_after c.subscriptions x) = λ n. subscriptions_by (up n) (same n) in a ∙ sym (ap (λ us. subscriptions_by us c.subscriptions) front);
+      all = λ e.
+          let is : without_turns d.subscriptions ≡ subscriptions_after (without_turns c.subscriptions) x = ap without_turns same ∙ after_without c.subscriptions x in
+          let a : wanted d ≡ subscriptions_by rest (subscriptions_after (without_turns c.subscriptions) x) = λ n. subscriptions_by (up n) (is n) in
+          a ∙ sym (ap (λ us. subscriptions_by us (without_turns c.subscriptions)) front);
     }
 
 -- all that is on its way is lost, and what is asked for goes nowhere
-pub tells_lost : (c d : Client) (asked : List Packet) → Same c.session d.session → others d.down ≡ [] → others d.up ≡ [] → d.subscriptions ≡ c.subscriptions → Tells c d asked
+pub tells_lost : (c d : Client) (asked : List Packet) → Same c.session d.session → others d.down ≡ [] → others d.up ≡ [] → without_turns d.subscriptions ≡ without_turns c.subscriptions → Tells c d asked
 tells_lost c d asked told down up same =
     let a = ap length down in
     let b = ap length up in
@@ -270,8 +327,8 @@ tells_lost c d asked told down up same =
       all = λ e.
           let none : others c.up ≡ [] = nil_from_length (others c.up) (omega (arith, a, b, told, e)) in
           let nowhere : asked ≡ [] = nil_from_length asked (omega (arith, a, b, told, e)) in
-          let f : wanted d ≡ c.subscriptions = λ n. subscriptions_by (up n) (same n) in
-          let g : subscriptions_by asked (wanted c) ≡ c.subscriptions = λ n. subscriptions_by (nowhere n) (subscriptions_by (none n) c.subscriptions) in
+          let f : wanted d ≡ without_turns c.subscriptions = λ n. subscriptions_by (up n) (same n) in
+          let g : subscriptions_by asked (wanted c) ≡ without_turns c.subscriptions = λ n. subscriptions_by (nowhere n) (subscriptions_by (none n) (without_turns c.subscriptions)) in
           f ∙ sym g;
     }
 

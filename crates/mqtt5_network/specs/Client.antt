@@ -4,6 +4,7 @@ use Rattle.std.specs.Prelude.{ℕ, ◌+◌, Bool, true, false, List, [], ◌∷�
 use Rattle.std.specs.Prelude.{Result, Ok, Err}
 use Rattle.std.specs.Option.{option_to_list}
 use Rattle.std.specs.List.{filter_map}
+use Rattle.mqtt5_base.specs.Texts.{Utf8}
 use Rattle.mqtt5_publish.specs.declared.publish.Publish.{Publish}
 use Rattle.mqtt5_codec.specs.declared.packet.Packet.{Packet}
 use Rattle.mqtt5_inflight.specs.declared.event.Request.{Request}
@@ -17,7 +18,7 @@ use Rattle.mqtt5_session.specs.Ledger.{kept_by}
 use Rattle.mqtt5_world.specs.Broker.{Broker, idle, serve}
 use Rattle.mqtt5_network.specs.Connection.{reply_in, is_sending, sent_in}
 use Rattle.mqtt5_network.specs.declared.subscription.Subscription.{Subscription}
-use Rattle.mqtt5_network.specs.Subscriptions.{forwarded_to}
+use Rattle.mqtt5_network.specs.Subscriptions.{turned, forwarded_to}
 use Rattle.mqtt5_network.specs.Asking.{is_ack, subscriptions_after, answer_of}
 
 -- ---- a client
@@ -142,6 +143,14 @@ abbrev pub passes_on : Client → List Publish → Client
 passes_on c [] = c
 passes_on c (p ∷ rest) =
     let a = on_request c.sender (requests.Publish p) 0 in taken_for c p rest a.0 a.1
+
+-- ---- a shared subscription
+
+-- the client is given the turn in the one of a filter, or it is taken from it (4.8.2)
+abbrev pub takes_turn : Utf8 → Bool → Client → Client
+takes_turn topic_filter turn c = record c {
+  subscriptions = turned topic_filter turn c.subscriptions;
+}
 
 -- ---- a new connection
 

@@ -1,9 +1,10 @@
 -- A publish as a broker forwards it (MQTT 5.0 sections 3.3.1 to 3.3.4 and 3.8.4).
-use Rattle.std.specs.Prelude.{Bool, false, [], Option, Some, None, option_map}
+use Rattle.std.specs.Prelude.{ℕ, Bool, false, List, [], ◌∷◌, Option, Some, None, option_map}
 use Rattle.mqtt5_base.specs.declared.quality.QoS.{QoS}
 use Rattle.mqtt5_base.specs.declared.quality.QoS.TheVariants.{AtMostOnce, AtLeastOnce, ExactlyOnce}
 use Rattle.mqtt5_publish.specs.declared.publish.Publish.{Publish}
 use Rattle.mqtt5_publish.specs.declared.publish.PublishProperties.{PublishProperties}
+use Rattle.mqtt5_publish.specs.Publishes.{no_publish_properties}
 
 -- the lesser of two QoS
 abbrev pub lesser : QoS → QoS → QoS
@@ -34,6 +35,20 @@ forwarded granted p = record p {
   retain = false;
   properties = option_map passed_on p.properties;
 }
+
+-- the properties that there are, or none
+abbrev pub set_of : Option PublishProperties → PublishProperties
+set_of None = no_publish_properties
+set_of (Some set) = set
+
+-- with these subscription identifiers (3.3.2.3.8)
+abbrev pub with_identifiers : List ℕ → Option PublishProperties → Option PublishProperties
+with_identifiers [] properties = properties
+with_identifiers (n ∷ ns) properties =
+    Some (record (set_of properties) { subscription_identifiers = n ∷ ns })
+
+abbrev pub identified : List ℕ → Publish → Publish
+identified ns p = record p { properties = with_identifiers ns p.properties }
 
 -- whether there is one that passes a test
 abbrev pub passes : (Publish → Bool) → Option Publish → Bool

@@ -1,16 +1,16 @@
 -- What a client's subscriptions grant to a class of publishes, while a network runs (MQTT 5.0
 -- sections 3.3.4 and 3.8.4).
 use Rattle.std.specs.Prelude.{◌≡◌, ℕ, Bool, true, false, List, [], ◌∷◌, slice_get, None}
-use Rattle.std.specs.Prelude.{Some, IfSome, IsSomeAnd, All, ⊤}
+use Rattle.std.specs.Prelude.{Some, IfSome, All, ⊤}
 use Rattle.mqtt5_base.specs.declared.quality.QoS.TheVariants.{ExactlyOnce}
 use Rattle.mqtt5_publish.specs.declared.publish.Publish.{Publish}
 use Rattle.mqtt5_progress.specs.Subscribers.{hits}
-use Rattle.mqtt5_network.specs.Forwarded.{lesser, forwarded, passes}
+use Rattle.mqtt5_network.specs.Forwarded.{forwarded, identified, passes}
 use Rattle.mqtt5_network.specs.declared.subscription.Subscription.{Subscription}
 use Rattle.mqtt5_network.specs.declared.event.ClientEvent.{ClientEvent}
 use Rattle.mqtt5_network.specs.declared.event.ClientEvent.TheVariants as events
 use Rattle.mqtt5_network.specs.declared.event.NetworkEvent.{NetworkEvent}
-use Rattle.mqtt5_network.specs.Subscriptions.{granted_for, forwarded_to}
+use Rattle.mqtt5_network.specs.Subscriptions.{has_turn, pattern_of, granted_for, forwarded_to}
 use Rattle.mqtt5_network.specs.Asking.{others}
 use Rattle.mqtt5_network.specs.Client.{Client}
 use Rattle.mqtt5_network.specs.Place.{Place}
@@ -23,12 +23,12 @@ use Rattle.mqtt5_network.specs.Network.{Network, Profile, start_network, happens
 abbrev pub published : (Publish → Bool) → Publish → Bool
 published test p = test (forwarded ExactlyOnce p)
 
--- for each publish of a class, its own ones or the others', the client is granted the QoS of that
--- publish, or more (3.3.4, 3.8.4)
+-- each publish of a class, the client's own ones or the others', is forwarded to it as one of the
+-- class (3.3.4, 3.8.4)
 abbrev pub GrantsFor : Bool → (Publish → Bool) → Client → Type 0
 GrantsFor own test c =
     (p : Publish) → published test p ≡ true
-    → IsSomeAnd (granted_for own c.subscriptions p) (λ q. lesser p.qos q ≡ p.qos)
+    → passes test (forwarded_to own c.subscriptions p) ≡ true
 
 -- for none of these it is granted any
 abbrev pub GrantsNoneFor : Bool → (Publish → Bool) → Client → Type 0
@@ -56,22 +56,30 @@ Reaches test kind c =
 abbrev pub reaching : List Subscription → (Publish → Bool) → Publish → Bool
 reaching ss test p = passes test (forwarded_to false ss p)
 
--- a subscription that grants QoS 2 for each publish of a class, also for the client's own (3.8.3.1,
--- 4.7)
+-- a subscription that grants QoS 2 for each publish of a class, also for the client's own, and
+-- without their retain; a shared one while it is the client's turn (3.8.3.1, 4.7, 4.8.2)
 pub record Covers (test : Publish → Bool) (s : Subscription) : Type 0 where
   pub granted : s.granted ≡ ExactlyOnce
   pub local : s.no_local ≡ false
-  pub matches : (p : Publish) → published test p ≡ true → hits (s.topic_filter ∷ []) p ≡ true
+  pub retain : s.retain_as_published ≡ false
+  pub turn : has_turn s.share ≡ true
+  pub matches : (p : Publish) → published test p ≡ true → hits (pattern_of s ∷ []) p ≡ true
 
 -- ---- new messages, and copies of retained ones
 
--- a class of new messages alone: these are forwarded without retain (3.3.1.3)
-abbrev pub IsNew : (Publish → Bool) → Type 0
-IsNew test = (p : Publish) → test p ≡ true → p.retain ≡ false
+-- a class of new messages alone: these are forwarded without retain, but where the client asks for
+-- Retain As Published (3.3.1.3, 3.8.3.1); whatever the subscription identifiers (3.3.2.3.8)
+pub record IsNew (test : Publish → Bool) : Type 0 where
+  pub retain : (p : Publish) → test p ≡ true → p.retain ≡ false
+  pub blind : (p : Publish) (ns : List ℕ) → test (identified ns p) ≡ test p
 
 -- one of copies alone: these have it
 abbrev pub IsCopy : (Publish → Bool) → Type 0
 IsCopy test = (p : Publish) → test p ≡ true → p.retain ≡ true
+
+-- subscriptions of which none asks for Retain As Published: then none but copies have it
+abbrev pub NoneKeepRetain : List Subscription → Type 0
+NoneKeepRetain ss = All (λ (s : Subscription). s.retain_as_published ≡ false) ss
 
 -- ---- while a network runs
 
@@ -94,15 +102,16 @@ abbrev pub Lives : ℕ → List NetworkEvent → Type 0
 Lives i [] = ⊤
 Lives i (e ∷ es) = (i ≡ e.client → GoesOn e.what) × Lives i es
 
--- an event in which it does, and the client asks neither for subscriptions nor for some to be taken
--- out
+-- an event in which it does, the client asks neither for subscriptions nor for some to be taken out,
+-- and it is neither given a turn nor loses one
 abbrev pub KeepsSubscriptions : ClientEvent → Type 0
 KeepsSubscriptions (events.Subscribe p) = ⊥
 KeepsSubscriptions (events.Unsubscribe p) = ⊥
+KeepsSubscriptions (events.Turn f turn) = ⊥
 KeepsSubscriptions events.Ends = ⊥
 KeepsSubscriptions event = ⊤
 
--- events in which that of the client at a place does, and the client asks for none
+-- so these events of the client at a place
 abbrev pub Unchanged : ℕ → List NetworkEvent → Type 0
 Unchanged i [] = ⊤
 Unchanged i (e ∷ es) = (i ≡ e.client → KeepsSubscriptions e.what) × Unchanged i es

@@ -1,8 +1,9 @@
 -- The messages that a broker retains, and what a Subscribe gets of them (MQTT 5.0 sections 3.3.1.3,
 -- 3.8.3.1 and 3.8.4).
 use Rattle.std.specs.Prelude.{ℕ, Bool, true, false, not, nat_eq, ◌&&◌, filter, List, [], ◌∷◌}
-use Rattle.std.specs.Prelude.{◌++◌, Option, Some, None, if◌then◌else◌}
+use Rattle.std.specs.Prelude.{◌++◌, Option, Some, None, is_none, if◌then◌else◌}
 use Rattle.std.specs.List.{filter_map, list_any}
+use Rattle.std.specs.Option.{option_to_list}
 use Rattle.std.specs.Cmp.Lexicographic.{pointwise}
 use Rattle.mqtt5_base.specs.Texts.{Utf8}
 use Rattle.mqtt5_publish.specs.declared.publish.Publish.{Publish}
@@ -12,10 +13,10 @@ use Rattle.mqtt5_subscribe.specs.declared.filter.RetainForwardRule.TheVariants a
 use Rattle.mqtt5_codec.specs.declared.packet.Packet.{Packet}
 use Rattle.mqtt5_codec.specs.declared.packet.Packet.TheVariants as packets
 use Rattle.mqtt5_progress.specs.Subscribers.{hits}
-use Rattle.mqtt5_network.specs.Forwarded.{forwarded}
+use Rattle.mqtt5_network.specs.Forwarded.{forwarded, identified}
 use Rattle.mqtt5_network.specs.declared.subscription.Subscription.{Subscription}
-use Rattle.mqtt5_network.specs.Subscriptions.{is_of, subscribed}
-use Rattle.mqtt5_network.specs.Asking.{subscription_of}
+use Rattle.mqtt5_network.specs.Subscriptions.{is_of, subscribed, pattern_of}
+use Rattle.mqtt5_network.specs.Asking.{identifier_of, share_of, subscription_of}
 
 -- ---- what is retained
 
@@ -61,12 +62,15 @@ last_after topic last (p ∷ ps) = last_after topic (last_with topic last p) ps
 
 -- ---- copies
 
--- a copy of a retained message for a subscription, if its filter matches: with retain, at the
--- lesser of both QoS (3.3.1.3, 3.8.4)
+-- a retained message as it is copied for a subscription: with retain, at the lesser of both QoS, and
+-- with its identifier (3.3.1.3, 3.3.4, 3.8.4)
+abbrev pub copied_under : Subscription → Publish → Publish
+copied_under s p =
+    identified (option_to_list s.identifier) (record (forwarded s.granted p) { retain = true })
+
+-- the copy, if its filter matches
 abbrev pub copy_for : Subscription → Publish → Option Publish
-copy_for s p =
-    if hits (s.topic_filter ∷ []) p then Some (record (forwarded s.granted p) { retain = true })
-    else None
+copy_for s p = if hits (pattern_of s ∷ []) p then Some (copied_under s p) else None
 
 -- whether a filter gets copies, by its Retain Handling: of each Subscribe, of one for a filter that
 -- has no subscription yet, or never (3.8.3.1)
@@ -75,21 +79,23 @@ gets_copies rules.OnEverySubscribe topic_filter ss = true
 gets_copies rules.OnNewSubscribe topic_filter ss = not (list_any (is_of topic_filter) ss)
 gets_copies rules.Never topic_filter ss = false
 
--- the copies of these retained messages for a filter
-abbrev pub copies_of : List Publish → List Subscription → Filter → List Publish
-copies_of kept ss f =
-    if gets_copies f.retain_forward_rule f.path ss
-    then filter_map (copy_for (subscription_of f)) kept else []
+-- the copies of these retained messages for a filter: none for a shared subscription
+abbrev pub copies_of : List Publish → Option ℕ → List Subscription → Filter → List Publish
+copies_of kept identifier ss f =
+    if is_none (share_of f.path) && gets_copies f.retain_forward_rule f.path ss
+    then filter_map (copy_for (subscription_of identifier f)) kept else []
 
 -- for each filter, in order
-abbrev pub copies_all : List Publish → List Filter → List Subscription → List Publish
-copies_all kept [] ss = []
-copies_all kept (f ∷ fs) ss =
-    copies_of kept ss f ++ copies_all kept fs (subscribed (subscription_of f) ss)
+abbrev pub copies_all : List Publish → Option ℕ → List Filter → List Subscription → List Publish
+copies_all kept identifier [] ss = []
+copies_all kept identifier (f ∷ fs) ss =
+    copies_of kept identifier ss f
+    ++ copies_all kept identifier fs (subscribed (subscription_of identifier f) ss)
 
 -- for a packet that arrives
 abbrev pub copies_for : List Publish → List Subscription → Packet → List Publish
-copies_for kept ss (packets.Subscribe p) = copies_all kept p.filters ss
+copies_for kept ss (packets.Subscribe p) =
+    copies_all kept (identifier_of p.properties) p.filters ss
 copies_for kept ss other = []
 
 -- for the first of a way, if there is one

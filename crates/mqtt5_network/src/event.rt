@@ -1,5 +1,6 @@
 //! What happens among a broker and its clients.
 
+use mqtt5_base::Text;
 use mqtt5_publish::Publish;
 use mqtt5_subscribe::{Subscribe, Unsubscribe};
 
@@ -19,6 +20,8 @@ pub enum ClientEvent {
     /// The broker passes the first publish of the client's queue to the client, if there is one and the client is here; where
     /// another one waits for its identifier it stays the first.
     PassOn,
+    /// The broker gives the client the turn in the shared subscription of a topic filter, or takes it (4.8.2).
+    Turn(Text, bool),
     /// The connection is lost with all that was on its way: the broker publishes its will, or the will waits, where it has a delay.
     Lost,
     /// The delay of a will has passed (3.1.3.2.2): of a client that is away the broker publishes the one that waits, if there is

@@ -17,7 +17,7 @@ ghost use Rattle.mqtt5_network.specs.declared.subscription.Subscription.{Subscri
 ghost use Rattle.mqtt5_network.specs.declared.event.ClientEvent.TheVariants as events;
 ghost use Rattle.mqtt5_network.specs.declared.event.NetworkEvent.{NetworkEvent};
 ghost use Rattle.mqtt5_network.specs.declared.event.Will.{Will};
-ghost use Rattle.mqtt5_network.specs.Subscriptions.{granted_for, forwarded_to};
+ghost use Rattle.mqtt5_network.specs.Subscriptions.{granted_for, forwarded_to, without_turns};
 ghost use Rattle.mqtt5_network.specs.Client.{Client, routed};
 ghost use Rattle.mqtt5_network.specs.Retained.{is_to, retained_of, last_after};
 ghost use Rattle.mqtt5_network.specs.Place.{Place, copies_in, AtRest};
@@ -27,7 +27,7 @@ ghost use Rattle.mqtt5_network.specs.Network.{most_in, kept_by, lost_in, unacked
 ghost use Rattle.mqtt5_network.specs.Granted.{published, Grants, GrantsNone, GrantsOthers, Reaches};
 ghost use Rattle.mqtt5_network.specs.Granted.{Covers, AtPlace, Throughout, GoesOn, Lives};
 ghost use Rattle.mqtt5_network.specs.Granted.{Unchanged, IsHeard, IsNew, IsCopy};
-ghost use Rattle.mqtt5_network.specs.Granted.{KeepsFirst, reaching};
+ghost use Rattle.mqtt5_network.specs.Granted.{NoneKeepRetain, KeepsFirst, reaching};
 ghost use Rattle.mqtt5_network.specs.Steps.{IsStep, Steps, work_left, moves, moved, HereAtRest};
 ghost use Rattle.mqtt5_network.specs.Answered.{answers_told, asked_in, subscriptions_by, IsClear};
 
@@ -181,7 +181,7 @@ pub fn granted_law()
 /// sections 3.8.4 and 3.10.4).
 pub fn subscribing_law()
     // What is granted for a class stays so while the client asks for nothing about its subscriptions,
-    // no such request is on its way, and its session goes on.
+    // no such request is on its way, it keeps its turns, and its session goes on.
     ensures stays { (n : Network) (es : List NetworkEvent) (i : ℕ) (test : Publish → Bool)
         → IsReached n → Unchanged i es
         → AtPlace i (λ (c : Client). IsHeard c × Grants test c) n
@@ -218,16 +218,17 @@ pub fn answered_law()
         → answers_told q.client.session
         ≤ answers_told p.client.session + length (asked_in i es n) }
     // Where it was told of as many, the broker took each request in, in order: none is on its way,
-    // and the subscriptions are what they made of those of that moment. Else it was told of fewer:
-    // a request and an answer are lost with their connection, and not sent again (4.4).
+    // and the subscriptions are what they made of those of that moment, but for whose turn it is in
+    // shared ones. Else it was told of fewer: a request and an answer are lost with their connection,
+    // and not sent again (4.4).
     ensures taken_in { (n : Network) (since : List NetworkEvent) (i : ℕ) (p q : Place)
         → IsReached n → Lives i since → slice_get n.places i ≡ Some p
         → slice_get (run_network since n).places i ≡ Some q → IsClear p.client
         → answers_told q.client.session ≡ answers_told p.client.session
         + length (asked_in i since n)
         → IsClear q.client
-        × (q.client.subscriptions
-        ≡ subscriptions_by (asked_in i since n) p.client.subscriptions) }
+        × (without_turns q.client.subscriptions
+        ≡ subscriptions_by (asked_in i since n) (without_turns p.client.subscriptions)) }
     // So where it was told of as many, what it asked for leaves a subscription that grants QoS 2
     // for a class of new messages of QoS 2, of which none was given before, and it asks for nothing
     // more: once all are here and at rest it was shown each that was given, exactly once, but for
@@ -315,16 +316,17 @@ pub fn retained_law()
 /// and 3.8.4).
 pub fn copies_law()
     // Where a packet of the client at a place arrives, and then none about subscriptions is on its
-    // way, it asks for none and its session goes on: once it is here and at rest it was shown, of a
-    // class of copies of QoS 2, what had been put into its queue before, and exactly once each that
-    // the packet brought.
+    // way, no subscription of it has Retain As Published, it asks for none and its session goes on:
+    // once it is here and at rest it was shown, of a class of copies of QoS 2, what had been put into
+    // its queue before, and exactly once each that the packet brought.
     ensures exactly_once { (n : Network) (es : List NetworkEvent) (i : ℕ) (p q : Place)
         (test : Publish → Bool)
         → IsReached n → IsClass ExactlyOnce test → IsCopy test
         → slice_get n.places i ≡ Some p
         → slice_get (run_network (record { client = i; what = events.Up } ∷ es) n).places i
         ≡ Some q
-        → AtPlace i IsHeard (happens_in n (record { client = i; what = events.Up }))
+        → AtPlace i (λ (c : Client). IsHeard c × NoneKeepRetain c.subscriptions)
+        (happens_in n (record { client = i; what = events.Up }))
         → Unchanged i es → AtRest q
         → count_by test (shown q.client.session)
         ≡ count_by test (routed p.client) + count_by test (copies_in n.handed p events.Up) }

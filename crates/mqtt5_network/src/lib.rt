@@ -11,4 +11,4 @@ pub use laws::{
     answered_law, clients_law, copies_law, granted_law, receiver_law, retained_law, routing_law,
     shown_law, standing_law, steps_law, subscribing_law,
 };
-pub use subscription::Subscription;
+pub use subscription::{Share, Subscription};

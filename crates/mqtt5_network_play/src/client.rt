@@ -7,12 +7,12 @@ ghost use Rattle.mqtt5_network.specs.Connection.{is_sending, connected};
 ghost use Rattle.mqtt5_network.specs.Asking.{is_ack};
 ghost use Rattle.mqtt5_network.specs.Retained.{retained_of, copies_for, copies_first};
 ghost use Rattle.mqtt5_network.specs.Client.{routed, new_client, asks_for, requests_for, comes_to};
-ghost use Rattle.mqtt5_network.specs.Client.{goes_up, goes_down, queues, passes_on, reconnects};
+ghost use Rattle.mqtt5_network.specs.Client.{goes_up, goes_down, queues, passes_on, takes_turn, reconnects};
 ghost use Rattle.mqtt5_network.specs.Place.{cut_off};
 ghost use Rattle.mqtt5_network_play.specs.Plays.{client_of, IsAbout, next_for};
 
 use crate::shown::{push_all, push_some, shown};
-use mqtt5_base::copied;
+use mqtt5_base::{Text, copied};
 use mqtt5_codec::Packet;
 use mqtt5_network::{ClientEvent, Subscription};
 use mqtt5_publish::Publish;
@@ -261,6 +261,13 @@ impl Client {
         let (_accepted, reply) = request(&mut self.session, asked)?;
         send(&mut self.up, reply)?;
         Ok(())
+    }
+
+    /// The broker gives it the turn in the shared subscription of a topic filter, or takes it (4.8.2).
+    pub(super) fn take_turn(&mut self, topic_filter: &Text, turn: bool)
+        ensures { self.new ≡ takes_turn topic_filter.now turn self.old }
+    {
+        self.kept.turn(topic_filter, turn);
     }
 
     /// Nothing is on its way any more.

@@ -195,6 +195,10 @@ impl Place {
             ClientEvent::Up => self.client.go_up(alloc),
             ClientEvent::Down => self.client.go_down(),
             ClientEvent::PassOn => self.pass_on(),
+            ClientEvent::Turn(topic_filter, turn) => {
+                self.client.take_turn(topic_filter, *turn);
+                Ok(())
+            }
             ClientEvent::Lost => Ok(self.lose()?),
             ClientEvent::Due => Ok(self.publish_waiting()?),
             ClientEvent::Left => {

@@ -113,6 +113,9 @@ fn parse_filter(alloc: Global, filter: &str) -> Result<Subscription, LineError> 
         topic_filter,
         granted: QoS::ExactlyOnce,
         no_local: false,
+        retain_as_published: false,
+        identifier: None,
+        share: None,
     })
 }
 

@@ -17,6 +17,9 @@ fn profile(alloc: Global, filter: &str) -> Result<Profile, StateError> {
         topic_filter: Text::from_str(alloc, filter)?,
         granted: QoS::AtLeastOnce,
         no_local: false,
+        retain_as_published: false,
+        identifier: None,
+        share: None,
     })?;
     Ok(Profile {
         limit: NonZeroU16::MIN,

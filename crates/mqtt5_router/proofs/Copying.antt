@@ -34,5 +34,5 @@ copies_next s all ps i x below is =
     ∙ ap (λ qs. all ++ qs) (sym (found_next (copy_for s) ps i x below is))
 
 -- how far the copies for filters are made: those that there are, and those of the rest, are all
-abbrev pub Copied : List Publish → List Filter → ℕ → List Subscription → List Publish → List Subscription → Type 0
-Copied kept fs n before all now = all ++ copies_all kept (drop n fs) now ≡ copies_all kept fs before
+abbrev pub Copied : List Publish → Option ℕ → List Filter → ℕ → List Subscription → List Publish → List Subscription → Type 0
+Copied kept k fs n before all now = all ++ copies_all kept k (drop n fs) now ≡ copies_all kept k fs before

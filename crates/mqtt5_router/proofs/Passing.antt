@@ -8,7 +8,7 @@ use Rattle.mqtt5_base.specs.Topics.{topic_matches}
 use Rattle.mqtt5_publish.specs.declared.publish.Publish.{Publish}
 use Rattle.mqtt5_network.specs.Forwarded.{greater}
 use Rattle.mqtt5_network.specs.declared.subscription.Subscription.{Subscription}
-use Rattle.mqtt5_network.specs.Subscriptions.{holds_for, granted_for}
+use Rattle.mqtt5_network.specs.Subscriptions.{has_turn, pattern_of, holds_for, granted_for}
 use Rattle.mqtt5_router.specs.Topics.{holds_to, granted_to}
 
 pub granted_none : (own : Bool) (ss : List Subscription) (n : ℕ) (t : List ℕ) → length ss ≤ n → granted_to own (drop n ss) t ≡ granted_to own [] t
@@ -21,8 +21,10 @@ granted_more own ss n m s t next below is =
 
 -- ---- of a publish
 
-holds_text : (own : Bool) (s : Subscription) (p : Publish) → is_utf8 p.topic ≡ true → holds_for own s p ≡ holds_to own s p.topic
-holds_text own s p text = ap (λ b. not (own && s.no_local) && (b && (topic_matches p.topic s.topic_filter.bytes || false))) text ∙ ap (λ b. not (own && s.no_local) && b) (same (topic_matches p.topic s.topic_filter.bytes))
+pub holds_text : (own : Bool) (s : Subscription) (p : Publish) → is_utf8 p.topic ≡ true → holds_for own s p ≡ holds_to own s p.topic
+holds_text own s p text =
+    ap (λ b. has_turn s.share && (not (own && s.no_local) && (b && (topic_matches p.topic (pattern_of s).bytes || false)))) text
+    ∙ ap (λ b. has_turn s.share && (not (own && s.no_local) && b)) (same (topic_matches p.topic (pattern_of s).bytes))
   where
     same : (b : Bool) → (b || false) ≡ b
     same true = refl
@@ -35,12 +37,13 @@ granted_text own (s ∷ ss) p text =
     ap (λ b. cond b (Some (greater s.granted (granted_for own ss p))) (granted_for own ss p)) (holds_text own s p text)
     ∙ ap (λ o. cond (holds_to own s p.topic) (Some (greater s.granted o)) o) (granted_text own ss p text)
 
-holds_never : (own : Bool) (s : Subscription) (p : Publish) → is_utf8 p.topic ≡ false → holds_for own s p ≡ false
-holds_never own s p none = ap (λ b. not (own && s.no_local) && (b && (topic_matches p.topic s.topic_filter.bytes || false))) none ∙ never (not (own && s.no_local))
+pub holds_never : (own : Bool) (s : Subscription) (p : Publish) → is_utf8 p.topic ≡ false → holds_for own s p ≡ false
+holds_never own s p none = ap (λ b. has_turn s.share && (not (own && s.no_local) && (b && (topic_matches p.topic (pattern_of s).bytes || false)))) none ∙ never (has_turn s.share) (not (own && s.no_local))
   where
-    never : (b : Bool) → (b && false) ≡ false
-    never true = refl
-    never false = refl
+    never : (a b : Bool) → (a && (b && false)) ≡ false
+    never true true = refl
+    never true false = refl
+    never false b = refl
 
 -- and whose topic isn't
 pub granted_never : (own : Bool) (ss : List Subscription) (p : Publish) → is_utf8 p.topic ≡ false → granted_for own ss p ≡ None

@@ -1,7 +1,7 @@
 //! A publish as a broker forwards it.
 
 ghost use Rattle.std.specs.Prelude.{◌≡◌, IfOk, option_map};
-ghost use Rattle.mqtt5_network.specs.Forwarded.{lesser, passed_on, forwarded};
+ghost use Rattle.mqtt5_network.specs.Forwarded.{lesser, passed_on, forwarded, with_identifiers, identified};
 
 use mqtt5_base::{QoS, Sequence, copied};
 use mqtt5_publish::{Publish, PublishProperties};
@@ -46,4 +46,32 @@ fn pass_on(alloc: Global, properties: Option<PublishProperties>) -> Option<Publi
         }
         None => None,
     }
+}
+
+/// A publish with subscription identifiers (3.3.2.3.8). Takes no memory.
+pub(super) fn identified(publish: Publish, identifiers: Sequence<usize>, alloc: Global) -> Publish
+    ensures { result ≡ identified identifiers publish }
+{
+    let mut publish = publish;
+    publish.properties = with_identifiers(alloc, identifiers, publish.properties);
+    publish
+}
+
+/// Properties with them, or as they were, where there are none.
+fn with_identifiers(
+    alloc: Global,
+    identifiers: Sequence<usize>,
+    properties: Option<PublishProperties>,
+) -> Option<PublishProperties>
+    ensures { result ≡ with_identifiers identifiers properties }
+{
+    if identifiers.is_empty() {
+        return properties;
+    }
+    let mut set = match properties {
+        Some(set) => set,
+        None => PublishProperties::new(alloc),
+    };
+    set.subscription_identifiers = identifiers;
+    Some(set)
 }

@@ -12,18 +12,19 @@ ghost use Rattle.mqtt5_session.specs.Resuming.{resume_of};
 ghost use Rattle.mqtt5_session.specs.Ledger.{kept_by};
 ghost use Rattle.mqtt5_world.specs.Broker.{serve_publish, reason_for};
 ghost use Rattle.mqtt5_network.specs.Connection.{is_sending, connected, sent_in};
-ghost use Rattle.mqtt5_network.specs.Subscriptions.{forwarded_to};
-ghost use Rattle.mqtt5_network.specs.Asking.{is_ack, subscribed_all, unsubscribed_all, answer_of};
+ghost use Rattle.mqtt5_network.specs.Subscriptions.{turned, forwarded_to};
+ghost use Rattle.mqtt5_network.specs.Asking.{is_ack, identifier_of, subscribed_all, unsubscribed_all, answer_of};
 ghost use Rattle.mqtt5_network.specs.Retained.{copies_for};
 ghost use Rattle.mqtt5_network.specs.Client.{comes_to};
 ghost use Rattle.mqtt5_router.specs.Kept.{new_kept, without_events, kept_of, alone};
 ghost use Rattle.mqtt5_router.specs.Kept.{after_packet, after_pass};
 
-use crate::asking::{subscribe_all, unsubscribe_all};
+use crate::asking::{identifier_of, subscribe_all, unsubscribe_all};
 use crate::queue::forwarded;
 use crate::retained::copies_all;
 use crate::sessions::{connect, request, take_up};
-use mqtt5_base::{QoS, copied};
+use crate::subscriptions::turn;
+use mqtt5_base::{QoS, Text, copied};
 use mqtt5_codec::Packet;
 use mqtt5_network::Subscription;
 use mqtt5_publish::Publish;
@@ -278,14 +279,17 @@ impl Kept {
 
     fn subscribe(&mut self, alloc: Global, request: &Subscribe) -> Result<Arrived, AllocError>
         ensures kept { OnOk result (self.new ≡ record self.old {
-          subscriptions = subscribed_all request.now.filters self.old.subscriptions;
+          subscriptions = subscribed_all (identifier_of request.now.properties)
+              request.now.filters self.old.subscriptions;
         }) }
         ensures reply { IfOk result (λ a. a.reply
             ≡ answer_of self.old.subscriptions (packets.Subscribe request.now)) }
         ensures handed { IfOk result (λ a. a.handed ≡ None) }
         ensures left { OnErr result (self.new ≡ self.old) }
     {
-        let codes = subscribe_all(alloc, &mut self.subscriptions, request.filters.as_slice())?;
+        let identifier = identifier_of(&request.properties);
+        let filters = request.filters.as_slice();
+        let codes = subscribe_all(alloc, &mut self.subscriptions, identifier, filters)?;
         let answer = SubAck {
             pkid: request.pkid,
             return_codes: codes,
@@ -316,6 +320,16 @@ impl Kept {
             reply: Some(Packet::UnsubAck(answer)),
             handed: None,
         })
+    }
+
+    /// Gives the client the turn in the shared subscription of a topic filter, or takes it, if it has that (4.8.2). Takes no
+    /// memory.
+    pub fn turn(&mut self, topic_filter: &Text, on: bool)
+        ensures { self.new ≡ record self.old {
+          subscriptions = turned topic_filter.now on self.old.subscriptions;
+        } }
+    {
+        turn(self.subscriptions.as_mut_slice(), topic_filter, on);
     }
 
     /// What is forwarded of publishes that are handed on, `own` where the client published them itself, under its subscriptions
@@ -355,6 +369,7 @@ impl Kept {
             Packet::Subscribe(request) => copies_all(
                 alloc,
                 retained,
+                identifier_of(&request.properties),
                 request.filters.as_slice(),
                 self.subscriptions.as_slice(),
             ),

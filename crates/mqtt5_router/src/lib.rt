@@ -13,10 +13,12 @@ mod subscriptions;
 #[cfg(test)]
 mod tests;
 
-pub use asking::{subscribe_all, subscriptions_of, unsubscribe_all};
+pub use asking::{
+    is_shared, share_of, shared_filter, slash_in, subscribe_all, subscriptions_of, unsubscribe_all,
+};
 pub use forwarding::forward;
 pub use kept::{Arrived, Kept, Passed};
 pub use laws::kept_law;
-pub use queue::route;
+pub use queue::{forwarded, route};
 pub use retained::retain;
 pub use subscriptions::{granted_for, greater};

@@ -2,10 +2,11 @@
 
 ghost use Rattle.std.specs.Prelude.{◌≡◌, ◌++◌, IfOk, OnOk, OnErr};
 ghost use Rattle.std.specs.Option.{option_to_list};
-ghost use Rattle.mqtt5_network.specs.Subscriptions.{forwarded_to};
+ghost use Rattle.mqtt5_network.specs.Subscriptions.{holding, forwarded_under, forwarded_to};
 
-use crate::forwarding::forward;
-use crate::subscriptions::granted_for;
+use crate::forwarding::{forward, identified};
+use crate::subscriptions::{granted_for, identifiers_for, keep_retain};
+use mqtt5_base::QoS;
 use mqtt5_network::Subscription;
 use mqtt5_publish::Publish;
 use std::alloc::{AllocError, Global};
@@ -13,7 +14,7 @@ use std::collections::VecDeque;
 
 /// What is forwarded of a publish that is handed on, `own` where the client published it itself, or None where no subscription
 /// holds for it (MQTT 5.0 section 3.3.4). Err where memory is refused.
-pub(super) fn forwarded(
+pub fn forwarded(
     alloc: Global,
     own: bool,
     subscriptions: &[Subscription],
@@ -22,9 +23,27 @@ pub(super) fn forwarded(
     ensures { IfOk result (λ p. p ≡ forwarded_to own subscriptions.now publish.now) }
 {
     match granted_for(own, subscriptions, publish) {
-        Some(granted) => Ok(Some(forward(alloc, granted, publish)?)),
+        Some(granted) => Ok(Some(forward_under(alloc, own, subscriptions, granted, publish)?)),
         None => Ok(None),
     }
+}
+
+/// A publish as it is forwarded under a granted QoS: with the identifiers of the subscriptions that hold for it, and with its retain
+/// where each of these asks for that (3.3.1.3 and 3.3.4). Err where memory is refused.
+fn forward_under(
+    alloc: Global,
+    own: bool,
+    subscriptions: &[Subscription],
+    granted: QoS,
+    publish: &Publish,
+) -> Result<Publish, AllocError>
+    ensures { IfOk result (λ p. p
+        ≡ forwarded_under (holding own subscriptions.now publish.now) granted publish.now) }
+{
+    let identifiers = identifiers_for(alloc, own, subscriptions, publish)?;
+    let mut forwarded = forward(alloc, granted, publish)?;
+    forwarded.retain = publish.retain && keep_retain(own, subscriptions, publish);
+    Ok(identified(forwarded, identifiers, alloc))
 }
 
 /// What is forwarded of a publish that is handed on, `own` where the client published it itself, goes to the end of the client's

@@ -8,10 +8,10 @@ ghost use Rattle.mqtt5_network.specs.Asking.{subscription_of};
 ghost use Rattle.mqtt5_network.specs.Retained.{is_to, retains, copy_for, gets_copies};
 ghost use Rattle.mqtt5_network.specs.Retained.{copies_of, copies_all};
 
-use crate::asking::{is_among, subscription_of, subscriptions_of};
-use crate::forwarding::forward;
-use crate::subscriptions::subscribe;
-use mqtt5_base::copied;
+use crate::asking::{is_among, is_shared, subscription_of, subscriptions_of};
+use crate::forwarding::{forward, identified};
+use crate::subscriptions::{pattern_of, subscribe};
+use mqtt5_base::{Sequence, copied};
 use mqtt5_network::Subscription;
 use mqtt5_progress::reaches;
 use mqtt5_publish::Publish;
@@ -47,16 +47,17 @@ fn forget(retained: &mut Vec<Publish>, publish: &Publish)
 pub(super) fn copies_all(
     alloc: Global,
     retained: &[Publish],
+    identifier: Option<usize>,
     filters: &[Filter],
     subscriptions: &[Subscription],
 ) -> Result<Vec<Publish>, AllocError>
     ensures { IfOk result (λ ps. ps.items
-        ≡ copies_all retained.now filters.now subscriptions.now) }
+        ≡ copies_all retained.now identifier filters.now subscriptions.now) }
 {
     let mut next = subscriptions_of(alloc, subscriptions)?;
     let mut all = Vec::new(alloc);
     for filter in filters {
-        add_copies(alloc, retained, filter, &mut next, &mut all)?;
+        add_copies(alloc, retained, identifier, filter, &mut next, &mut all)?;
     }
     Ok(all)
 }
@@ -65,17 +66,18 @@ pub(super) fn copies_all(
 fn add_copies(
     alloc: Global,
     retained: &[Publish],
+    identifier: Option<usize>,
     filter: &Filter,
     subscriptions: &mut Vec<Subscription>,
     all: &mut Vec<Publish>,
 ) -> Result<(), AllocError>
-    ensures copies { OnOk result (all.new.items
-        ≡ all.old.items ++ copies_of retained.now subscriptions.old.items filter.now) }
+    ensures copies { OnOk result (all.new.items ≡ all.old.items
+        ++ copies_of retained.now identifier subscriptions.old.items filter.now) }
     ensures taken_in { OnOk result (subscriptions.new.items
-        ≡ subscribed (subscription_of filter.now) subscriptions.old.items) }
+        ≡ subscribed (subscription_of identifier filter.now) subscriptions.old.items) }
 {
-    let subscription = subscription_of(filter)?;
-    if gets_copies(filter, subscriptions.as_slice()) {
+    let subscription = subscription_of(alloc, identifier, filter)?;
+    if !is_shared(&filter.path) && gets_copies(filter, subscriptions.as_slice()) {
         push_copies(alloc, retained, &subscription, all)?;
     }
     subscribe(subscriptions, subscription)?;
@@ -111,7 +113,8 @@ fn push_copies(
     Ok(())
 }
 
-/// Puts a copy of a retained message behind others, if the filter matches: with retain, at the lesser of both QoS.
+/// Puts a copy of a retained message behind others, if the filter matches: with retain, at the lesser of both QoS, and with the
+/// subscription's identifier.
 fn push_copy(
     alloc: Global,
     message: &Publish,
@@ -121,10 +124,22 @@ fn push_copy(
     ensures { OnOk result (all.new.items
         ≡ all.old.items ++ option_to_list (copy_for subscription.now message.now)) }
 {
-    if reaches(slice::from_ref(&subscription.topic_filter), message) {
+    if reaches(slice::from_ref(pattern_of(subscription)), message) {
+        let identifiers = identifiers_of(alloc, subscription)?;
         let mut copy = forward(alloc, subscription.granted, message)?;
         copy.retain = true;
-        all.push(copy)?;
+        all.push(identified(copy, identifiers, alloc))?;
     }
     Ok(())
+}
+
+/// The identifier of a subscription, if it has one.
+fn identifiers_of(alloc: Global, subscription: &Subscription) -> Result<Sequence<usize>, AllocError>
+    ensures { IfOk result (λ ns. ns ≡ option_to_list subscription.now.identifier) }
+{
+    let mut identifiers = Sequence::new(alloc);
+    if let Some(identifier) = subscription.identifier {
+        identifiers.push(identifier)?;
+    }
+    Ok(identifiers)
 }

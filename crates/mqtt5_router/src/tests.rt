@@ -34,7 +34,7 @@ fn three(alloc: Global) -> Result<(Vec<Subscription>, bool), Error> {
     filters.push(filter(alloc, "a/b", QoS::ExactlyOnce, true)?)?;
     filters.push(filter(alloc, "#", QoS::AtMostOnce, false)?)?;
     let mut subscriptions = Vec::new(alloc);
-    let codes = subscribe_all(alloc, &mut subscriptions, filters.as_slice())?;
+    let codes = subscribe_all(alloc, &mut subscriptions, None, filters.as_slice())?;
     let said = codes.as_slice()
         == [
             SubscribeReasonCode::Success(QoS::AtLeastOnce),
@@ -94,7 +94,7 @@ fn replaced(alloc: Global) -> Result<[Option<QoS>; 2], Error> {
     let publish = message(alloc, "a/c", QoS::ExactlyOnce)?;
     let mut filters = Sequence::new(alloc);
     filters.push(filter(alloc, "a/+", QoS::ExactlyOnce, false)?)?;
-    let codes = subscribe_all(alloc, &mut subscriptions, filters.as_slice())?;
+    let codes = subscribe_all(alloc, &mut subscriptions, None, filters.as_slice())?;
     drop(codes);
     let greater = granted_for(false, subscriptions.as_slice(), &publish);
     let mut paths = Sequence::new(alloc);

@@ -49,6 +49,9 @@ fn make_profile(alloc: Global, random: &mut Random) -> Result<Profile, StateErro
             topic_filter: Text::from_str(alloc, FILTERS[random.below(8)])?,
             granted: qos_of(random.below(3)),
             no_local: false,
+            retain_as_published: false,
+            identifier: None,
+            share: None,
         })?;
     }
     let limit = random.short() % 100 + 1;
