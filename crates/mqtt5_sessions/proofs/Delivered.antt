@@ -9,6 +9,7 @@ use Rattle.std.proofs.Math.Seq.{drop-cons}
 use Rattle.std.proofs.lemmas.List.{drop_all}
 use Rattle.mqtt5_base.specs.declared.quality.QoS.{QoS}
 use Rattle.mqtt5_base.specs.declared.quality.QoS.TheVariants.{AtMostOnce, AtLeastOnce, ExactlyOnce}
+use Rattle.mqtt5_base.specs.Texts.{Utf8}
 use Rattle.mqtt5_publish.specs.declared.publish.Publish.{Publish}
 use Rattle.mqtt5_codec.specs.declared.packet.Packet.{Packet}
 use Rattle.mqtt5_codec.specs.declared.packet.Packet.TheVariants as packets
@@ -19,7 +20,7 @@ use Rattle.mqtt5_network.specs.declared.event.Will.{Will}
 use Rattle.mqtt5_network.specs.Place.{message_of, lost_message, due_message, replaced_message}
 use Rattle.mqtt5_router.specs.Kept.{Kept, without_events, kept_of, alone, after_packet}
 use Rattle.mqtt5_sessions.specs.declared.coming.Coming.{Coming}
-use Rattle.mqtt5_sessions.specs.Sessions.{ClientState, Sessions, gets, queues, queues_all, with_client, of_client, to_client, changes, arrives}
+use Rattle.mqtt5_sessions.specs.Sessions.{ClientState, Sessions, gets, queues, queues_all, with_client, of_client, to_client, changes, here_in, with_turn_of, turns, arrives}
 use Rattle.mqtt5_sessions.specs.Coming.{delivered, coming_to, coming_from, coming_of, coming_of_will, is_publish, coming_for, chosen}
 
 -- ---- the client at a place
@@ -91,6 +92,43 @@ delivered_to i (p ∷ ps) cs =
     delivered_to i ps (with_client i (gets (p ∷ [])) cs)
     ∙ with_twice i (gets ps) (gets (p ∷ [])) cs
     ∙ with_other i (λ c. gets ps (gets (p ∷ []) c)) (gets (p ∷ ps)) cs (λ c j. record c { kept = record c.kept { queue = append_assoc c.kept.queue (p ∷ []) ps j } })
+
+-- whether one is connected doesn't change
+here_gets : (i j : ℕ) (ps : List Publish) (cs : List ClientState) → here_in i (with_client j (gets ps) cs) ≡ here_in i cs
+here_gets i j ps [] = refl
+here_gets zero zero ps (c ∷ cs) = refl
+here_gets zero (suc j) ps (c ∷ cs) = refl
+here_gets (suc i) zero ps (c ∷ cs) = refl
+here_gets (suc i) (suc j) ps (c ∷ cs) = here_gets i j ps cs
+
+pub here_delivered : (i : ℕ) (es : List Coming) (cs : List ClientState) → here_in i (delivered es cs) ≡ here_in i cs
+here_delivered i [] cs = refl
+here_delivered i (e ∷ es) cs = here_delivered i es (with_client e.client (gets (e.publish ∷ [])) cs) ∙ here_gets i e.client (e.publish ∷ []) cs
+
+pub here_at : (i : ℕ) (cs : List ClientState) (c : ClientState) → i < length cs → c ≡ slice_index_or cs i c → c.here ≡ here_in i cs
+here_at i cs c below is = ap (λ (x : ClientState). x.here) is ∙ by i cs below
+  where
+    by : (i : ℕ) (cs : List ClientState) → i < length cs → (slice_index_or cs i c).here ≡ here_in i cs
+    by i [] below = absurd (omega arith)
+    by zero (d ∷ cs) below = refl
+    by (suc i) (d ∷ cs) below = by i cs (omega arith)
+
+pub here_past : (i : ℕ) (cs : List ClientState) → length cs ≤ i → here_in i cs ≡ false
+here_past i [] past = refl
+here_past zero (c ∷ cs) past = absurd (omega arith)
+here_past (suc i) (c ∷ cs) past = here_past i cs (omega arith)
+
+-- a turn that is given meanwhile
+turn_gets : (i j : ℕ) (f : Utf8) (on : Bool) (ps : List Publish) (cs : List ClientState) → with_client j (gets ps) (with_client i (with_turn_of f on) cs) ≡ with_client i (with_turn_of f on) (with_client j (gets ps) cs)
+turn_gets i j f on ps [] = refl
+turn_gets zero zero f on ps (c ∷ cs) = refl
+turn_gets zero (suc j) f on ps (c ∷ cs) = refl
+turn_gets (suc i) zero f on ps (c ∷ cs) = refl
+turn_gets (suc i) (suc j) f on ps (c ∷ cs) = ap (λ xs. c ∷ xs) (turn_gets i j f on ps cs)
+
+pub turn_delivered : (i : ℕ) (f : Utf8) (on : Bool) (es : List Coming) (cs : List ClientState) → delivered es (with_client i (with_turn_of f on) cs) ≡ with_client i (with_turn_of f on) (delivered es cs)
+turn_delivered i f on [] cs = refl
+turn_delivered i f on (e ∷ es) cs = ap (delivered es) (turn_gets i e.client f on (e.publish ∷ []) cs) ∙ turn_delivered i f on es (with_client e.client (gets (e.publish ∷ [])) cs)
 
 -- one of them, as it is done
 pub deliver_past : (cs : List ClientState) (i : ℕ) (p : Publish) → length cs ≤ i → cs ≡ with_client i (gets (p ∷ [])) cs
@@ -339,6 +377,10 @@ module _ (i : ℕ) (g : ClientState → ClientState) (m : ClientState → List P
   seen_past es none past =
       ap (λ es. record { clients = delivered es cs; retained = kept }) none ∙ changes_past i g m (record { clients = cs; retained = kept }) past
 
+  -- though publishes are on their way
+  pub seen_past_all : (es : List Coming) → length cs ≤ i → record { clients = delivered es cs; retained = kept } ≡ changes i g m (record { clients = delivered es cs; retained = kept })
+  seen_past_all es past = changes_past i g m (record { clients = delivered es cs; retained = kept }) (let l = delivered_long es cs in omega (arith, l, past))
+
   -- where nothing is handed on
   pub seen_none : (c d : ClientState) (es : List Coming) → es ≡ [] → i < length cs → c ≡ slice_index_or cs i c → d ≡ g c → [] ≡ m c
       → record { clients = delivered es (set cs i d); retained = kept } ≡ changes i g m (record { clients = cs; retained = kept })
@@ -435,3 +477,23 @@ set_again i cs c d e below is back =
     ∙ ap (set cs i) is
     ∙ sym (with_at i (λ y. y) cs c below)
     ∙ with_same i (λ y. y) cs (λ y. refl)
+
+-- ---- turns
+
+nothing_of : (i : ℕ) (cs : List ClientState) → of_client i (λ c. []) cs ≡ []
+nothing_of i [] = refl
+nothing_of zero (c ∷ cs) = refl
+nothing_of (suc i) (c ∷ cs) = nothing_of i cs
+
+pub seen_turned : (i : ℕ) (f : Utf8) (on : Bool) (es : List Coming) (cs : List ClientState) (kept : List Publish) (s : Sessions) (c d : ClientState) → i < length cs → c ≡ slice_index_or cs i c → d ≡ with_turn_of f on c
+    → record { clients = delivered es cs; retained = kept } ≡ s → record { clients = delivered es (set cs i d); retained = kept } ≡ turns i f on s
+seen_turned i f on es cs kept s c d below is new seen =
+    (λ j. record { clients = delivered es (with_to i (with_turn_of f on) cs c d below is new j); retained = kept })
+    ∙ (λ j. record { clients = turn_delivered i f on es cs j; retained = kept })
+    ∙ changes_none i (with_turn_of f on) (λ c. []) (record { clients = delivered es cs; retained = kept }) (nothing_of i (delivered es cs))
+    ∙ ap (turns i f on) seen
+
+pub seen_unturned : (i : ℕ) (f : Utf8) (on : Bool) (es : List Coming) (cs : List ClientState) (kept : List Publish) (s : Sessions) → length cs ≤ i
+    → record { clients = delivered es cs; retained = kept } ≡ s → s ≡ turns i f on s
+seen_unturned i f on es cs kept s past seen =
+    sym seen ∙ seen_past_all i (with_turn_of f on) (λ c. []) cs kept es past ∙ ap (turns i f on) seen

@@ -2,6 +2,7 @@
 use Rattle.std.proofs.Common.{◌≡◌, ℕ, zero, suc, Bool, true, false, List, [], ◌∷◌, ◌++◌, length, drop, map, Option, Some, None, Result, Ok, Err, refl, sym, ap, ◌∙◌, subst, append-nil}
 use Rattle.std.specs.Prelude.{slice_get, unwrap_or}
 use Rattle.std.proofs.Math.Seq.{drop-append_seam, drop-length}
+use Rattle.mqtt5_base.specs.Texts.{Utf8}
 use Rattle.mqtt5_publish.specs.declared.publish.Publish.{Publish}
 use Rattle.mqtt5_codec.specs.declared.packet.Packet.{Packet}
 use Rattle.mqtt5_inflight.specs.declared.event.Request.TheVariants as requests
@@ -21,7 +22,7 @@ use Rattle.mqtt5_network.specs.Network.{Network, changed, new_of, newly, routes,
 use Rattle.mqtt5_router.specs.Kept.{Kept, new_kept, without_events, kept_of, after_packet}
 use Rattle.mqtt5_router.proofs.Alone.{packet_kept, packet_handed, pass_kept}
 use Rattle.mqtt5_sessions.proofs.Quiet.{heard_kept, heard_handed, passed_kept, taken_kept}
-use Rattle.mqtt5_sessions.specs.Sessions.{ClientState, state_of, sessions_of, gets, queues, queues_all, with_client, of_client, changes, arrives, passes_here, passes, loses, is_due, leaves, taken_up, comes, ends}
+use Rattle.mqtt5_sessions.specs.Sessions.{ClientState, state_of, sessions_of, gets, queues, queues_all, with_client, of_client, changes, arrives, passes_here, passes, loses, is_due, with_turn_of, turns, leaves, taken_up, comes, ends}
 
 -- ---- the clients
 
@@ -156,6 +157,11 @@ pub follows_due : (n : Network) (i : ℕ) → sessions_of (happens_in n (record 
 follows_due n i =
     follows n i events.Due (λ (c : ClientState). record c { will = not_due c.here c.will }) (λ (c : ClientState). due_message c.here c.will)
     (λ p h. record { state = none (state_of (happens_at p events.Due)); new = willed_new p (happens_at p events.Due) (due_message p.here p.will) refl refl })
+
+pub follows_turn : (n : Network) (i : ℕ) (f : Utf8) (turn : Bool) → sessions_of (happens_in n (record { client = i; what = events.Turn f turn })) ≡ turns i f turn (sessions_of n)
+follows_turn n i f turn =
+    follows n i (events.Turn f turn) (with_turn_of f turn) (λ c. [])
+    (λ p h. record { state = none (state_of (happens_at p (events.Turn f turn))); new = nothing_new p (happens_at p (events.Turn f turn)) refl refl })
 
 pub follows_left : (n : Network) (i : ℕ) → sessions_of (happens_in n (record { client = i; what = events.Left })) ≡ leaves i (sessions_of n)
 follows_left n i =

@@ -2,6 +2,7 @@
 use Rattle.std.proofs.Common.{◌≡◌, ℕ, zero, suc, ◌<◌, ◌≤◌, Bool, true, false, List, [], ◌∷◌, ◌++◌, length, map, Option, Some, None, Result, Ok, Err, ◌⊎◌, inl, inr, refl, sym, ap, ◌∙◌, arith, append-nil, append_assoc}
 use Rattle.std.specs.Prelude.{slice_get, unwrap_or, option_map, ⊤}
 use Rattle.std.specs.List.{filter_map}
+use Rattle.mqtt5_base.specs.Texts.{Utf8}
 use Rattle.mqtt5_publish.specs.declared.publish.Publish.{Publish}
 use Rattle.mqtt5_codec.specs.declared.packet.Packet.{Packet}
 use Rattle.mqtt5_inflight.specs.declared.event.Request.TheVariants as requests
@@ -24,9 +25,9 @@ use Rattle.mqtt5_router.specs.Kept.{Kept, new_kept, without_events, kept_of, aft
 use Rattle.mqtt5_router.proofs.Alone.{packet_reply, pass_sent}
 use Rattle.mqtt5_sessions.proofs.Delivered.{with_past, with_same, of_client_past, none_queued}
 use Rattle.mqtt5_sessions.proofs.Quiet.{heard_reply, passed_sent, sent_same}
-use Rattle.mqtt5_sessions.proofs.Following.{follows, none, nothing_new, follows_up, follows_pass, follows_lost, follows_due, follows_left, follows_back, follows_ends}
-use Rattle.mqtt5_sessions.specs.Sessions.{ClientState, new_state, state_of, Sessions, sessions_of, gets, queues, queues_all, with_client, of_client, to_client, changes, joins, arrives, replies, passes_here, sent_here, passed, passes, loses, is_due, leaves, taken_up, comes, sent_again, ends}
-use Rattle.mqtt5_sessions.specs.Runs.{SessionEvent, Joins, Arrives, Passes, Loses, IsDue, Leaves, Comes, Ends, after_event, after_events, no_sessions, RunEvent, AtBroker, AtClient, IsOfClient, at_broker, limit_of, limits_in, with_new, all_lost, before, HaveNone, within, in_network, all_in_network, IsFirst, IsRun}
+use Rattle.mqtt5_sessions.proofs.Following.{follows, none, nothing_new, follows_up, follows_pass, follows_lost, follows_due, follows_turn, follows_left, follows_back, follows_ends}
+use Rattle.mqtt5_sessions.specs.Sessions.{ClientState, new_state, state_of, Sessions, sessions_of, gets, queues, queues_all, with_client, of_client, to_client, changes, joins, arrives, replies, passes_here, sent_here, passed, passes, loses, is_due, with_turn_of, turns, leaves, taken_up, comes, sent_again, ends}
+use Rattle.mqtt5_sessions.specs.Runs.{SessionEvent, Joins, Arrives, Passes, Loses, IsDue, Turns, Leaves, Comes, Ends, after_event, after_events, no_sessions, RunEvent, AtBroker, AtClient, IsOfClient, at_broker, limit_of, limits_in, with_new, all_lost, before, HaveNone, within, in_network, all_in_network, IsFirst, IsRun}
 
 -- ---- lists of events
 
@@ -155,6 +156,8 @@ one_event (Loses i) n s limits is first =
     known n s limits is i events.Lost (λ (c : ClientState). record c { here = false; will = waiting c.will }) (λ (c : ClientState). lost_message c.will) (follows_lost n i ∙ ap (loses i) is)
 one_event (IsDue i) n s limits is first =
     known n s limits is i events.Due (λ (c : ClientState). record c { will = not_due c.here c.will }) (λ (c : ClientState). due_message c.here c.will) (follows_due n i ∙ ap (is_due i) is)
+one_event (Turns i f turn) n s limits is first =
+    known n s limits is i (events.Turn f turn) (with_turn_of f turn) (λ (c : ClientState). []) (follows_turn n i f turn ∙ ap (turns i f turn) is)
 one_event (Leaves i) n s limits is first =
     known n s limits is i events.Left (λ (c : ClientState). record c { here = false; will = left_will c.here c.will }) (λ (c : ClientState). []) (follows_left n i ∙ ap (leaves i) is)
 one_event (Comes i m will) n s limits is first =
@@ -241,6 +244,7 @@ of_client_alone n i events.Up is = absurd is
 of_client_alone n i events.PassOn is = absurd is
 of_client_alone n i events.Lost is = absurd is
 of_client_alone n i events.Due is = absurd is
+of_client_alone n i (events.Turn f turn) is = absurd is
 of_client_alone n i events.Left is = absurd is
 of_client_alone n i (events.Back a b will) is = absurd is
 of_client_alone n i events.Ends is = absurd is

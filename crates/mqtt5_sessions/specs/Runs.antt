@@ -1,7 +1,8 @@
 -- What happens to what a broker keeps of its clients, one event after another; and a network in which
 -- the same happens (MQTT 5.0 sections 4.1 to 4.4).
-use Rattle.std.specs.Prelude.{◌≡◌, ℕ, zero, suc, List, [], ◌∷◌, ◌++◌, length, map, Option, Some}
+use Rattle.std.specs.Prelude.{◌≡◌, ℕ, zero, suc, Bool, List, [], ◌∷◌, ◌++◌, length, map, Option, Some}
 use Rattle.std.specs.Prelude.{None, slice_get, ⊤}
+use Rattle.mqtt5_base.specs.Texts.{Utf8}
 use Rattle.mqtt5_codec.specs.declared.packet.Packet.{Packet}
 use Rattle.mqtt5_network.specs.declared.event.ClientEvent.{ClientEvent}
 use Rattle.mqtt5_network.specs.declared.event.ClientEvent.TheVariants as events
@@ -10,20 +11,21 @@ use Rattle.mqtt5_network.specs.declared.event.Will.{Will}
 use Rattle.mqtt5_network.specs.Place.{Place}
 use Rattle.mqtt5_network.specs.Network.{Network, Profile, start_network, happens_in, run_network}
 use Rattle.mqtt5_sessions.specs.Sessions.{Sessions, new_state, joins, arrives, passes, loses}
-use Rattle.mqtt5_sessions.specs.Sessions.{is_due, leaves, comes, ends}
+use Rattle.mqtt5_sessions.specs.Sessions.{is_due, turns, leaves, comes, ends}
 
 -- ---- at the broker
 
 -- what happens to the sessions, each to a client by its number: one more comes to be known, with the
 -- greatest identifier to it; a packet of it arrives; the first of its queue is passed on; its
--- connection is lost; the delay of its will has passed; it leaves; it comes on a new connection; its
--- session ends
+-- connection is lost; the delay of its will has passed; it is given the turn in a shared subscription,
+-- or that is taken from it; it leaves; it comes on a new connection; its session ends
 pub data SessionEvent : Type 0 where
   Joins : (limit : ℕ) → SessionEvent
   Arrives : (client : ℕ) (packet : Packet) → SessionEvent
   Passes : (client : ℕ) → SessionEvent
   Loses : (client : ℕ) → SessionEvent
   IsDue : (client : ℕ) → SessionEvent
+  Turns : (client : ℕ) (topic_filter : Utf8) (turn : Bool) → SessionEvent
   Leaves : (client : ℕ) → SessionEvent
   Comes : (client : ℕ) (receive_max : Option ℕ) (will : Option Will) → SessionEvent
   Ends : (client : ℕ) → SessionEvent
@@ -35,6 +37,7 @@ after_event (Arrives i x) s = arrives i x s
 after_event (Passes i) s = passes i s
 after_event (Loses i) s = loses i s
 after_event (IsDue i) s = is_due i s
+after_event (Turns i f turn) s = turns i f turn s
 after_event (Leaves i) s = leaves i s
 after_event (Comes i m will) s = comes i m will s
 after_event (Ends i) s = ends i s
@@ -112,6 +115,7 @@ in_network count (Arrives i x) = to_client_in count i events.Up
 in_network count (Passes i) = to_client_in count i events.PassOn
 in_network count (Loses i) = to_client_in count i events.Lost
 in_network count (IsDue i) = to_client_in count i events.Due
+in_network count (Turns i f turn) = to_client_in count i (events.Turn f turn)
 in_network count (Leaves i) = to_client_in count i events.Left
 in_network count (Comes i m will) = to_client_in count i (events.Back None m will)
 in_network count (Ends i) = to_client_in count i events.Ends

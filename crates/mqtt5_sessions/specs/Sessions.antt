@@ -1,15 +1,16 @@
 -- What a broker keeps of all its clients, by itself, and what is made of it by a packet that comes, by
 -- what it sends, and by connections that are lost and begin (MQTT 5.0 sections 3.1.2.4, 3.1.2.5,
--- 3.1.3.2.2, 3.3.4, 3.8, 4.1, 4.3 and 4.4).
+-- 3.1.3.2.2, 3.3.4, 3.8, 4.1, 4.3, 4.4 and 4.8.2).
 use Rattle.std.specs.Prelude.{ℕ, zero, suc, Bool, true, false, List, [], ◌∷◌, ◌++◌, map, Option, None}
 use Rattle.std.specs.List.{filter_map}
+use Rattle.mqtt5_base.specs.Texts.{Utf8}
 use Rattle.mqtt5_publish.specs.declared.publish.Publish.{Publish}
 use Rattle.mqtt5_codec.specs.declared.packet.Packet.{Packet}
 use Rattle.mqtt5_session.specs.Resuming.{resume_of}
 use Rattle.mqtt5_session.specs.Ledger.{kept_by}
 use Rattle.mqtt5_network.specs.declared.event.Will.{Will}
 use Rattle.mqtt5_network.specs.Connection.{connected, sent_in}
-use Rattle.mqtt5_network.specs.Subscriptions.{forwarded_to}
+use Rattle.mqtt5_network.specs.Subscriptions.{turned, forwarded_to}
 use Rattle.mqtt5_network.specs.Retained.{retained_after, retained_of, copies_for}
 use Rattle.mqtt5_network.specs.Place.{Place, lost_message, waiting, replaced_message, due_message}
 use Rattle.mqtt5_network.specs.Place.{not_due, left_will, message_of}
@@ -129,6 +130,24 @@ abbrev pub is_due : ℕ → Sessions → Sessions
 is_due i s =
     changes i (λ (c : ClientState). record c { will = not_due c.here c.will })
     (λ (c : ClientState). due_message c.here c.will) s
+
+-- whether it is connected: not one that isn't there
+abbrev pub here_in : ℕ → List ClientState → Bool
+here_in i [] = false
+here_in zero (c ∷ cs) = c.here
+here_in (suc i) (c ∷ cs) = here_in i cs
+
+abbrev pub is_here : ℕ → Sessions → Bool
+is_here i s = here_in i s.clients
+
+-- it is given the turn in the shared subscription of a filter, or that is taken from it (4.8.2)
+abbrev pub with_turn_of : Utf8 → Bool → ClientState → ClientState
+with_turn_of f turn c = record c {
+  kept = record c.kept { subscriptions = turned f turn c.kept.subscriptions };
+}
+
+abbrev pub turns : ℕ → Utf8 → Bool → Sessions → Sessions
+turns i f turn s = changes i (with_turn_of f turn) (λ c. []) s
 
 -- it leaves (3.14.4)
 abbrev pub leaves : ℕ → Sessions → Sessions

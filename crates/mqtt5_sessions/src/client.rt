@@ -10,14 +10,15 @@ ghost use Rattle.mqtt5_network.specs.Retained.{copies_for};
 ghost use Rattle.mqtt5_network.specs.Place.{lost_message, waiting, replaced_message, due_message};
 ghost use Rattle.mqtt5_network.specs.Place.{not_due, left_will, message_of};
 ghost use Rattle.mqtt5_router.specs.Kept.{new_kept, without_events, kept_of, after_packet};
-ghost use Rattle.mqtt5_sessions.specs.Sessions.{new_state, gets, passes_here, sent_here, taken_up};
+ghost use Rattle.mqtt5_sessions.specs.Sessions.{new_state, gets, passes_here, sent_here, with_turn_of, taken_up};
 ghost use Rattle.mqtt5_sessions.specs.Counts.{counts_of};
 
 use crate::counts::{Counts, sizes};
+use mqtt5_base::Text;
 use mqtt5_codec::Packet;
 use mqtt5_network::Will;
 use mqtt5_publish::Publish;
-use mqtt5_router::{Arrived, Kept, forward, granted_for};
+use mqtt5_router::{Arrived, Kept, forwarded};
 use mqtt5_session::StateError;
 use std::alloc::{AllocError, Global};
 use std::collections::VecDeque;
@@ -111,10 +112,7 @@ impl ClientState {
         ensures { IfOk result
             (λ p. p ≡ forwarded_to own self.now.kept.subscriptions publish.now) }
     {
-        match granted_for(own, self.kept.subscriptions(), publish) {
-            Some(granted) => Ok(Some(forward(alloc, granted, publish)?)),
-            None => Ok(None),
-        }
+        forwarded(alloc, own, self.kept.subscriptions(), publish)
     }
 
     /// The copies of retained messages that a packet of it brings (3.3.1.3).
@@ -196,6 +194,20 @@ impl ClientState {
             Some(will) => Some(will.publish),
             None => None,
         }
+    }
+
+    /// Whether it is connected.
+    pub(super) fn is_here(&self) -> bool
+        ensures { result ≡ self.now.here }
+    {
+        self.here
+    }
+
+    /// It is given the turn in the shared subscription of a topic filter, or that is taken from it (4.8.2).
+    pub(super) fn turn(&mut self, topic_filter: &Text, turn: bool)
+        ensures { self.new ≡ with_turn_of topic_filter.now turn self.old }
+    {
+        self.kept.turn(topic_filter, turn);
     }
 
     /// It leaves: its will is dropped; nothing changes of one that isn't connected (3.14.4).

@@ -1,6 +1,7 @@
 //! What a broker keeps follows each event of a network; and it can do without the events at its senders.
 
-ghost use Rattle.std.specs.Prelude.{◌≡◌, ◌<◌, ◌∷◌, ◌++◌, ℕ, List, Option, Some, length, map, slice_get};
+ghost use Rattle.std.specs.Prelude.{◌≡◌, ◌<◌, ◌∷◌, ◌++◌, ℕ, Bool, List, Option, Some, length, map, slice_get};
+ghost use Rattle.mqtt5_base.specs.Texts.{Utf8};
 ghost use Rattle.mqtt5_codec.specs.declared.packet.Packet.{Packet};
 ghost use Rattle.mqtt5_session.specs.Resuming.{resume_of};
 ghost use Rattle.mqtt5_network.specs.declared.event.ClientEvent.{ClientEvent};
@@ -12,13 +13,13 @@ ghost use Rattle.mqtt5_network.specs.Place.{Place};
 ghost use Rattle.mqtt5_network.specs.Network.{Network, Profile, happens_in, run_network, IsReached};
 ghost use Rattle.mqtt5_router.specs.Kept.{Kept, without_events, kept_of, after_packet, after_pass};
 ghost use Rattle.mqtt5_sessions.specs.Sessions.{sessions_of, arrives, passes, loses, is_due};
-ghost use Rattle.mqtt5_sessions.specs.Sessions.{leaves, taken_up, comes, ends};
+ghost use Rattle.mqtt5_sessions.specs.Sessions.{turns, leaves, taken_up, comes, ends};
 ghost use Rattle.mqtt5_sessions.specs.Sessions.{Sessions, replies, passed, sent_again};
 ghost use Rattle.mqtt5_sessions.specs.Runs.{after_events, no_sessions, RunEvent, IsOfClient, at_broker};
 ghost use Rattle.mqtt5_sessions.specs.Runs.{limits_in, with_new, before, HaveNone, all_in_network, IsRun};
 
 /// A law, which does nothing when it is called: what a broker keeps of a network, after each event of the client at a place, is
-/// what its own definitions make of it (MQTT 5.0 sections 3.1.2.4, 3.1.2.5, 3.1.3.2.2, 3.3.4, 3.8, 4.1, 4.3 and 4.4).
+/// what its own definitions make of it (MQTT 5.0 sections 3.1.2.4, 3.1.2.5, 3.1.3.2.2, 3.3.4, 3.8, 4.1, 4.3, 4.4 and 4.8.2).
 pub fn sessions_law()
     // A packet on its way up arrives.
     ensures up { (n : Network) (i : ℕ) (p : Place) (x : Packet) (way : List Packet)
@@ -37,6 +38,10 @@ pub fn sessions_law()
     ensures due { (n : Network) (i : ℕ)
         → sessions_of (happens_in n (record { client = i; what = events.Due }))
         ≡ is_due i (sessions_of n) }
+    // It is given the turn in a shared subscription, or that is taken from it (4.8.2).
+    ensures turn { (n : Network) (i : ℕ) (f : Utf8) (turn : Bool)
+        → sessions_of (happens_in n (record { client = i; what = events.Turn f turn }))
+        ≡ turns i f turn (sessions_of n) }
     // It leaves.
     ensures left { (n : Network) (i : ℕ)
         → sessions_of (happens_in n (record { client = i; what = events.Left }))

@@ -4,12 +4,13 @@ ghost use Rattle.std.specs.Prelude.{◌≡◌, [], IfOk, IfErr, OnOk, OnErr, len
 ghost use Rattle.std.specs.Option.{option_to_list};
 ghost use Rattle.std.specs.NonZero.{non_zero_u16_get};
 ghost use Rattle.mqtt5_sessions.specs.Sessions.{joins, arrives, replies, passes, passed, loses};
-ghost use Rattle.mqtt5_sessions.specs.Sessions.{is_due, leaves, comes, sent_again, ends};
+ghost use Rattle.mqtt5_sessions.specs.Sessions.{is_due, is_here, turns, leaves, comes, sent_again, ends};
 ghost use Rattle.mqtt5_sessions.specs.Counts.{counts};
 
 use crate::client::ClientState;
 use crate::coming::{Coming, deliver_all, hand_on, is_publish, of_packet, of_will};
 use crate::counts::Counts;
+use mqtt5_base::Text;
 use mqtt5_codec::Packet;
 use mqtt5_network::Will;
 use mqtt5_publish::Publish;
@@ -190,6 +191,27 @@ impl Sessions {
         let handed = self.clients[client].publish_waiting();
         hand_on(handed, made, &mut self.coming, &mut self.retained);
         Ok(())
+    }
+
+    /// Whether a client is connected: not one that isn't there.
+    pub fn is_here(&self, client: usize) -> bool
+        ensures { result ≡ is_here client self.now }
+    {
+        if client >= self.clients.len() {
+            return false;
+        }
+        self.clients[client].is_here()
+    }
+
+    /// A client is given the turn in the shared subscription of a topic filter, or that is taken from it, if it has such a
+    /// subscription (4.8.2): only in its turn something is forwarded under that. Takes no memory.
+    pub fn turn(&mut self, client: usize, topic_filter: &Text, turn: bool)
+        ensures { self.new ≡ turns client topic_filter.now turn self.old }
+    {
+        if client >= self.clients.len() {
+            return;
+        }
+        self.clients[client].turn(topic_filter, turn);
     }
 
     /// A client leaves, with a Disconnect of reason 0: its will is dropped (3.14.4). S12, which leaves all as it was.

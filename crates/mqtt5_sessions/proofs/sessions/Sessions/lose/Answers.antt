@@ -1,4 +1,4 @@
-use Rattle.std.proofs.Common.{List, true, false, refl, ap, ◌∙◌, arith}
+use Rattle.std.proofs.Common.{List, false, refl, ap, ◌∙◌, arith}
 use Rattle.std.specs.Option.{option_to_list}
 use Rattle.mqtt5_publish.specs.declared.publish.Publish.{Publish}
 use Rattle.mqtt5_network.specs.Retained.{retained_after}
