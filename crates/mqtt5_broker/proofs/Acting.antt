@@ -1,4 +1,4 @@
--- What a broker makes of bytes is a list of acts.
+-- What a broker makes of bytes is a list of steps.
 use Rattle.std.proofs.Common.{◌≡◌, ℕ, zero, suc, Bool, true, false, List, [], ◌∷◌, ◌++◌, Option, Some, None, refl, sym, ap, ◌∙◌, get_or, set, slice_set, if◌then◌else◌, not, length, ◌==◌, max}
 use Rattle.std.specs.Prelude.{option_map}
 use Rattle.std.specs.Option.{option_to_list}
@@ -11,8 +11,9 @@ use Rattle.mqtt5_control.specs.declared.connack.ConnectReturnCode.{ConnectReturn
 use Rattle.mqtt5_control.specs.declared.connack.ConnectReturnCode.TheVariants as return_codes
 use Rattle.mqtt5_control.specs.declared.disconnect.DisconnectReasonCode.{DisconnectReasonCode}
 use Rattle.mqtt5_control.specs.declared.disconnect.DisconnectReasonCode.TheVariants as reasons
-use Rattle.mqtt5_sessions.specs.Sessions.{Sessions, replies, passed, ends}
-use Rattle.mqtt5_sessions.specs.Runs.{SessionEvent, Joins, Arrives, Passes, Loses, IsDue, Leaves, Comes, Ends, after_event, after_events}
+use Rattle.mqtt5_sessions.specs.Sessions.{replies, passed, ends}
+use Rattle.mqtt5_sessions.specs.Runs as runs
+use Rattle.mqtt5_sessions.specs.Runs.{Joins, Passes, Loses, IsDue}
 use Rattle.mqtt5_broker.specs.declared.member.Member.{Member}
 use Rattle.mqtt5_broker.specs.declared.serving.Kind.{Kind}
 use Rattle.mqtt5_broker.specs.declared.serving.Kind.TheVariants as kinds
@@ -22,38 +23,40 @@ use Rattle.mqtt5_broker.specs.Connection.{Connection, closed, shut, disconnect, 
 use Rattle.mqtt5_broker.specs.Broker.{Broker, at_moment, on_connection, on_member, away, gone, expiring, undue, member_at, has_ended, will_is_due, forgets, loses_client, leaves_client, publishes_will, stays_at, refuses, dismisses, dismisses_of, numbers, number_in, free_number, number_of, assigned_name, number_after, user_at, owner_at}
 use Rattle.mqtt5_broker.specs.Wills.{will_of}
 use Rattle.mqtt5_broker.specs.Rights.{may_do, denial, suback_for, part_of}
+use Rattle.mqtt5_broker.specs.Groups.{sessions_before, groups_without, sessions_without}
 use Rattle.mqtt5_sessions.specs.Counts.{counts}
-use Rattle.mqtt5_broker.specs.Serving.{kind_of, arrives_from, denies, brings, goes, disconnects, serves_as, serves_by, fault_of, serves, refusal, receive_max_of, longest_of, silence_of, member_of, welcome, comes_in, displaced, displaces, starts_anew, begins, enters, turns_away, enters_if_room, assigns_by, assigns, is_its, admits_as, admits, entry_fault, connects_by, connects, begins_with, takes_of, takes, passes_of, passes_on}
+use Rattle.mqtt5_broker.specs.Serving.{kind_of, comes_to_session, arrives_from, denies, brings, goes, disconnects, serves_as, serves_by, fault_of, serves, refusal, receive_max_of, longest_of, silence_of, member_of, welcome, comes_in, displaced, displaces, starts_anew, begins, enters, turns_away, enters_if_room, assigns_by, assigns, is_its, admits_as, admits, entry_fault, connects_by, connects, begins_with, takes_of, takes, passes_of, passes_on}
 use Rattle.mqtt5_broker.specs.Receiving.{takes_all, reason_for, ends_with, comes_of, receives_now, receives}
 use Rattle.mqtt5_broker.specs.Bounds.{has_room, exceeds, ends_of, trims, trims_all}
 use Rattle.mqtt5_broker.specs.Clock.{for_each, silences, silences_all, expires, ticks, ends_now, shuts_down}
-use Rattle.mqtt5_broker.specs.Acts.{Act, Session, Know, Name, Moment, Hear, Write, Shut, Welcome, Hold, Empty, act, acts}
+use Rattle.mqtt5_broker.specs.Acts.{Act, Session, Know, Name, Moment, Hear, Write, Shut, Welcome, Hold, Empty, act}
+use Rattle.mqtt5_broker.proofs.Steps.{IsPlain, Step, Do, Comes, Leaves, step, steps}
 
--- ---- lists of acts
+-- ---- lists of steps
 
-acts_append : (ds bs : List Act) (b : Broker) → acts (ds ++ bs) b ≡ acts bs (acts ds b)
-acts_append [] bs b = refl
-acts_append (a ∷ ds) bs b = acts_append ds bs (act a b)
+steps_append : (ds bs : List Step) (b : Broker) → steps (ds ++ bs) b ≡ steps bs (steps ds b)
+steps_append [] bs b = refl
+steps_append (d ∷ ds) bs b = steps_append ds bs (step d b)
 
--- after some acts it is this
-abbrev pub Made : Broker → Broker → Type 0
-Made b c = (ds : List Act) × (c ≡ acts ds b)
+-- after some steps it is this
+abbrev pub Done : Broker → Broker → Type 0
+Done b c = (ds : List Step) × (c ≡ steps ds b)
 
-made_none : (b : Broker) → Made b b
-made_none b = ([], refl)
+done_none : (b : Broker) → Done b b
+done_none b = ([], refl)
 
-made_one : (a : Act) (b : Broker) → Made b (act a b)
-made_one a b = (a ∷ [], refl)
+done_one : (a : Act) → IsPlain a → (b : Broker) → Done b (act a b)
+done_one a h b = (Do a h ∷ [], refl)
 
-made_more : (b c d : Broker) → Made b c → Made c d → Made b d
-made_more b c d m k = (m.0 ++ k.0, k.1 ∙ ap (acts k.0) m.1 ∙ sym (acts_append m.0 k.0 b))
+done_more : (b c d : Broker) → Done b c → Done c d → Done b d
+done_more b c d m k = (m.0 ++ k.0, k.1 ∙ ap (steps k.0) m.1 ∙ sym (steps_append m.0 k.0 b))
 
-made_as : (b c d : Broker) → d ≡ c → Made b c → Made b d
-made_as b c d e m = (m.0, e ∙ m.1)
+done_as : (b c d : Broker) → d ≡ c → Done b c → Done b d
+done_as b c d e m = (m.0, e ∙ m.1)
 
-made_if : (v : Bool) (b x y : Broker) → Made b x → Made b y → Made b (if v then x else y)
-made_if true b x y m k = m
-made_if false b x y m k = k
+done_if : (v : Bool) (b x y : Broker) → Done b x → Done b y → Done b (if v then x else y)
+done_if true b x y m k = m
+done_if false b x y m k = k
 
 -- ---- connections
 
@@ -69,254 +72,257 @@ on_after d f g b = ap (λ (ls : List Connection). record b { connections = ls })
 on_none : (d : ℕ) (b : Broker) → on_connection d (λ (l : Connection). l) b ≡ b
 on_none d b = ap (λ (ls : List Connection). record b { connections = ls }) (set-get_or b.connections d closed)
 
-all_made : (ps : List Packet) (d : ℕ) (b : Broker) → Made b (on_connection d (written_all ps) b)
-all_made [] d b = ([], on_none d b)
-all_made (p ∷ ps) d b = made_as b _ _ (on_after d (written p) (written_all ps) b) (made_more b _ _ (made_one (Write d p) b) (all_made ps d (on_connection d (written p) b)))
+all_done : (ps : List Packet) (d : ℕ) (b : Broker) → Done b (on_connection d (written_all ps) b)
+all_done [] d b = ([], on_none d b)
+all_done (p ∷ ps) d b = done_as b _ _ (on_after d (written p) (written_all ps) b) (done_more b _ _ (done_one (Write d p) tt b) (all_done ps d (on_connection d (written p) b)))
 
-shut_made : (p : Packet) (d : ℕ) (b : Broker) → Made b (on_connection d (λ (l : Connection). shut (written p l)) b)
-shut_made p d b = made_as b _ _ (on_after d (written p) shut b) (Write d p ∷ Shut d ∷ [], refl)
+shut_done : (p : Packet) (d : ℕ) (b : Broker) → Done b (on_connection d (λ (l : Connection). shut (written p l)) b)
+shut_done p d b = done_as b _ _ (on_after d (written p) shut b) (Do (Write d p) tt ∷ Do (Shut d) tt ∷ [], refl)
 
 -- ---- ends
 
-forgets_made : (i : ℕ) (b : Broker) → Made b (forgets i b)
+ended_done : (i : ℕ) (ms : List (Option Member)) (b : Broker) → Done b (record b { sessions = sessions_without i b.groups (ends i b.sessions); members = ms; groups = groups_without i b.groups })
+ended_done i ms b = (Leaves i ∷ Do (Know ms) tt ∷ [], refl)
+
+forgets_done : (i : ℕ) (b : Broker) → Done b (forgets i b)
 unfolding forgets
-forgets_made i b = (Session (Ends i) ∷ Know (slice_set b.members i None) ∷ [], refl)
+forgets_done i b = ended_done i (slice_set b.members i None) b
 
-loses_made : (i : ℕ) (b : Broker) → Made b (loses_client i b)
+pub loses_done : (i : ℕ) (b : Broker) → Done b (loses_client i b)
 unfolding loses_client
-loses_made i b = made_if (stays_at i b.members) b _ _ (Session (Loses i) ∷ Know (on_member i (away b.moment) b.members) ∷ [], refl) (forgets_made i b)
+loses_done i b = done_if (stays_at i b.members) b _ _ (Do (Session (Loses i)) tt ∷ Do (Know (on_member i (away b.moment) b.members)) tt ∷ [], refl) (forgets_done i b)
 
-leaves_made : (i : ℕ) (b : Broker) → Made b (leaves_client i b)
+leaves_done : (i : ℕ) (b : Broker) → Done b (leaves_client i b)
 unfolding leaves_client
-leaves_made i b =
-    let left : Broker = act (Session (Leaves i)) b in
-    made_more b left _ (made_one (Session (Leaves i)) b) (made_if (stays_at i b.members) left _ _ (made_one (Know (on_member i (gone b.moment) b.members)) left) (forgets_made i left))
+leaves_done i b =
+    let left : Broker = act (Session (runs.Leaves i)) b in
+    done_more b left _ (done_one (Session (runs.Leaves i)) tt b) (done_if (stays_at i b.members) left _ _ (done_one (Know (on_member i (gone b.moment) b.members)) tt left) (forgets_done i left))
 
-refuses_made : (d i : ℕ) (reason : DisconnectReasonCode) (b : Broker) → Made b (refuses d i reason b)
+refuses_done : (d i : ℕ) (reason : DisconnectReasonCode) (b : Broker) → Done b (refuses d i reason b)
 unfolding refuses
-refuses_made d i reason b = made_more b (loses_client i b) _ (loses_made i b) (shut_made (disconnect reason) d (loses_client i b))
+refuses_done d i reason b = done_more b (loses_client i b) _ (loses_done i b) (shut_done (disconnect reason) d (loses_client i b))
 
-publishes_made : (i : ℕ) (b : Broker) → Made b (publishes_will i b)
+publishes_done : (i : ℕ) (b : Broker) → Done b (publishes_will i b)
 unfolding publishes_will
-publishes_made i b = (Session (IsDue i) ∷ Know (on_member i undue b.members) ∷ [], refl)
+publishes_done i b = (Do (Session (IsDue i)) tt ∷ Do (Know (on_member i undue b.members)) tt ∷ [], refl)
 
-dismisses_of_made : (o : Option ℕ) (d : ℕ) (reason : DisconnectReasonCode) (b : Broker) → Made b (dismisses_of o d reason b)
-dismisses_of_made None d reason b = made_one (Shut d) b
-dismisses_of_made (Some i) d reason b = refuses_made d i reason b
+dismisses_of_done : (o : Option ℕ) (d : ℕ) (reason : DisconnectReasonCode) (b : Broker) → Done b (dismisses_of o d reason b)
+dismisses_of_done None d reason b = done_one (Shut d) tt b
+dismisses_of_done (Some i) d reason b = refuses_done d i reason b
 
-dismisses_made : (d : ℕ) (reason : DisconnectReasonCode) (b : Broker) → Made b (dismisses d reason b)
+dismisses_done : (d : ℕ) (reason : DisconnectReasonCode) (b : Broker) → Done b (dismisses d reason b)
 unfolding dismisses
-dismisses_made d reason b = made_if (connection_at d b.connections).is_open b _ _ (dismisses_of_made (connection_at d b.connections).client d reason b) (made_none b)
+dismisses_done d reason b = done_if (connection_at d b.connections).is_open b _ _ (dismisses_of_done (connection_at d b.connections).client d reason b) (done_none b)
 
 -- ---- a client that is connected
 
-arrives_made : (d i : ℕ) (x : Packet) (b : Broker) → Made b (arrives_from d i x b)
+comes_session_done : (i : ℕ) (x : Packet) (b : Broker) → Done b (comes_to_session i x b)
+comes_session_done i x b = (Comes i x ∷ [], refl)
+
+arrives_done : (d i : ℕ) (x : Packet) (b : Broker) → Done b (arrives_from d i x b)
 unfolding arrives_from
-arrives_made d i x b = made_more b (act (Session (Arrives i x)) b) _ (made_one (Session (Arrives i x)) b) (all_made (replies i x b.sessions) d (act (Session (Arrives i x)) b))
+arrives_done d i x b = done_more b (comes_to_session i x b) _ (comes_session_done i x b) (all_done (replies i x (sessions_before x b.groups b.sessions)) d (comes_to_session i x b))
 
-denies_made : (user : Option ℕ) (d i : ℕ) (x : Packet) (b : Broker) → Made b (denies user d i x b)
+denies_done : (user : Option ℕ) (d i : ℕ) (x : Packet) (b : Broker) → Done b (denies user d i x b)
 unfolding denies
-denies_made user d i (packets.Publish p) b = all_made (option_to_list (denial p.qos p.pkid)) d b
-denies_made user d i (packets.Subscribe p) b = (Session (Arrives i (packets.Subscribe (part_of user b.rights p))) ∷ Write d (suback_for user b.rights p) ∷ [], refl)
-denies_made user d i other b = made_none b
+denies_done user d i (packets.Publish p) b = all_done (option_to_list (denial p.qos p.pkid)) d b
+denies_done user d i (packets.Subscribe p) b =
+    let x : Packet = packets.Subscribe (part_of user b.rights p) in
+    done_more b (comes_to_session i x b) _ (comes_session_done i x b) (done_one (Write d (suback_for user b.rights p)) tt (comes_to_session i x b))
+denies_done user d i other b = done_none b
 
-brings_made : (d i : ℕ) (x : Packet) (b : Broker) → Made b (brings d i x b)
+brings_done : (d i : ℕ) (x : Packet) (b : Broker) → Done b (brings d i x b)
 unfolding brings
-brings_made d i x b = made_if (may_do (owner_at i b.members) b.rights x) b _ _ (arrives_made d i x b) (denies_made (owner_at i b.members) d i x b)
+brings_done d i x b = done_if (may_do (owner_at i b.members) b.rights x) b _ _ (arrives_done d i x b) (denies_done (owner_at i b.members) d i x b)
 
-goes_made : (reason : DisconnectReasonCode) (i : ℕ) (b : Broker) → Made b (goes reason i b)
-goes_made reasons.NormalDisconnection i b = leaves_made i b
-goes_made other i b = loses_made i b
+goes_done : (reason : DisconnectReasonCode) (i : ℕ) (b : Broker) → Done b (goes reason i b)
+goes_done reasons.NormalDisconnection i b = leaves_done i b
+goes_done other i b = loses_done i b
 
-disconnects_made : (d i : ℕ) (reason : DisconnectReasonCode) (expiry : Option ℕ) (b : Broker) → Made b (disconnects d i reason expiry b)
+disconnects_done : (d i : ℕ) (reason : DisconnectReasonCode) (expiry : Option ℕ) (b : Broker) → Done b (disconnects d i reason expiry b)
 unfolding disconnects
-disconnects_made d i reason expiry b =
+disconnects_done d i reason expiry b =
     let known : Broker = act (Know (on_member i (expiring expiry) b.members)) b in
-    made_more b (goes reason i known) _ (made_more b known _ (made_one (Know (on_member i (expiring expiry) b.members)) b) (goes_made reason i known)) (made_one (Shut d) (goes reason i known))
+    done_more b (goes reason i known) _ (done_more b known _ (done_one (Know (on_member i (expiring expiry) b.members)) tt b) (goes_done reason i known)) (done_one (Shut d) tt (goes reason i known))
 
-as_made : (kind : Kind) (d i : ℕ) (x : Packet) (b : Broker) → Made b (serves_as kind d i x b)
-as_made kinds.Ping d i x b = made_one (Write d (packets.PingResp (record {}))) b
-as_made (kinds.Goodbye reason expiry) d i x b = disconnects_made d i reason expiry b
-as_made kinds.Message d i x b = brings_made d i x b
+as_done : (kind : Kind) (d i : ℕ) (x : Packet) (b : Broker) → Done b (serves_as kind d i x b)
+as_done kinds.Ping d i x b = done_one (Write d (packets.PingResp (record {}))) tt b
+as_done (kinds.Goodbye reason expiry) d i x b = disconnects_done d i reason expiry b
+as_done kinds.Message d i x b = brings_done d i x b
 
-by_made : (fault : Option DisconnectReasonCode) (d i : ℕ) (x : Packet) (b : Broker) → Made b (serves_by fault d i x b)
-by_made (Some reason) d i x b = refuses_made d i reason b
-by_made None d i x b = as_made (kind_of x) d i x b
+by_done : (fault : Option DisconnectReasonCode) (d i : ℕ) (x : Packet) (b : Broker) → Done b (serves_by fault d i x b)
+by_done (Some reason) d i x b = refuses_done d i reason b
+by_done None d i x b = as_done (kind_of x) d i x b
 
-serves_made : (d i : ℕ) (x : Packet) (b : Broker) → Made b (serves d i x b)
+serves_done : (d i : ℕ) (x : Packet) (b : Broker) → Done b (serves d i x b)
 unfolding serves
-serves_made d i x b = by_made (fault_of i x b) d i x b
+serves_done d i x b = by_done (fault_of i x b) d i x b
 
 -- ---- a Connect
 
-comes_made : (d i : ℕ) (present given : Bool) (q : Connect) (will : Option LastWill) (b : Broker) → Made b (comes_in d i present given q will b)
+comes_done : (d i : ℕ) (present given : Bool) (q : Connect) (will : Option LastWill) (b : Broker) → Done b (comes_in d i present given q will b)
 unfolding comes_in
-comes_made d i present given q will b =
-    let e : Act = Session (Comes i (Some (receive_max_of q.properties)) (option_map will_of will)) in
+comes_done d i present given q will b =
+    let e : Act = Session (runs.Comes i (Some (receive_max_of q.properties)) (option_map will_of will)) in
     let w : Act = Welcome d i (longest_of q.properties) (silence_of q) b.moment in
     let ps : List Packet = welcome i present given q b in
     let came : Broker = act e b in
     let here : Broker = act w came in
-    made_as b _ _ (on_after d (taken_by i (longest_of q.properties) (silence_of q) b.moment) (written_all ps) came) (made_more b here _ (e ∷ w ∷ [], refl) (all_made ps d here))
+    done_as b _ _ (on_after d (taken_by i (longest_of q.properties) (silence_of q) b.moment) (written_all ps) came) (done_more b here _ (Do e tt ∷ Do w tt ∷ [], refl) (all_done ps d here))
 
-displaced_made : (o : Option ℕ) (b : Broker) → Made b (displaced o b)
-displaced_made None b = made_none b
-displaced_made (Some d) b = shut_made (disconnect reasons.SessionTakenOver) d b
+displaced_done : (o : Option ℕ) (b : Broker) → Done b (displaced o b)
+displaced_done None b = done_none b
+displaced_done (Some d) b = shut_done (disconnect reasons.SessionTakenOver) d b
 
-displaces_made : (i : ℕ) (b : Broker) → Made b (displaces i b)
+displaces_done : (i : ℕ) (b : Broker) → Done b (displaces i b)
 unfolding displaces
-displaces_made i b = displaced_made (connection_of i b.connections) b
+displaces_done i b = displaced_done (connection_of i b.connections) b
 
-begins_by : (v : Bool) (i : ℕ) (ms : List (Option Member)) (b : Broker) → Made b (record b { sessions = if v then ends i b.sessions else b.sessions; members = ms })
-begins_by true i ms b = (Session (Ends i) ∷ Know ms ∷ [], refl)
-begins_by false i ms b = (Know ms ∷ [], refl)
+begins_by : (v : Bool) (i : ℕ) (ms : List (Option Member)) (b : Broker)
+    → Done b (record b { sessions = if v then sessions_without i b.groups (ends i b.sessions) else b.sessions; members = ms; groups = if v then groups_without i b.groups else b.groups })
+begins_by true i ms b = ended_done i ms b
+begins_by false i ms b = (Do (Know ms) tt ∷ [], refl)
 
-begins_made : (i : ℕ) (anew : Bool) (q : Connect) (will : Option LastWill) (b : Broker) → Made b (begins i anew q will b)
+begins_done : (i : ℕ) (anew : Bool) (q : Connect) (will : Option LastWill) (b : Broker) → Done b (begins i anew q will b)
 unfolding begins
-begins_made i anew q will b = begins_by anew i (slice_set b.members i (Some (member_of (owner_at i b.members) q will))) b
+begins_done i anew q will b = begins_by anew i (slice_set b.members i (Some (member_of (owner_at i b.members) q will))) b
 
-numbers_made : (m : Member) (o : Option ℕ) (b : Broker) → Made b (numbers m o b)
-numbers_made m None b = (Session (Joins b.limit) ∷ Know (b.members ++ Some m ∷ []) ∷ [], refl)
-numbers_made m (Some i) b = made_one (Know (slice_set b.members i (Some m))) b
+numbers_done : (m : Member) (o : Option ℕ) (b : Broker) → Done b (numbers m o b)
+numbers_done m None b = (Do (Session (Joins b.limit)) tt ∷ Do (Know (b.members ++ Some m ∷ [])) tt ∷ [], refl)
+numbers_done m (Some i) b = done_one (Know (slice_set b.members i (Some m))) tt b
 
-enters_made : (d : ℕ) (given : Bool) (q : Connect) (will : Option LastWill) (b : Broker) → Made b (enters d given q will b)
+enters_done : (d : ℕ) (given : Bool) (q : Connect) (will : Option LastWill) (b : Broker) → Done b (enters d given q will b)
 unfolding enters
-enters_made d given q will b =
+enters_done d given q will b =
     let known : Broker = numbers (member_of (user_at d b) q will) (free_number b.members) b in
-    made_more b known _ (numbers_made (member_of (user_at d b) q will) (free_number b.members) b) (comes_made d (number_in (free_number b.members) b) false given q will known)
+    done_more b known _ (numbers_done (member_of (user_at d b) q will) (free_number b.members) b) (comes_done d (number_in (free_number b.members) b) false given q will known)
 
-turns_made : (d : ℕ) (code : ConnectReturnCode) (b : Broker) → Made b (turns_away d code b)
-turns_made d code b = shut_made (refusal code) d b
+turns_done : (d : ℕ) (code : ConnectReturnCode) (b : Broker) → Done b (turns_away d code b)
+turns_done d code b = shut_done (refusal code) d b
 
-room_made : (d : ℕ) (given : Bool) (q : Connect) (will : Option LastWill) (b : Broker) → Made b (enters_if_room d given q will b)
-room_made d given q will b = made_if (has_room b) b _ _ (enters_made d given q will b) (turns_made d return_codes.QuotaExceeded b)
+room_done : (d : ℕ) (given : Bool) (q : Connect) (will : Option LastWill) (b : Broker) → Done b (enters_if_room d given q will b)
+room_done d given q will b = done_if (has_room b) b _ _ (enters_done d given q will b) (turns_done d return_codes.QuotaExceeded b)
 
-assigns_by_made : (o : Option ℕ) (d : ℕ) (q : Connect) (will : Option LastWill) (b : Broker) → Made b (assigns_by o d q will b)
-assigns_by_made (Some i) d q will b = turns_made d return_codes.ServerBusy b
-assigns_by_made None d q will b = room_made d true q will b
+assigns_by_done : (o : Option ℕ) (d : ℕ) (q : Connect) (will : Option LastWill) (b : Broker) → Done b (assigns_by o d q will b)
+assigns_by_done (Some i) d q will b = turns_done d return_codes.ServerBusy b
+assigns_by_done None d q will b = room_done d true q will b
 
-assigns_made : (d : ℕ) (q : Connect) (will : Option LastWill) (b : Broker) → Made b (assigns d q will b)
+assigns_done : (d : ℕ) (q : Connect) (will : Option LastWill) (b : Broker) → Done b (assigns d q will b)
 unfolding assigns
-assigns_made d q will b =
+assigns_done d q will b =
     let named : Broker = act (Name (number_after b.next_name)) b in
-    made_more b named _ (made_one (Name (number_after b.next_name)) b) (assigns_by_made (number_of (assigned_name b.next_name) b.members) d (record q { client_id = assigned_name b.next_name }) will named)
+    done_more b named _ (done_one (Name (number_after b.next_name)) tt b) (assigns_by_done (number_of (assigned_name b.next_name) b.members) d (record q { client_id = assigned_name b.next_name }) will named)
 
-returns_made : (d i : ℕ) (anew : Bool) (q : Connect) (will : Option LastWill) (b : Broker) → Made b (comes_in d i (not anew) false q will (begins i anew q will (displaces i b)))
-returns_made d i anew q will b =
-    made_more b (begins i anew q will (displaces i b)) _ (made_more b (displaces i b) _ (displaces_made i b) (begins_made i anew q will (displaces i b)))
-    (comes_made d i (not anew) false q will (begins i anew q will (displaces i b)))
+returns_done : (d i : ℕ) (anew : Bool) (q : Connect) (will : Option LastWill) (b : Broker) → Done b (comes_in d i (not anew) false q will (begins i anew q will (displaces i b)))
+returns_done d i anew q will b =
+    done_more b (begins i anew q will (displaces i b)) _ (done_more b (displaces i b) _ (displaces_done i b) (begins_done i anew q will (displaces i b)))
+    (comes_done d i (not anew) false q will (begins i anew q will (displaces i b)))
 
-admits_as_made : (o : Option ℕ) (d : ℕ) (q : Connect) (will : Option LastWill) (b : Broker) → Made b (admits_as o d q will b)
-admits_as_made (Some i) d q will b = made_if (is_its d i b) b _ _ (returns_made d i (starts_anew i q b) q will b) (turns_made d return_codes.ClientIdentifierNotValid b)
-admits_as_made None d q will b = room_made d false q will b
+admits_as_done : (o : Option ℕ) (d : ℕ) (q : Connect) (will : Option LastWill) (b : Broker) → Done b (admits_as o d q will b)
+admits_as_done (Some i) d q will b = done_if (is_its d i b) b _ _ (returns_done d i (starts_anew i q b) q will b) (turns_done d return_codes.ClientIdentifierNotValid b)
+admits_as_done None d q will b = room_done d false q will b
 
-admits_made : (d : ℕ) (q : Connect) (will : Option LastWill) (b : Broker) → Made b (admits d q will b)
+admits_done : (d : ℕ) (q : Connect) (will : Option LastWill) (b : Broker) → Done b (admits d q will b)
 unfolding admits
-admits_made d q will b = made_if (length q.client_id.bytes == 0) b _ _ (assigns_made d q will b) (admits_as_made (number_of q.client_id b.members) d q will b)
+admits_done d q will b = done_if (length q.client_id.bytes == 0) b _ _ (assigns_done d q will b) (admits_as_done (number_of q.client_id b.members) d q will b)
 
-connects_by_made : (o : Option ConnectReturnCode) (d : ℕ) (q : Connect) (will : Option LastWill) (b : Broker) → Made b (connects_by o d q will b)
-connects_by_made (Some code) d q will b = turns_made d code b
-connects_by_made None d q will b = admits_made d q will b
+connects_by_done : (o : Option ConnectReturnCode) (d : ℕ) (q : Connect) (will : Option LastWill) (b : Broker) → Done b (connects_by o d q will b)
+connects_by_done (Some code) d q will b = turns_done d code b
+connects_by_done None d q will b = admits_done d q will b
 
-connects_made : (d : ℕ) (q : Connect) (will : Option LastWill) (b : Broker) → Made b (connects d q will b)
+connects_done : (d : ℕ) (q : Connect) (will : Option LastWill) (b : Broker) → Done b (connects d q will b)
 unfolding connects
-connects_made d q will b = connects_by_made (entry_fault d q will b) d q will b
+connects_done d q will b = connects_by_done (entry_fault d q will b) d q will b
 
 -- ---- any packet, and bytes
 
-begins_with_made : (d : ℕ) (x : Packet) (b : Broker) → Made b (begins_with d x b)
-begins_with_made d (packets.Connect q will login) b = connects_made d q will b
-begins_with_made d other b = made_one (Shut d) b
+begins_with_done : (d : ℕ) (x : Packet) (b : Broker) → Done b (begins_with d x b)
+begins_with_done d (packets.Connect q will login) b = connects_done d q will b
+begins_with_done d other b = done_one (Shut d) tt b
 
-of_made : (o : Option ℕ) (d : ℕ) (x : Packet) (b : Broker) → Made b (takes_of o d x b)
-of_made None d x b = begins_with_made d x b
-of_made (Some i) d x b = serves_made d i x b
+of_done : (o : Option ℕ) (d : ℕ) (x : Packet) (b : Broker) → Done b (takes_of o d x b)
+of_done None d x b = begins_with_done d x b
+of_done (Some i) d x b = serves_done d i x b
 
-takes_made : (d : ℕ) (x : Packet) (b : Broker) → Made b (takes d x b)
+takes_done : (d : ℕ) (x : Packet) (b : Broker) → Done b (takes d x b)
 unfolding takes
-takes_made d x b =
+takes_done d x b =
     let known : Broker = act (Hear d b.moment) b in
-    made_if (connection_at d b.connections).is_open b _ _ (made_more b known _ (made_one (Hear d b.moment) b) (of_made (connection_at d b.connections).client d x known)) (made_none b)
+    done_if (connection_at d b.connections).is_open b _ _ (done_more b known _ (done_one (Hear d b.moment) tt b) (of_done (connection_at d b.connections).client d x known)) (done_none b)
 
-takes_all_made : (d : ℕ) (xs : List Packet) (b : Broker) → Made b (takes_all d xs b)
-takes_all_made d [] b = made_none b
-takes_all_made d (x ∷ xs) b = made_more b (takes d x b) _ (takes_made d x b) (takes_all_made d xs (takes d x b))
+takes_all_done : (d : ℕ) (xs : List Packet) (b : Broker) → Done b (takes_all d xs b)
+takes_all_done d [] b = done_none b
+takes_all_done d (x ∷ xs) b = done_more b (takes d x b) _ (takes_done d x b) (takes_all_done d xs (takes d x b))
 
-ends_made : (d : ℕ) (ending : Ending) (b : Broker) → Made b (ends_with d ending b)
-ends_made d (Holds held) b = made_one (Hold d held) b
-ends_made d (Breaks e) b = dismisses_made d (reason_for e) b
+ends_done : (d : ℕ) (ending : Ending) (b : Broker) → Done b (ends_with d ending b)
+ends_done d (Holds held) b = done_one (Hold d held) tt b
+ends_done d (Breaks e) b = dismisses_done d (reason_for e) b
 
-comes_of_made : (d : ℕ) (r : Cut) (b : Broker) → Made b (comes_of d r b)
-comes_of_made d r b = made_more b (takes_all d r.packets b) _ (takes_all_made d r.packets b) (ends_made d r.ending (takes_all d r.packets b))
+comes_of_done : (d : ℕ) (r : Cut) (b : Broker) → Done b (comes_of d r b)
+comes_of_done d r b = done_more b (takes_all d r.packets b) _ (takes_all_done d r.packets b) (ends_done d r.ending (takes_all d r.packets b))
 
-moment_made : (at : ℕ) (b : Broker) → Made b (at_moment at b)
-moment_made at b = made_one (Moment (max at b.moment)) b
+moment_done : (at : ℕ) (b : Broker) → Done b (at_moment at b)
+moment_done at b = done_one (Moment (max at b.moment)) tt b
 
-now_made : (d : ℕ) (bytes : List ℕ) (b : Broker) → Made b (receives_now d bytes b)
+now_done : (d : ℕ) (bytes : List ℕ) (b : Broker) → Done b (receives_now d bytes b)
 unfolding receives_now
-now_made d bytes b =
-    made_if (connection_at d b.connections).is_open b _ _
-    (made_more b (on_connection d emptied b) _ (made_one (Empty d) b) (comes_of_made d (cut_up (Some b.longest) ((connection_at d b.connections).held ++ bytes) []) (on_connection d emptied b)))
-    (made_none b)
+now_done d bytes b =
+    done_if (connection_at d b.connections).is_open b _ _
+    (done_more b (on_connection d emptied b) _ (done_one (Empty d) tt b) (comes_of_done d (cut_up (Some b.longest) ((connection_at d b.connections).held ++ bytes) []) (on_connection d emptied b)))
+    (done_none b)
 
-pub receives_made : (at d : ℕ) (bytes : List ℕ) (b : Broker) → Made b (receives at d bytes b)
-receives_made at d bytes b = made_more b (at_moment at b) _ (moment_made at b) (now_made d bytes (at_moment at b))
+pub receives_done : (at d : ℕ) (bytes : List ℕ) (b : Broker) → Done b (receives at d bytes b)
+receives_done at d bytes b = done_more b (at_moment at b) _ (moment_done at b) (now_done d bytes (at_moment at b))
 
-passes_of_made : (o : Option ℕ) (d : ℕ) (b : Broker) → Made b (passes_of o d b)
-passes_of_made None d b = made_none b
-passes_of_made (Some i) d b = made_more b (act (Session (Passes i)) b) _ (made_one (Session (Passes i)) b) (all_made (passed i b.sessions) d (act (Session (Passes i)) b))
+passes_of_done : (o : Option ℕ) (d : ℕ) (b : Broker) → Done b (passes_of o d b)
+passes_of_done None d b = done_none b
+passes_of_done (Some i) d b = done_more b (act (Session (Passes i)) b) _ (done_one (Session (Passes i)) tt b) (all_done (passed i b.sessions) d (act (Session (Passes i)) b))
 
-pub passes_made : (d : ℕ) (b : Broker) → Made b (passes_on d b)
+pub passes_done : (d : ℕ) (b : Broker) → Done b (passes_on d b)
 unfolding passes_on
-passes_made d b = passes_of_made (connection_at d b.connections).client d b
+passes_done d b = passes_of_done (connection_at d b.connections).client d b
 
 -- ---- what is due
 
-each_made : (n : ℕ) (f : ℕ → Broker → Broker) → ((i : ℕ) (b : Broker) → Made b (f i b)) → (b : Broker) → Made b (for_each n f b)
-each_made zero f h b = made_none b
-each_made (suc n) f h b = made_more b (for_each n f b) _ (each_made n f h b) (h n (for_each n f b))
+each_done : (n : ℕ) (f : ℕ → Broker → Broker) → ((i : ℕ) (b : Broker) → Done b (f i b)) → (b : Broker) → Done b (for_each n f b)
+each_done zero f h b = done_none b
+each_done (suc n) f h b = done_more b (for_each n f b) _ (each_done n f h b) (h n (for_each n f b))
 
-silences_made : (d : ℕ) (b : Broker) → Made b (silences d b)
+silences_done : (d : ℕ) (b : Broker) → Done b (silences d b)
 unfolding silences
-silences_made d b = made_if (has_come (connection_at d b.connections).deadline b.moment) b _ _ (dismisses_made d reasons.KeepAliveTimeout b) (made_none b)
+silences_done d b = done_if (has_come (connection_at d b.connections).deadline b.moment) b _ _ (dismisses_done d reasons.KeepAliveTimeout b) (done_none b)
 
-expires_made : (i : ℕ) (b : Broker) → Made b (expires i b)
+expires_done : (i : ℕ) (b : Broker) → Done b (expires i b)
 unfolding expires
-expires_made i b =
-    made_if (has_ended b.moment (member_at i b.members)) b _ _ (forgets_made i b)
-    (made_if (will_is_due b.moment (member_at i b.members)) b _ _ (publishes_made i b) (made_none b))
+expires_done i b =
+    done_if (has_ended b.moment (member_at i b.members)) b _ _ (forgets_done i b)
+    (done_if (will_is_due b.moment (member_at i b.members)) b _ _ (publishes_done i b) (done_none b))
 
-pub ticks_made : (at : ℕ) (b : Broker) → Made b (ticks at b)
-ticks_made at b =
+pub ticks_done : (at : ℕ) (b : Broker) → Done b (ticks at b)
+ticks_done at b =
     let now : Broker = at_moment at b in
     let heard_all : Broker = silences_all now in
-    made_more b heard_all _ (made_more b now _ (moment_made at b) (each_made (length now.connections) silences silences_made now)) (each_made (length heard_all.members) expires expires_made heard_all)
+    done_more b heard_all _ (done_more b now _ (moment_done at b) (each_done (length now.connections) silences silences_done now)) (each_done (length heard_all.members) expires expires_done heard_all)
 
-ends_now_made : (d : ℕ) (b : Broker) → Made b (ends_now d b)
+ends_now_done : (d : ℕ) (b : Broker) → Done b (ends_now d b)
 unfolding ends_now
-ends_now_made d b = dismisses_made d reasons.ServerShuttingDown b
+ends_now_done d b = dismisses_done d reasons.ServerShuttingDown b
 
-pub shuts_down_made : (at : ℕ) (b : Broker) → Made b (shuts_down at b)
-shuts_down_made at b = made_more b (at_moment at b) _ (moment_made at b) (each_made (length b.connections) ends_now ends_now_made (at_moment at b))
+pub shuts_down_done : (at : ℕ) (b : Broker) → Done b (shuts_down at b)
+shuts_down_done at b = done_more b (at_moment at b) _ (moment_done at b) (each_done (length b.connections) ends_now ends_now_done (at_moment at b))
 
 -- ---- queues that are too long
 
-ends_of_made : (o : Option ℕ) (b : Broker) → Made b (ends_of o b)
-ends_of_made None b = made_none b
-ends_of_made (Some d) b = shut_made (disconnect reasons.QuotaExceeded) d b
+ends_of_done : (o : Option ℕ) (b : Broker) → Done b (ends_of o b)
+ends_of_done None b = done_none b
+ends_of_done (Some d) b = shut_done (disconnect reasons.QuotaExceeded) d b
 
-trims_made : (i : ℕ) (b : Broker) → Made b (trims i b)
+trims_done : (i : ℕ) (b : Broker) → Done b (trims i b)
 unfolding trims
-trims_made i b =
-    made_if (exceeds (counts i b.sessions) b.bounds) b _ _
-    (made_more b (forgets i b) _ (forgets_made i b) (ends_of_made (connection_of i b.connections) (forgets i b)))
-    (made_none b)
+trims_done i b =
+    done_if (exceeds (counts i b.sessions) b.bounds) b _ _
+    (done_more b (forgets i b) _ (forgets_done i b) (ends_of_done (connection_of i b.connections) (forgets i b)))
+    (done_none b)
 
-pub trims_all_made : (b : Broker) → Made b (trims_all b)
-trims_all_made b = each_made (length b.members) trims trims_made b
-
--- ---- what acts do to the sessions
-
-pub events_append : (es fs : List SessionEvent) (s : Sessions) → after_events (es ++ fs) s ≡ after_events fs (after_events es s)
-events_append [] fs s = refl
-events_append (e ∷ es) fs s = events_append es fs (after_event e s)
+pub trims_all_done : (b : Broker) → Done b (trims_all b)
+trims_all_done b = each_done (length b.members) trims trims_done b

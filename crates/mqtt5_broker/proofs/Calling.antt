@@ -9,15 +9,17 @@ use Rattle.mqtt5_broker.specs.Asking.{is_new}
 use Rattle.mqtt5_broker.specs.Acts.{events_in}
 use Rattle.mqtt5_broker.specs.Standing.{IsStanding}
 use Rattle.mqtt5_broker.specs.Calls.{Call, Open, Hold, Identify, Reject, Receive, Sent, Pass, Close, Tick, SetBounds, Trim, ShutDown, AddUser, AllowPublish, AllowSubscribe, after_call, after_calls}
-use Rattle.mqtt5_broker.proofs.Acting.{events_append, Made, receives_made, passes_made, ticks_made, trims_all_made, shuts_down_made}
+use Rattle.mqtt5_broker.proofs.Turned.{events_append}
+use Rattle.mqtt5_broker.proofs.Acting.{Done, receives_done, passes_done, ticks_done, trims_all_done, shuts_down_done}
+use Rattle.mqtt5_broker.proofs.Made.{Made, done_made}
 use Rattle.mqtt5_broker.proofs.Sending.{Lost, lost_if, all_events, closes_lost}
 use Rattle.mqtt5_broker.proofs.Asked.{holds_standing, identifies_standing, rejects_standing}
 use Rattle.mqtt5_broker.proofs.Standing.{opens_standing, receives_standing, passes_standing, sent_standing, closes_standing, ticks_standing, trims_all_standing, shuts_down_standing}
 
 -- ---- the sessions
 
-of_acts : (b c : Broker) → Made b c → Lost b c
-of_acts b c m = (events_in m.0, ap (λ (d : Broker). d.sessions) m.1 ∙ all_events m.0 b)
+of_acts : (b c : Broker) → Done b c → Lost b c
+of_acts b c d = let m : Made b c = done_made b c d in (events_in m.0, ap (λ (x : Broker). x.sessions) m.1 ∙ all_events m.0 b)
 
 opens_lost : (at c : ℕ) (b : Broker) → Lost b (opens at c b)
 opens_lost at c b =
@@ -29,14 +31,14 @@ one_call (Open at c) b = opens_lost at c b
 one_call (Hold c bytes) b = ([], refl)
 one_call (Identify c u) b = lost_if (is_new (connection_at c b.connections)) b (on_connection c (of_user u) b) b ([], refl) ([], refl)
 one_call (Reject c code) b = lost_if (is_new (connection_at c b.connections)) b (turns_away c code b) b ([], refl) ([], refl)
-one_call (Receive at c bytes) b = of_acts b (after_call (Receive at c bytes) b) (receives_made at c bytes b)
+one_call (Receive at c bytes) b = of_acts b (after_call (Receive at c bytes) b) (receives_done at c bytes b)
 one_call (Sent c count) b = ([], refl)
-one_call (Pass c) b = of_acts b (after_call (Pass c) b) (passes_made c b)
+one_call (Pass c) b = of_acts b (after_call (Pass c) b) (passes_done c b)
 one_call (Close at c) b = closes_lost at c b
-one_call (Tick at) b = of_acts b (after_call (Tick at) b) (ticks_made at b)
+one_call (Tick at) b = of_acts b (after_call (Tick at) b) (ticks_done at b)
 one_call (SetBounds bounds) b = ([], refl)
-one_call Trim b = of_acts b (after_call Trim b) (trims_all_made b)
-one_call (ShutDown at) b = of_acts b (after_call (ShutDown at) b) (shuts_down_made at b)
+one_call Trim b = of_acts b (after_call Trim b) (trims_all_done b)
+one_call (ShutDown at) b = of_acts b (after_call (ShutDown at) b) (shuts_down_done at b)
 one_call AddUser b = ([], refl)
 one_call (AllowPublish u f) b = ([], refl)
 one_call (AllowSubscribe u f) b = ([], refl)

@@ -18,6 +18,7 @@ use Rattle.mqtt5_broker.specs.declared.serving.Kind.TheVariants as kinds
 use Rattle.mqtt5_broker.specs.Connection.{Connection, closed, shut, told, heard, taken_by, with_bytes, written, written_all, connection_at, connection_of}
 use Rattle.mqtt5_broker.specs.Broker.{Broker, on_connection, on_member, expiring, forgets, loses_client, leaves_client, stays_at, refuses, dismisses, dismisses_of, numbers, number_in, free_number, number_of, assigned_name, number_after, user_at, owner_at}
 use Rattle.mqtt5_broker.specs.Rights.{may_do, denial, suback_for}
+use Rattle.mqtt5_broker.specs.Groups.{sessions_before}
 use Rattle.mqtt5_broker.specs.Bounds.{has_room}
 use Rattle.mqtt5_broker.specs.Serving.{kind_of, arrives_from, denies, brings, goes, disconnects, serves_as, serves_by, fault_of, serves, refusal, longest_of, silence_of, member_of, welcome, comes_in, displaced, displaces, starts_anew, begins, enters, turns_away, enters_if_room, assigns_by, assigns, is_its, admits_as, admits, entry_fault, connects_by, connects, begins_with, takes_of, takes}
 use Rattle.mqtt5_broker.specs.Receiving.{takes_all}
@@ -93,7 +94,7 @@ module _ (c n at : ℕ) where
 
   arrives_keeps : (d i : ℕ) (x : Packet) (b : Broker) → Keeps c n at b → Keeps c n at (arrives_from d i x b)
   unfolding arrives_from
-  arrives_keeps d i x b k = on_keeps d (written_all (replies i x b.sessions)) _ (λ l h. all_held (replies i x b.sessions) l ∙ h) (record { held = k.held; longest = k.longest; moment = k.moment })
+  arrives_keeps d i x b k = on_keeps d (written_all (replies i x (sessions_before x b.groups b.sessions))) _ (λ l h. all_held (replies i x (sessions_before x b.groups b.sessions)) l ∙ h) (record { held = k.held; longest = k.longest; moment = k.moment })
 
   denies_keeps : (user : Option ℕ) (d i : ℕ) (x : Packet) (b : Broker) → Keeps c n at b → Keeps c n at (denies user d i x b)
   unfolding denies

@@ -3,7 +3,12 @@ pub mod Written
 pub mod Taking
 pub mod Keeping
 pub mod Pieces
+pub mod Clients
+pub mod Turned
+pub mod Grouping
+pub mod Steps
 pub mod Acting
+pub mod Made
 pub mod Sending
 pub mod Passed
 pub mod Names
@@ -13,3 +18,4 @@ pub mod Asked
 pub mod Calling
 pub mod Within
 pub mod Permitted
+pub mod Sharing

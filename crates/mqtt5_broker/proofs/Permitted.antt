@@ -1,6 +1,6 @@
 -- What any calls make of the subscriptions of users, and what is forwarded under these.
 use Rattle.std.proofs.Common.{◌≡◌, ℕ, zero, suc, Bool, true, false, List, [], ◌∷◌, ◌++◌, Option, Some, None, refl, sym, subst, ap, ◌∙◌, get_or, set, if◌then◌else◌, not, length, ◌==◌, ◌&&◌, ◌||◌, ◌⊎◌, inl, inr}
-use Rattle.std.specs.Prelude.{option_map, ⊤}
+use Rattle.std.specs.Prelude.{is_none, option_map, ⊤}
 use Rattle.std.specs.List.{All, list_all, filter_map, cons_option}
 use Rattle.std.specs.Str.{is_utf8}
 use Rattle.std.proofs.lemmas.Bool.{and_parts}
@@ -20,12 +20,12 @@ use Rattle.mqtt5_control.specs.declared.connack.ConnectReturnCode.{ConnectReturn
 use Rattle.mqtt5_control.specs.declared.connack.ConnectReturnCode.TheVariants as return_codes
 use Rattle.mqtt5_control.specs.declared.disconnect.DisconnectReasonCode.{DisconnectReasonCode}
 use Rattle.mqtt5_network.specs.declared.subscription.Subscription.{Subscription}
-use Rattle.mqtt5_network.specs.Subscriptions.{subscribed, holds_for, granted_for, forwarded_to}
-use Rattle.mqtt5_network.specs.Asking.{subscription_of}
-use Rattle.mqtt5_network.specs.Retained.{copy_for, gets_copies, copies_of, copies_all, copies_for}
+use Rattle.mqtt5_network.specs.Subscriptions.{subscribed, has_turn, pattern_of, holds_for, granted_for, holding, forwarded_under, forwarded_to}
+use Rattle.mqtt5_network.specs.Asking.{identifier_of, share_of, subscription_of}
+use Rattle.mqtt5_network.specs.Retained.{copied_under, copy_for, gets_copies, copies_of, copies_all, copies_for}
 use Rattle.mqtt5_progress.specs.Subscribers.{hits}
-use Rattle.mqtt5_network.specs.Forwarded.{greater, forwarded}
-use Rattle.mqtt5_broker.specs.Rights.{Rights, no_rights, publishing, subscribing, rights_at, is_within, may_publish, may_subscribe, may_do, part_of, will_denial}
+use Rattle.mqtt5_network.specs.Forwarded.{greater}
+use Rattle.mqtt5_broker.specs.Rights.{Rights, no_rights, publishing, subscribing, rights_at, is_within, asked_pattern, may_publish, may_subscribe, may_do, part_of, will_denial}
 use Rattle.mqtt5_broker.specs.Connection.{Connection, of_user, shut, written, with_sent, connection_at}
 use Rattle.mqtt5_broker.specs.Broker.{Broker, on_connection, knows_user, lets, number_of, user_at, owner_at, is_same, refuses}
 use Rattle.mqtt5_broker.specs.Asking.{kept_on, is_new}
@@ -43,7 +43,7 @@ pub new_within : (b : Broker) → b.sessions.clients ≡ [] → b.members ≡ []
 new_within b e h = record {
   numbers = ap length e ∙ sym (ap length h);
   none = λ j q. ap (subscriptions_in j) e;
-  within = λ j u q. subst (AreWithin (rights_at u b.rights).subscribes) (sym (ap (subscriptions_in j) e)) (All-nil (λ (s : Subscription). is_within s.topic_filter.bytes (rights_at u b.rights).subscribes ≡ true));
+  within = λ j u q. subst (AreWithin (rights_at u b.rights).subscribes) (sym (ap (subscriptions_in j) e)) (All-nil (λ (s : Subscription). is_within (pattern_of s).bytes (rights_at u b.rights).subscribes ≡ true));
 }
 
 -- ---- rights
@@ -89,7 +89,7 @@ lets_within u f b h w = record {
     by j v e (inl q) = subst (λ (r : Rights). AreWithin r.subscribes (subscriptions_at j b.sessions)) (sym q) (w.within j v e)
     by j v e (inr q) =
         let was : AreWithin (rights_at u b.rights).subscribes (subscriptions_at j b.sessions) = w.within j u (subst (λ (n : ℕ). owner_at j b.members ≡ Some n) q.0 e) in
-        let more : AreWithin (f (rights_at u b.rights)).subscribes (subscriptions_at j b.sessions) = λ k d lt. h (rights_at u b.rights) (get_or (subscriptions_at j b.sessions) k d).topic_filter.bytes (was k d lt) in
+        let more : AreWithin (f (rights_at u b.rights)).subscribes (subscriptions_at j b.sessions) = λ k d lt. h (rights_at u b.rights) (pattern_of (get_or (subscriptions_at j b.sessions) k d)).bytes (was k d lt) in
         subst (λ (r : Rights). AreWithin r.subscribes (subscriptions_at j b.sessions)) (sym q.1) more
 
 knows_within : (b : Broker) → IsWithin b → IsWithin (knows_user b)
@@ -157,17 +157,18 @@ module _ (matching : IsMatching) where
   granted_within : (fs : List Utf8) (own : Bool) (ss : List Subscription) (p : Publish) (q : QoS) → AreWithin fs ss → granted_for own ss p ≡ Some q → is_within p.topic fs ≡ true
   granted_within fs own [] p q w e = absurd (none-some q e)
   granted_within fs own (s ∷ ss) p q w e =
-      by (granted_within fs own ss p q (All-tail (λ (x : Subscription). is_within x.topic_filter.bytes fs ≡ true) s ss w)) (holds_for own s p) refl e
+      by (granted_within fs own ss p q (All-tail (λ (x : Subscription). is_within (pattern_of x).bytes fs ≡ true) s ss w)) (holds_for own s p) refl e
     where
       here : holds_for own s p ≡ true → is_within p.topic fs ≡ true
       here h =
-          hit_within fs s.topic_filter p (All-head (λ (x : Subscription). is_within x.topic_filter.bytes fs ≡ true) s ss w) (and_parts (not (own && s.no_local)) (hits (s.topic_filter ∷ []) p) h).1
+          let rest = (and_parts (has_turn s.share) (not (own && s.no_local) && hits (pattern_of s ∷ []) p) h).1 in
+          hit_within fs (pattern_of s) p (All-head (λ (x : Subscription). is_within (pattern_of x).bytes fs ≡ true) s ss w) (and_parts (not (own && s.no_local)) (hits (pattern_of s ∷ []) p) rest).1
 
       by : (granted_for own ss p ≡ Some q → is_within p.topic fs ≡ true) → (v : Bool) → holds_for own s p ≡ v → (if v then Some (greater s.granted (granted_for own ss p)) else granted_for own ss p) ≡ Some q → is_within p.topic fs ≡ true
       by rest true h r = here h
       by rest false h r = rest r
 
-  forwarded_by : (fs : List Utf8) (own : Bool) (ss : List Subscription) (p q : Publish) → AreWithin fs ss → (o : Option QoS) → granted_for own ss p ≡ o → option_map (λ (k : QoS). forwarded k p) o ≡ Some q → is_within q.topic fs ≡ true
+  forwarded_by : (fs : List Utf8) (own : Bool) (ss : List Subscription) (p q : Publish) → AreWithin fs ss → (o : Option QoS) → granted_for own ss p ≡ o → option_map (λ (k : QoS). forwarded_under (holding own ss p) k p) o ≡ Some q → is_within q.topic fs ≡ true
   forwarded_by fs own ss p q w None h e = absurd (none-some q e)
   forwarded_by fs own ss p q w (Some k) h e = subst (TopicOf fs) e (granted_within fs own ss p k w h)
 
@@ -180,29 +181,30 @@ module _ (matching : IsMatching) where
   put_within fs None ps h k = k
   put_within fs (Some p) ps h k = All-cons (Topic fs) p ps h k
 
-  copy_within : (fs : List Utf8) (s : Subscription) (p : Publish) → is_within s.topic_filter.bytes fs ≡ true → (v : Bool) → hits (s.topic_filter ∷ []) p ≡ v
-      → TopicOf fs (if v then Some (record (forwarded s.granted p) { retain = true }) else None)
-  copy_within fs s p w true h = hit_within fs s.topic_filter p w h
+  copy_within : (fs : List Utf8) (s : Subscription) (p : Publish) → is_within (pattern_of s).bytes fs ≡ true → (v : Bool) → hits (pattern_of s ∷ []) p ≡ v
+      → TopicOf fs (if v then Some (copied_under s p) else None)
+  copy_within fs s p w true h = hit_within fs (pattern_of s) p w h
   copy_within fs s p w false h = tt
 
-  copied_within : (fs : List Utf8) (s : Subscription) (kept : List Publish) → is_within s.topic_filter.bytes fs ≡ true → All (Topic fs) (filter_map (copy_for s) kept)
+  copied_within : (fs : List Utf8) (s : Subscription) (kept : List Publish) → is_within (pattern_of s).bytes fs ≡ true → All (Topic fs) (filter_map (copy_for s) kept)
   copied_within fs s [] w = All-nil (Topic fs)
-  copied_within fs s (p ∷ ps) w = put_within fs (copy_for s p) (filter_map (copy_for s) ps) (copy_within fs s p w (hits (s.topic_filter ∷ []) p) refl) (copied_within fs s ps w)
+  copied_within fs s (p ∷ ps) w = put_within fs (copy_for s p) (filter_map (copy_for s) ps) (copy_within fs s p w (hits (pattern_of s ∷ []) p) refl) (copied_within fs s ps w)
 
-  some_within : (v : Bool) (fs : List Utf8) (s : Subscription) (kept : List Publish) → is_within s.topic_filter.bytes fs ≡ true → All (Topic fs) (if v then filter_map (copy_for s) kept else [])
+  some_within : (v : Bool) (fs : List Utf8) (s : Subscription) (kept : List Publish) → is_within (pattern_of s).bytes fs ≡ true → All (Topic fs) (if v then filter_map (copy_for s) kept else [])
   some_within true fs s kept w = copied_within fs s kept w
   some_within false fs s kept w = All-nil (Topic fs)
 
-  all_copies_within : (fs : List Utf8) (kept : List Publish) (gs : List Filter) (ss : List Subscription) → list_all (λ (g : Filter). is_within g.path.bytes fs) gs ≡ true → All (Topic fs) (copies_all kept gs ss)
-  all_copies_within fs kept [] ss h = All-nil (Topic fs)
-  all_copies_within fs kept (g ∷ gs) ss h =
-      let parts = and_parts (is_within g.path.bytes fs) (list_all (λ (f : Filter). is_within f.path.bytes fs) gs) h in
-      All-append (Topic fs) (copies_of kept ss g) (copies_all kept gs (subscribed (subscription_of g) ss))
-      (some_within (gets_copies g.retain_forward_rule g.path ss) fs (subscription_of g) kept parts.0)
-      (all_copies_within fs kept gs (subscribed (subscription_of g) ss) parts.1)
+  all_copies_within : (fs : List Utf8) (kept : List Publish) (n : Option ℕ) (gs : List Filter) (ss : List Subscription) → list_all (λ (g : Filter). is_within (asked_pattern g).bytes fs) gs ≡ true → All (Topic fs) (copies_all kept n gs ss)
+  all_copies_within fs kept n [] ss h = All-nil (Topic fs)
+  all_copies_within fs kept n (g ∷ gs) ss h =
+      let parts = and_parts (is_within (asked_pattern g).bytes fs) (list_all (λ (f : Filter). is_within (asked_pattern f).bytes fs) gs) h in
+      let next = subscribed (subscription_of n g) ss in
+      All-append (Topic fs) (copies_of kept n ss g) (copies_all kept n gs next)
+      (some_within (is_none (share_of g.path) && gets_copies g.retain_forward_rule g.path ss) fs (subscription_of n g) kept parts.0)
+      (all_copies_within fs kept n gs next parts.1)
 
   pub copies_within : (u : ℕ) (rs : List Rights) (kept : List Publish) (ss : List Subscription) (x : Packet) → may_do (Some u) rs x ≡ true → All (Topic (rights_at u rs).subscribes) (copies_for kept ss x)
-  copies_within u rs kept ss (packets.Subscribe p) h = all_copies_within (rights_at u rs).subscribes kept p.filters ss h
+  copies_within u rs kept ss (packets.Subscribe p) h = all_copies_within (rights_at u rs).subscribes kept (identifier_of p.properties) p.filters ss h
   copies_within u rs kept ss other h = All-nil (Topic (rights_at u rs).subscribes)
 
 -- ---- what isn't allowed

@@ -5,19 +5,21 @@ use Rattle.mqtt5_base.specs.declared.error.Error.{Error}
 use Rattle.mqtt5_base.specs.declared.error.Error.TheVariants.{OutgoingPacketTooLarge}
 use Rattle.mqtt5_codec.specs.declared.packet.Packet.{Packet}
 use Rattle.mqtt5_codec.specs.Packets.{packet_writing, packet_len, writing_under}
+use Rattle.mqtt5_sessions.specs.Sessions.{ends}
 use Rattle.mqtt5_sessions.specs.Runs.{SessionEvent, Loses, Ends, after_events}
 use Rattle.mqtt5_broker.specs.Connection.{Connection, shut, heard, taken_by, emptied, holding, with_bytes, written, connection_at}
 use Rattle.mqtt5_broker.specs.Broker.{Broker, at_moment, loses_client, forgets, stays_at, on_connection}
 use Rattle.mqtt5_broker.specs.Receiving.{closes_of, closes_now, closes}
-use Rattle.mqtt5_broker.specs.Acts.{Act, Session, Know, Name, Moment, Hear, Write, Shut, Welcome, Hold, Empty, act, acts, event_in, events_in, AreFrames, output_at, Sends}
+use Rattle.mqtt5_broker.specs.Acts.{Act, Session, Know, Regroup, Name, Moment, Hear, Write, Shut, Welcome, Hold, Empty, act, acts, event_in, events_in, AreFrames, output_at, Sends}
 use Rattle.mqtt5_broker.proofs.Keeping.{at_changed}
-use Rattle.mqtt5_broker.proofs.Acting.{events_append}
+use Rattle.mqtt5_broker.proofs.Turned.{events_append, Makes, makes_turn, without_kept}
 
 -- ---- the sessions
 
 one_event : (a : Act) (b : Broker) → (act a b).sessions ≡ after_events (event_in a) b.sessions
 one_event (Session e) b = refl
 one_event (Know ms) b = refl
+one_event (Regroup gs) b = refl
 one_event (Name n) b = refl
 one_event (Moment at) b = refl
 one_event (Hear d at) b = refl
@@ -41,7 +43,9 @@ lost_if false b x y m k = k
 
 loses_lost : (i : ℕ) (b : Broker) → Lost b (loses_client i b)
 unfolding loses_client forgets
-loses_lost i b = lost_if (stays_at i b.members) b _ _ (Loses i ∷ [], refl) (Ends i ∷ [], refl)
+loses_lost i b =
+    lost_if (stays_at i b.members) b _ _ (Loses i ∷ [], refl)
+    (without_kept (Makes b.sessions) (makes_turn b.sessions) i b.groups (ends i b.sessions) (Ends i ∷ [], refl))
 
 of_lost : (o : Option ℕ) (d : ℕ) (b : Broker) → Lost b (closes_of o d b)
 of_lost None d b = ([], refl)
@@ -88,6 +92,7 @@ on_sends d e f b h =
 one_sends : (d : ℕ) (a : Act) (b : Broker) → Sends (output_at d b) (output_at d (act a b))
 one_sends d (Session e) b = sends_none (output_at d b) (output_at d b) refl
 one_sends d (Know ms) b = sends_none (output_at d b) (output_at d b) refl
+one_sends d (Regroup gs) b = sends_none (output_at d b) (output_at d b) refl
 one_sends d (Name n) b = sends_none (output_at d b) (output_at d b) refl
 one_sends d (Moment at) b = sends_none (output_at d b) (output_at d b) refl
 one_sends d (Hear e at) b = on_sends d e (heard at) b (λ l. sends_none l.output l.output refl)

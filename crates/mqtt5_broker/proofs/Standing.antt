@@ -19,7 +19,7 @@ use Rattle.mqtt5_control.specs.declared.connack.ConnectReturnCode.{ConnectReturn
 use Rattle.mqtt5_control.specs.declared.connack.ConnectReturnCode.TheVariants as return_codes
 use Rattle.mqtt5_control.specs.declared.disconnect.DisconnectReasonCode.{DisconnectReasonCode}
 use Rattle.mqtt5_control.specs.declared.disconnect.DisconnectReasonCode.TheVariants as reasons
-use Rattle.mqtt5_sessions.specs.Sessions.{leaves, arrives, replies, passes, passed}
+use Rattle.mqtt5_sessions.specs.Sessions.{leaves, replies, passes, passed}
 use Rattle.mqtt5_sessions.specs.Counts.{counts}
 use Rattle.mqtt5_broker.specs.declared.member.Member.{Member}
 use Rattle.mqtt5_broker.specs.declared.serving.Kind.{Kind}
@@ -29,8 +29,9 @@ use Rattle.mqtt5_broker.specs.Cut.{Cut, Ending, Holds, Breaks, cut_up}
 use Rattle.mqtt5_broker.specs.Connection.{Connection, closed, opened, shut, told, heard, taken_by, with_bytes, written, written_all, emptied, holding, with_sent, connection_at, with_connection, is_client, is_of, connection_of}
 use Rattle.mqtt5_broker.specs.Broker.{Broker, at_moment, on_connection, on_member, away, gone, expiring, undue, member_at, has_ended, will_is_due, forgets, loses_client, leaves_client, publishes_will, stays_at, refuses, dismisses, dismisses_of, numbers, number_in, free_number, is_named, number_of, assigned_name, number_after, user_at, owner_at}
 use Rattle.mqtt5_broker.specs.Rights.{may_do, denial, suback_for, part_of}
+use Rattle.mqtt5_broker.specs.Groups.{sessions_before}
 use Rattle.mqtt5_broker.specs.Bounds.{has_room, exceeds, ends_of, trims, trims_all}
-use Rattle.mqtt5_broker.specs.Serving.{kind_of, arrives_from, denies, brings, goes, disconnects, serves_as, serves_by, fault_of, serves, refusal, longest_of, silence_of, member_of, welcome, comes_in, displaced, displaces, starts_anew, begins, returns, enters, turns_away, enters_if_room, assigns_by, assigns, is_its, admits_as, admits, entry_fault, connects_by, connects, begins_with, takes_of, takes, passes_of, passes_on}
+use Rattle.mqtt5_broker.specs.Serving.{kind_of, comes_to_session, arrives_from, denies, brings, goes, disconnects, serves_as, serves_by, fault_of, serves, refusal, longest_of, silence_of, member_of, welcome, comes_in, displaced, displaces, starts_anew, begins, returns, enters, turns_away, enters_if_room, assigns_by, assigns, is_its, admits_as, admits, entry_fault, connects_by, connects, begins_with, takes_of, takes, passes_of, passes_on}
 use Rattle.mqtt5_broker.specs.Receiving.{takes_all, reason_for, ends_with, receives_now, receives, opens_now, opens, closes_of, closes_now, closes}
 use Rattle.mqtt5_broker.specs.Clock.{for_each, silences, silences_all, expires, ticks, ends_now, shuts_down}
 use Rattle.mqtt5_broker.specs.Standing.{client_at, IsHere, Stands, IsStanding}
@@ -195,13 +196,13 @@ dismisses_standing d reason b s = if_standing (connection_at d b.connections).is
 
 arrives_standing : (d i : ℕ) (x : Packet) (b : Broker) → IsStanding b → IsStanding (arrives_from d i x b)
 unfolding arrives_from
-arrives_standing d i x b s = on_less d (written_all (replies i x b.sessions)) (record b { sessions = arrives i x b.sessions }) (all_lets (replies i x b.sessions)) (record { one = s.one; here = s.here })
+arrives_standing d i x b s = on_less d (written_all (replies i x (sessions_before x b.groups b.sessions))) (comes_to_session i x b) (all_lets (replies i x (sessions_before x b.groups b.sessions))) (record { one = s.one; here = s.here })
 
 denies_standing : (user : Option ℕ) (d i : ℕ) (x : Packet) (b : Broker) → IsStanding b → IsStanding (denies user d i x b)
 unfolding denies
 denies_standing user d i (packets.Publish p) b s = on_less d (written_all (option_to_list (denial p.qos p.pkid))) b (all_lets (option_to_list (denial p.qos p.pkid))) s
 denies_standing user d i (packets.Subscribe p) b s =
-    on_less d (written (suback_for user b.rights p)) (record b { sessions = arrives i (packets.Subscribe (part_of user b.rights p)) b.sessions })
+    on_less d (written (suback_for user b.rights p)) (comes_to_session i (packets.Subscribe (part_of user b.rights p)) b)
     (λ l j h. sym (written_client (suback_for user b.rights p) l) ∙ h) (record { one = s.one; here = s.here })
 denies_standing user d i other b s = s
 

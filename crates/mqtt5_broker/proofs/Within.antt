@@ -1,5 +1,5 @@
 -- A client that connected as a user has subscriptions within what that user may subscribe to, whatever is called.
-use Rattle.std.proofs.Common.{◌≡◌, ◌≢◌, ℕ, zero, suc, Bool, true, false, List, [], ◌∷◌, ◌++◌, Option, Some, None, refl, sym, subst, ap, ◌∙◌, set, slice_set, if◌then◌else◌, cond, not, length, map, ◌==◌, Result, Ok, Err, ◌⊎◌, inl, inr, arith}
+use Rattle.std.proofs.Common.{◌≡◌, ◌≢◌, ℕ, zero, suc, Bool, true, false, List, [], ◌∷◌, ◌++◌, Option, Some, None, refl, sym, subst, ap, ◌∙◌, set, slice_set, if◌then◌else◌, cond, not, length, ◌==◌, ◌⊎◌, inl, inr, arith}
 use Rattle.std.specs.Prelude.{option_map, filter, is_none}
 use Rattle.std.specs.List.{list_all}
 use Rattle.std.specs.Option.{option_to_list}
@@ -8,7 +8,6 @@ use Rattle.std.proofs.lemmas.Option.{none-some}
 use Rattle.std.proofs.lemmas.List.Elements.{All-nil, All-cons, All-append, All-filter}
 use Rattle.std.proofs.lemmas.List.Quantifiers.{position-Some}
 use Rattle.mqtt5_base.specs.Texts.{Utf8}
-use Rattle.mqtt5_inflight.specs.declared.error.StateError.{StateError}
 use Rattle.mqtt5_publish.specs.declared.publish.Publish.{Publish}
 use Rattle.mqtt5_subscribe.specs.declared.filter.Filter.{Filter}
 use Rattle.mqtt5_codec.specs.declared.packet.Packet.{Packet}
@@ -19,163 +18,39 @@ use Rattle.mqtt5_control.specs.declared.connack.ConnectReturnCode.{ConnectReturn
 use Rattle.mqtt5_control.specs.declared.connack.ConnectReturnCode.TheVariants as return_codes
 use Rattle.mqtt5_control.specs.declared.disconnect.DisconnectReasonCode.{DisconnectReasonCode}
 use Rattle.mqtt5_control.specs.declared.disconnect.DisconnectReasonCode.TheVariants as reasons
-use Rattle.mqtt5_session.specs.Session.{Session}
 use Rattle.mqtt5_network.specs.Connection.{is_sending}
 use Rattle.mqtt5_network.specs.declared.subscription.Subscription.{Subscription}
-use Rattle.mqtt5_network.specs.Subscriptions.{is_of, subscribed, unsubscribed}
-use Rattle.mqtt5_network.specs.Asking.{is_ack, subscription_of, subscribed_all, unsubscribed_all, subscriptions_after}
-use Rattle.mqtt5_network.specs.Client.{Client, comes_to, taken_for}
-use Rattle.mqtt5_network.specs.Client as network_client
+use Rattle.mqtt5_network.specs.Subscriptions.{is_of, subscribed, unsubscribed, pattern_of}
+use Rattle.mqtt5_network.specs.Asking.{is_ack, identifier_of, subscription_of, subscribed_all, unsubscribed_all, subscriptions_after}
+use Rattle.mqtt5_network.specs.Client.{Client, comes_to}
 use Rattle.mqtt5_network.specs.Retained.{copies_for}
-use Rattle.mqtt5_network.specs.Place.{lost_message, waiting, replaced_message, due_message, not_due, left_will, message_of}
+use Rattle.mqtt5_network.specs.Place.{message_of}
 use Rattle.mqtt5_network.specs.declared.event.Will.{Will}
-use Rattle.mqtt5_router.specs.Kept.{Kept, new_kept, without_events, kept_of, alone, after_packet}
-use Rattle.mqtt5_sessions.specs.Sessions.{Sessions, ClientState, new_state, gets, queues, queues_all, with_client, of_client, changes, arrives, replies, passes_here, passed, passes, loses, is_due, leaves, taken_up, comes, ends}
+use Rattle.mqtt5_router.specs.Kept.{without_events, kept_of, alone, after_packet}
+use Rattle.mqtt5_sessions.specs.Sessions.{Sessions, ClientState, new_state, gets, with_client, arrives, replies, passed, passes, loses, is_due, leaves, comes, ends}
 use Rattle.mqtt5_sessions.specs.Counts.{counts}
 use Rattle.mqtt5_broker.specs.declared.member.Member.{Member}
 use Rattle.mqtt5_broker.specs.declared.serving.Kind.{Kind}
 use Rattle.mqtt5_broker.specs.declared.serving.Kind.TheVariants as kinds
 use Rattle.mqtt5_broker.specs.Moments.{has_come}
 use Rattle.mqtt5_broker.specs.Cut.{Cut, Ending, Holds, Breaks, cut_up}
-use Rattle.mqtt5_broker.specs.Rights.{Rights, rights_at, is_within, may_subscribe, may_do, denial, suback_for, part_of}
+use Rattle.mqtt5_broker.specs.Rights.{Rights, rights_at, is_within, asked_pattern, may_subscribe, may_do, denial, suback_for, part_of}
+use Rattle.mqtt5_broker.specs.Groups.{Group, groups_before, sessions_before, groups_after, sessions_after, groups_without, sessions_without}
 use Rattle.mqtt5_broker.specs.Connection.{Connection, closed, opened, shut, told, heard, taken_by, written, written_all, holding, emptied, connection_at, connection_of}
 use Rattle.mqtt5_broker.specs.Broker.{Broker, at_moment, on_connection, on_member, away, gone, expiring, undue, member_at, has_ended, will_is_due, forgets, loses_client, leaves_client, publishes_will, stays_at, refuses, dismisses, dismisses_of, numbers, number_in, free_number, number_of, assigned_name, number_after, user_at, owner_of, owner_at}
 use Rattle.mqtt5_broker.specs.Wills.{will_of}
 use Rattle.mqtt5_broker.specs.Bounds.{has_room, exceeds, ends_of, trims, trims_all}
-use Rattle.mqtt5_broker.specs.Serving.{kind_of, arrives_from, denies, brings, goes, disconnects, serves_as, serves_by, fault_of, serves, refusal, receive_max_of, longest_of, silence_of, member_of, welcome, comes_in, displaced, displaces, starts_anew, begins, returns, enters, turns_away, enters_if_room, assigns_by, assigns, is_its, admits_as, admits, entry_fault, connects_by, connects, begins_with, takes_of, takes, passes_of, passes_on}
+use Rattle.mqtt5_broker.specs.Serving.{kind_of, comes_to_session, arrives_from, denies, brings, goes, disconnects, serves_as, serves_by, fault_of, serves, refusal, receive_max_of, longest_of, silence_of, member_of, welcome, comes_in, displaced, displaces, starts_anew, begins, returns, enters, turns_away, enters_if_room, assigns_by, assigns, is_its, admits_as, admits, entry_fault, connects_by, connects, begins_with, takes_of, takes, passes_of, passes_on}
 use Rattle.mqtt5_broker.specs.Receiving.{takes_all, reason_for, ends_with, receives_now, receives, opens, closes_of, closes_now, closes}
 use Rattle.mqtt5_broker.specs.Clock.{for_each, silences, silences_all, expires, ticks, ends_now, shuts_down}
 use Rattle.mqtt5_broker.specs.Standing.{client_at, IsHere, IsStanding}
 use Rattle.mqtt5_broker.specs.Within.{subscriptions_in, subscriptions_at, AreWithin, IsWithin}
 use Rattle.mqtt5_broker.proofs.Standing.{nobody, heard_client, on_less, takes_standing}
+use Rattle.mqtt5_broker.proofs.Clients.{Changed, changed, emptied_or, changes_count, changes_subscriptions, Fewer, loses_fewer, due_fewer, leaves_fewer, comes_fewer, ended_state, ends_fewer, passes_fewer, pushed_subscriptions}
+use Rattle.mqtt5_broker.proofs.Turned.{Like, like_same, like_turn, before_kept, after_kept, without_kept}
 
 abbrev In : List Utf8 → Subscription → Type 0
-In fs s = is_within s.topic_filter.bytes fs ≡ true
-
--- ---- the clients of sessions, of which one changes
-
-abbrev subscriptions_of : ClientState → List Subscription
-subscriptions_of c = c.kept.subscriptions
-
-mapped_subscriptions : (xs : List Publish) (j : ℕ) (cs : List ClientState) → subscriptions_in j (map (queues false xs) cs) ≡ subscriptions_in j cs
-mapped_subscriptions xs j [] = refl
-mapped_subscriptions xs zero (c ∷ cs) = refl
-mapped_subscriptions xs (suc j) (c ∷ cs) = mapped_subscriptions xs j cs
-
-queued_subscriptions : (i : ℕ) (xs : List Publish) (j : ℕ) (cs : List ClientState) → subscriptions_in j (queues_all i xs cs) ≡ subscriptions_in j cs
-queued_subscriptions i xs j [] = refl
-queued_subscriptions zero xs zero (c ∷ cs) = refl
-queued_subscriptions zero xs (suc j) (c ∷ cs) = mapped_subscriptions xs j cs
-queued_subscriptions (suc i) xs zero (c ∷ cs) = refl
-queued_subscriptions (suc i) xs (suc j) (c ∷ cs) = queued_subscriptions i xs j cs
-
-mapped_count : (f : ClientState → ClientState) (cs : List ClientState) → length (map f cs) ≡ length cs
-mapped_count f [] = refl
-mapped_count f (c ∷ cs) = ap suc (mapped_count f cs)
-
-queued_count : (i : ℕ) (xs : List Publish) (cs : List ClientState) → length (queues_all i xs cs) ≡ length cs
-queued_count i xs [] = refl
-queued_count zero xs (c ∷ cs) = ap suc (mapped_count (queues false xs) cs)
-queued_count (suc i) xs (c ∷ cs) = ap suc (queued_count i xs cs)
-
-with_count : (i : ℕ) (f : ClientState → ClientState) (cs : List ClientState) → length (with_client i f cs) ≡ length cs
-with_count i f [] = refl
-with_count zero f (c ∷ cs) = refl
-with_count (suc i) f (c ∷ cs) = ap suc (with_count i f cs)
-
--- those of a client are as before, or it is the one that changed
-abbrev Changed : (ClientState → ClientState) → ℕ → ℕ → List ClientState → Type 0
-Changed f i j cs =
-    (subscriptions_in j (with_client i f cs) ≡ subscriptions_in j cs)
-    ⊎ ((j ≡ i) × (c : ClientState) × (subscriptions_in j cs ≡ subscriptions_of c) × (subscriptions_in j (with_client i f cs) ≡ subscriptions_of (f c)))
-
-changed : (f : ClientState → ClientState) (i j : ℕ) (cs : List ClientState) → Changed f i j cs
-changed f i j [] = inl refl
-changed f zero zero (c ∷ cs) = inr (refl, c, refl, refl)
-changed f zero (suc j) (c ∷ cs) = inl refl
-changed f (suc i) zero (c ∷ cs) = inl refl
-changed f (suc i) (suc j) (c ∷ cs) = lift (changed f i j cs)
-  where
-    lift : Changed f i j cs → Changed f (suc i) (suc j) (c ∷ cs)
-    lift (inl e) = inl e
-    lift (inr e) = inr (ap suc e.0, e.1, e.2, e.3)
-
-suc_same : (m n : ℕ) → suc m ≡ suc n → m ≡ n
-suc_same m n e = omega (arith, e)
-
--- where it has none then, no other changed
-emptied_or : (f : ClientState → ClientState) → ((c : ClientState) → subscriptions_of (f c) ≡ []) → (i j : ℕ) (cs : List ClientState) → (subscriptions_in j (with_client i f cs) ≡ []) ⊎ ((j ≢ i) × (subscriptions_in j (with_client i f cs) ≡ subscriptions_in j cs))
-emptied_or f h i j [] = inl refl
-emptied_or f h zero zero (c ∷ cs) = inl (h c)
-emptied_or f h zero (suc j) (c ∷ cs) = inr (λ e. absurd (cc e), refl)
-emptied_or f h (suc i) zero (c ∷ cs) = inr (λ e. absurd (cc e), refl)
-emptied_or f h (suc i) (suc j) (c ∷ cs) = lift (emptied_or f h i j cs)
-  where
-    lift : (subscriptions_in j (with_client i f cs) ≡ []) ⊎ ((j ≢ i) × (subscriptions_in j (with_client i f cs) ≡ subscriptions_in j cs))
-        → (subscriptions_in (suc j) (with_client (suc i) f (c ∷ cs)) ≡ []) ⊎ ((suc j ≢ suc i) × (subscriptions_in (suc j) (with_client (suc i) f (c ∷ cs)) ≡ subscriptions_in (suc j) (c ∷ cs)))
-    lift (inl e) = inl e
-    lift (inr e) = inr (λ same. e.0 (suc_same j i same), e.1)
-
-module _ (i : ℕ) (f : ClientState → ClientState) (new : ClientState → List Publish) (s : Sessions) where
-  changes_count : length (changes i f new s).clients ≡ length s.clients
-  changes_count = queued_count i (of_client i new s.clients) (with_client i f s.clients) ∙ with_count i f s.clients
-
-  changes_subscriptions : (j : ℕ) → subscriptions_at j (changes i f new s) ≡ subscriptions_in j (with_client i f s.clients)
-  changes_subscriptions j = queued_subscriptions i (of_client i new s.clients) j (with_client i f s.clients)
-
--- ---- sessions that have no more subscriptions than others
-
-pub record Fewer (s t : Sessions) : Type 0 where
-  pub count : length t.clients ≡ length s.clients
-  pub each : (j : ℕ) → (subscriptions_at j t ≡ []) ⊎ (subscriptions_at j t ≡ subscriptions_at j s)
-
-changes_fewer : (i : ℕ) (f : ClientState → ClientState) (new : ClientState → List Publish) (s : Sessions) → ((c : ClientState) → (subscriptions_of (f c) ≡ []) ⊎ (subscriptions_of (f c) ≡ subscriptions_of c)) → Fewer s (changes i f new s)
-changes_fewer i f new s h = record {
-  count = changes_count i f new s;
-  each = λ j. by j (changed f i j s.clients);
-}
-  where
-    pick : (j : ℕ) (c : ClientState) → subscriptions_at j s ≡ subscriptions_of c → subscriptions_in j (with_client i f s.clients) ≡ subscriptions_of (f c) → (subscriptions_of (f c) ≡ []) ⊎ (subscriptions_of (f c) ≡ subscriptions_of c)
-        → (subscriptions_at j (changes i f new s) ≡ []) ⊎ (subscriptions_at j (changes i f new s) ≡ subscriptions_at j s)
-    pick j c was is (inl q) = inl (changes_subscriptions i f new s j ∙ is ∙ q)
-    pick j c was is (inr q) = inr (changes_subscriptions i f new s j ∙ is ∙ q ∙ sym was)
-
-    by : (j : ℕ) → Changed f i j s.clients → (subscriptions_at j (changes i f new s) ≡ []) ⊎ (subscriptions_at j (changes i f new s) ≡ subscriptions_at j s)
-    by j (inl e) = inr (changes_subscriptions i f new s j ∙ e)
-    by j (inr e) = pick j e.1 e.2 e.3 (h e.1)
-
-loses_fewer : (i : ℕ) (s : Sessions) → Fewer s (loses i s)
-loses_fewer i s = changes_fewer i (λ (c : ClientState). record c { here = false; will = waiting c.will }) (λ (c : ClientState). lost_message c.will) s (λ c. inr refl)
-
-due_fewer : (i : ℕ) (s : Sessions) → Fewer s (is_due i s)
-due_fewer i s = changes_fewer i (λ (c : ClientState). record c { will = not_due c.here c.will }) (λ (c : ClientState). due_message c.here c.will) s (λ c. inr refl)
-
-leaves_fewer : (i : ℕ) (s : Sessions) → Fewer s (leaves i s)
-leaves_fewer i s = changes_fewer i (λ (c : ClientState). record c { here = false; will = left_will c.here c.will }) (λ c. []) s (λ c. inr refl)
-
-comes_fewer : (i : ℕ) (m : Option ℕ) (will : Option Will) (s : Sessions) → Fewer s (comes i m will s)
-comes_fewer i m will s = changes_fewer i (λ (c : ClientState). record { kept = taken_up m c.kept; here = true; will = will }) (λ (c : ClientState). replaced_message c.here c.will) s (λ c. inr refl)
-
-abbrev ended_state : ClientState → ClientState
-ended_state c = record { kept = new_kept c.kept.sender.core.limit []; here = false; will = None }
-
-ends_fewer : (i : ℕ) (s : Sessions) → Fewer s (ends i s)
-ends_fewer i s = changes_fewer i ended_state (λ (c : ClientState). message_of c.will) s (λ c. inl refl)
-
-taken_subscriptions : (c : Client) (p : Publish) (rest : List Publish) (r : Result (Option Packet) StateError) (s : Session) → (taken_for c p rest r s).subscriptions ≡ c.subscriptions
-taken_subscriptions c p rest (Ok reply) s = refl
-taken_subscriptions c p rest (Err e) s = refl
-
-passed_subscriptions : (c : Client) (ps : List Publish) → (network_client.passes_on c ps).subscriptions ≡ c.subscriptions
-passed_subscriptions c [] = refl
-passed_subscriptions c (p ∷ rest) = taken_subscriptions c p rest _ _
-
-here_subscriptions : (v : Bool) (k : Kept) → (passes_here v k).subscriptions ≡ k.subscriptions
-here_subscriptions true k = passed_subscriptions (alone k) k.queue
-here_subscriptions false k = refl
-
-passes_fewer : (i : ℕ) (s : Sessions) → Fewer s (passes i s)
-passes_fewer i s = changes_fewer i (λ (c : ClientState). record c { kept = passes_here c.here c.kept }) (λ c. []) s (λ c. inr (here_subscriptions c.here c.kept))
+In fs s = is_within (pattern_of s).bytes fs ≡ true
 
 -- ---- what changes of a broker
 
@@ -194,6 +69,18 @@ fewer_within b t h w = record {
     by_within : (j u : ℕ) → owner_at j b.members ≡ Some u → (subscriptions_at j t ≡ []) ⊎ (subscriptions_at j t ≡ subscriptions_at j b.sessions) → AreWithin (rights_at u b.rights).subscribes (subscriptions_at j t)
     by_within j u e (inl q) = subst (AreWithin (rights_at u b.rights).subscribes) (sym q) (All-nil (In (rights_at u b.rights).subscribes))
     by_within j u e (inr q) = subst (AreWithin (rights_at u b.rights).subscribes) (sym q) (w.within j u e)
+
+-- its sessions have no others
+like_within : (b : Broker) (t : Sessions) → Like b.sessions t → IsWithin b → IsWithin (record b { sessions = t })
+like_within b t l w = record {
+  numbers = l.count ∙ w.numbers;
+  none = λ j e. l.none j (w.none j e);
+  within = λ j u e. l.within j (rights_at u b.rights).subscribes (w.within j u e);
+}
+
+-- others take part in shared subscriptions
+grouped_within : (b : Broker) (gs : List Group) → IsWithin b → IsWithin (record b { groups = gs })
+grouped_within b gs w = record { numbers = w.numbers; none = w.none; within = w.within }
 
 -- its clients are of the same users, and no fewer
 pub record Alike (ms ns : List (Option Member)) : Type 0 where
@@ -283,9 +170,8 @@ Or i j cs =
     (subscriptions_in j (with_client i ended_state cs) ≡ [])
     ⊎ ((j ≢ i) × (subscriptions_in j (with_client i ended_state cs) ≡ subscriptions_in j cs))
 
-forgets_within : (i : ℕ) (b : Broker) → IsWithin b → IsWithin (forgets i b)
-unfolding forgets
-forgets_within i b w =
+ended_within : (i : ℕ) (b : Broker) → IsWithin b → IsWithin (record b { sessions = ends i b.sessions; members = slice_set b.members i None })
+ended_within i b w =
     let s : Sessions = ends i b.sessions in
     let same : (j : ℕ) → subscriptions_at j s ≡ subscriptions_in j (with_client i ended_state b.sessions.clients) =
     changes_subscriptions i ended_state (λ (c : ClientState). message_of c.will) b.sessions in
@@ -302,6 +188,14 @@ forgets_within i b w =
     by_within : (j u : ℕ) → owner_at j (set b.members i None) ≡ Some u → subscriptions_at j (ends i b.sessions) ≡ subscriptions_in j (with_client i ended_state b.sessions.clients) → Or i j b.sessions.clients → AreWithin (rights_at u b.rights).subscribes (subscriptions_at j (ends i b.sessions))
     by_within j u e same (inl q) = subst (AreWithin (rights_at u b.rights).subscribes) (sym (same ∙ q)) (All-nil (In (rights_at u b.rights).subscribes))
     by_within j u e same (inr q) = subst (AreWithin (rights_at u b.rights).subscribes) (sym (same ∙ q.1)) (w.within j u (sym (ap owner_of (set_other i j b.members None q.0)) ∙ e))
+
+forgets_within : (i : ℕ) (b : Broker) → IsWithin b → IsWithin (forgets i b)
+unfolding forgets
+forgets_within i b w =
+    let s : Sessions = ends i b.sessions in
+    let ended : Broker = record b { sessions = s; members = slice_set b.members i None } in
+    grouped_within (record ended { sessions = sessions_without i b.groups s }) (groups_without i b.groups)
+    (like_within ended (sessions_without i b.groups s) (without_kept (Like s) (like_turn s) i b.groups s (like_same s)) (ended_within i b w))
 
 loses_within : (i : ℕ) (b : Broker) → IsWithin b → IsWithin (loses_client i b)
 unfolding loses_client
@@ -341,13 +235,13 @@ dismisses_within d reason b w = if_within (connection_at d b.connections).is_ope
 
 -- ---- subscriptions after a packet
 
-subscribed_within : (fs : List Utf8) (gs : List Filter) (ss : List Subscription) → list_all (λ (g : Filter). is_within g.path.bytes fs) gs ≡ true → AreWithin fs ss → AreWithin fs (subscribed_all gs ss)
-subscribed_within fs [] ss h w = w
-subscribed_within fs (g ∷ gs) ss h w =
-    let parts = and_parts (is_within g.path.bytes fs) (list_all (λ (g : Filter). is_within g.path.bytes fs) gs) h in
-    let s : Subscription = subscription_of g in
+subscribed_within : (fs : List Utf8) (k : Option ℕ) (gs : List Filter) (ss : List Subscription) → list_all (λ (g : Filter). is_within (asked_pattern g).bytes fs) gs ≡ true → AreWithin fs ss → AreWithin fs (subscribed_all k gs ss)
+subscribed_within fs k [] ss h w = w
+subscribed_within fs k (g ∷ gs) ss h w =
+    let parts = and_parts (is_within (asked_pattern g).bytes fs) (list_all (λ (g : Filter). is_within (asked_pattern g).bytes fs) gs) h in
+    let s : Subscription = subscription_of k g in
     let kept : List Subscription = unsubscribed s.topic_filter ss in
-    subscribed_within fs gs (subscribed s ss) parts.1
+    subscribed_within fs k gs (subscribed s ss) parts.1
     (All-append (In fs) kept (s ∷ []) (All-filter (λ (x : Subscription). not (is_of s.topic_filter x)) (In fs) ss w) (All-cons (In fs) s [] parts.0 (All-nil (In fs))))
 
 unsubscribed_within : (fs : List Utf8) (gs : List Utf8) (ss : List Subscription) → AreWithin fs ss → AreWithin fs (unsubscribed_all gs ss)
@@ -355,7 +249,7 @@ unsubscribed_within fs [] ss w = w
 unsubscribed_within fs (g ∷ gs) ss w = unsubscribed_within fs gs (unsubscribed g ss) (All-filter (λ (x : Subscription). not (is_of g x)) (In fs) ss w)
 
 after_within : (u : ℕ) (rs : List Rights) (x : Packet) (ss : List Subscription) → may_do (Some u) rs x ≡ true → AreWithin (rights_at u rs).subscribes ss → AreWithin (rights_at u rs).subscribes (subscriptions_after ss x)
-after_within u rs (packets.Subscribe p) ss h w = subscribed_within (rights_at u rs).subscribes p.filters ss h w
+after_within u rs (packets.Subscribe p) ss h w = subscribed_within (rights_at u rs).subscribes (identifier_of p.properties) p.filters ss h w
 after_within u rs (packets.Unsubscribe p) ss h w = unsubscribed_within (rights_at u rs).subscribes p.filters ss w
 after_within u rs other ss h w = w
 
@@ -394,6 +288,18 @@ module _ (i : ℕ) (x : Packet) (b : Broker) (known : member_at i b.members ≡ 
     within = λ j u e. arrived_within j u e (changed arrived i j b.sessions.clients);
   }
 
+-- where turns are given before and after it
+comes_session_within : (i : ℕ) (x : Packet) (b : Broker) → (member_at i b.members ≡ None → ⊥) → ((u : ℕ) → owner_at i b.members ≡ Some u → may_do (Some u) b.rights x ≡ true) → IsWithin b → IsWithin (comes_to_session i x b)
+comes_session_within i x b known may w =
+    let s : Sessions = sessions_before x b.groups b.sessions in
+    let turned_first : Broker = record b { sessions = s } in
+    let t : Sessions = arrives i x s in
+    let came : Broker = record b { sessions = t } in
+    let first : IsWithin turned_first = like_within b s (before_kept (Like b.sessions) (like_turn b.sessions) x b.groups b.sessions (like_same b.sessions)) w in
+    let last : IsWithin came = arrives_within i x turned_first known may first in
+    grouped_within (record b { sessions = sessions_after i x b.groups t }) (groups_after i x (groups_before x b.groups b.sessions))
+    (like_within came (sessions_after i x b.groups t) (after_kept (Like t) (like_turn t) i x b.groups t (like_same t)) last)
+
 -- ---- a client that is connected
 
 pub all_filtered : (p : Filter → Bool) (gs : List Filter) → list_all p (filter p gs) ≡ true
@@ -412,15 +318,15 @@ module _ (d i : ℕ) (b : Broker) (known : member_at i b.members ≡ None → �
   unfolding denies
   denies_within (packets.Publish p) = connected_within d (written_all (option_to_list (denial p.qos p.pkid))) b w
   denies_within (packets.Subscribe p) =
-      connected_within d (written (suback_for (owner_at i b.members) b.rights p)) (record b { sessions = arrives i (packets.Subscribe (part_of (owner_at i b.members) b.rights p)) b.sessions })
-      (arrives_within i (packets.Subscribe (part_of (owner_at i b.members) b.rights p)) b known (λ u e. part_may u (owner_at i b.members) b.rights p.filters e) w)
+      connected_within d (written (suback_for (owner_at i b.members) b.rights p)) (comes_to_session i (packets.Subscribe (part_of (owner_at i b.members) b.rights p)) b)
+      (comes_session_within i (packets.Subscribe (part_of (owner_at i b.members) b.rights p)) b known (λ u e. part_may u (owner_at i b.members) b.rights p.filters e) w)
   denies_within other = w
 
   brings_by : (v : Bool) (x : Packet) → may_do (owner_at i b.members) b.rights x ≡ v → IsWithin (if v then arrives_from d i x b else denies (owner_at i b.members) d i x b)
   unfolding arrives_from
   brings_by true x e =
-      connected_within d (written_all (replies i x b.sessions)) (record b { sessions = arrives i x b.sessions })
-      (arrives_within i x b known (λ u q. ap (λ (o : Option ℕ). may_do o b.rights x) (sym q) ∙ e) w)
+      connected_within d (written_all (replies i x (sessions_before x b.groups b.sessions))) (comes_to_session i x b)
+      (comes_session_within i x b known (λ u q. ap (λ (o : Option ℕ). may_do o b.rights x) (sym q) ∙ e) w)
   brings_by false x e = denies_within x
 
   brings_within : (x : Packet) → IsWithin (brings d i x b)
@@ -465,16 +371,25 @@ displaces_within : (i : ℕ) (b : Broker) → IsWithin b → IsWithin (displaces
 unfolding displaces
 displaces_within i b w = displaced_within (connection_of i b.connections) b w
 
-anew_fewer : (v : Bool) (i : ℕ) (s : Sessions) → Fewer s (if v then ends i s else s)
-anew_fewer true i s = ends_fewer i s
-anew_fewer false i s = record { count = refl; each = λ j. inr refl }
-
 begins_within : (i : ℕ) (anew : Bool) (q : Connect) (will : Option LastWill) (b : Broker) → IsWithin b → IsWithin (begins i anew q will b)
 unfolding begins
-begins_within i anew q will b w =
-    let m : Member = member_of (owner_at i b.members) q will in
-    alike_within (record b { sessions = if anew then ends i b.sessions else b.sessions }) (slice_set b.members i (Some m)) (alike_set i b.members m refl)
-    (fewer_within b (if anew then ends i b.sessions else b.sessions) (anew_fewer anew i b.sessions) w)
+begins_within i anew q will b w = by anew
+  where
+    m : Member
+    m = member_of (owner_at i b.members) q will
+
+    by : (v : Bool) → IsWithin (record b {
+      sessions = if v then sessions_without i b.groups (ends i b.sessions) else b.sessions;
+      members = slice_set b.members i (Some m);
+      groups = if v then groups_without i b.groups else b.groups;
+    })
+    by true =
+        let s : Sessions = ends i b.sessions in
+        let t : Sessions = sessions_without i b.groups s in
+        grouped_within (record b { sessions = t; members = slice_set b.members i (Some m) }) (groups_without i b.groups)
+        (alike_within (record b { sessions = t }) (slice_set b.members i (Some m)) (alike_set i b.members m refl)
+        (like_within (record b { sessions = s }) t (without_kept (Like s) (like_turn s) i b.groups s (like_same s)) (fewer_within b s (ends_fewer i b.sessions) w)))
+    by false = alike_within b (slice_set b.members i (Some m)) (alike_set i b.members m refl) w
 
 returns_within : (d i : ℕ) (q : Connect) (will : Option LastWill) (b : Broker) → IsWithin b → IsWithin (returns d i q will b)
 returns_within d i q will b w = comes_in_within d i (not (starts_anew i q b)) false q will (begins i (starts_anew i q b) q will (displaces i b)) (begins_within i (starts_anew i q b) q will (displaces i b) (displaces_within i b w))
@@ -485,12 +400,6 @@ pushed_count [] c [] m e = refl
 pushed_count [] c (n ∷ ms) m e = absurd (cc e)
 pushed_count (x ∷ cs) c [] m e = absurd (cc e)
 pushed_count (x ∷ cs) c (n ∷ ms) m e = ap suc (pushed_count cs c ms m (omega (arith, e)))
-
-pushed_subscriptions : (limit j : ℕ) (cs : List ClientState) → subscriptions_in j (cs ++ new_state limit ∷ []) ≡ subscriptions_in j cs
-pushed_subscriptions limit zero [] = refl
-pushed_subscriptions limit (suc j) [] = refl
-pushed_subscriptions limit zero (c ∷ cs) = refl
-pushed_subscriptions limit (suc j) (c ∷ cs) = pushed_subscriptions limit j cs
 
 pushed_none : (m : Member) (j : ℕ) (ms : List (Option Member)) → member_at j (ms ++ Some m ∷ []) ≡ None → member_at j ms ≡ None
 pushed_none m j [] e = refl

@@ -5,18 +5,20 @@ use Rattle.mqtt5_codec.specs.declared.packet.Packet.{Packet}
 use Rattle.mqtt5_codec.specs.Packets.{packet_writing}
 use Rattle.mqtt5_sessions.specs.Runs.{SessionEvent, after_event}
 use Rattle.mqtt5_broker.specs.declared.member.Member.{Member}
+use Rattle.mqtt5_broker.specs.Groups.{Group}
 use Rattle.mqtt5_broker.specs.Connection.{written, shut, emptied, holding, heard}
 use Rattle.mqtt5_broker.specs.Connection.{taken_by, connection_at}
 use Rattle.mqtt5_broker.specs.Broker.{Broker, on_connection}
 
 -- ---- acts
 
--- something happens to the sessions; other clients are known, and another number for the next name;
--- another moment; of a connection: it is heard, a packet is written, nothing more is taken, it is that
--- of a client, and bytes are held or taken out
+-- something happens to the sessions; other clients are known, and others take part in shared
+-- subscriptions; another number for the next name; another moment; of a connection: it is heard, a
+-- packet is written, nothing more is taken, it is that of a client, and bytes are held or taken out
 pub data Act : Type 0 where
   Session : (event : SessionEvent) → Act
   Know : (members : List (Option Member)) → Act
+  Regroup : (groups : List Group) → Act
   Name : (number : ℕ) → Act
   Moment : (at : ℕ) → Act
   Hear : (connection at : ℕ) → Act
@@ -29,6 +31,7 @@ pub data Act : Type 0 where
 abbrev pub act : Act → Broker → Broker
 act (Session e) b = record b { sessions = after_event e b.sessions }
 act (Know ms) b = record b { members = ms }
+act (Regroup gs) b = record b { groups = gs }
 act (Name n) b = record b { next_name = n }
 act (Moment at) b = record b { moment = at }
 act (Hear d at) b = on_connection d (heard at) b

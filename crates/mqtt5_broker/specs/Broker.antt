@@ -1,5 +1,6 @@
--- What a broker keeps: the sessions of its clients, their names, its connections, and what its users
--- may do (MQTT 5.0 sections 3.1.2.11.2, 3.1.3.1, 3.1.3.2.2, 4.1 and 5.4).
+-- What a broker keeps: the sessions of its clients, their names, its connections, what its users may
+-- do, and who takes part in shared subscriptions (MQTT 5.0 sections 3.1.2.11.2, 3.1.3.1, 3.1.3.2.2,
+-- 4.1, 4.8.2 and 5.4).
 use Rattle.std.specs.Prelude.{ℕ, ◌+◌, ◌==◌, nat_eq, min, max, Bool, true, false, not, List, [], ◌∷◌}
 use Rattle.std.specs.Prelude.{◌++◌, length, Option, Some, None, is_none, option_map}
 use Rattle.std.specs.Prelude.{slice_index_or, slice_set, if◌then◌else◌, codes}
@@ -13,19 +14,21 @@ use Rattle.mqtt5_broker.specs.declared.bounds.Bounds.{Bounds}
 use Rattle.mqtt5_broker.specs.declared.member.Member.{Member}
 use Rattle.mqtt5_broker.specs.Moments.{seconds_after, has_come}
 use Rattle.mqtt5_broker.specs.Rights.{Rights, no_rights, with_rights}
+use Rattle.mqtt5_broker.specs.Groups.{Group, groups_without, sessions_without}
 use Rattle.mqtt5_broker.specs.Connection.{Connection, shut, told, with_connection}
 use Rattle.mqtt5_broker.specs.Connection.{connection_at}
 
 -- the sessions, numbered from 0; by the same numbers the client that has each, or none; the
--- connections; what each user may do; the greatest packet identifier that is used to a client
--- (2.2.1); the greatest remaining length of what a client sends; for how many milliseconds a
--- connection may be open without a Connect, or 0 for any time; what may be kept at most; the last
--- moment; and the number of the next name that a client is given
+-- connections; what each user may do; the shared subscriptions; the greatest packet identifier that is
+-- used to a client (2.2.1); the greatest remaining length of what a client sends; for how many
+-- milliseconds a connection may be open without a Connect, or 0 for any time; what may be kept at most;
+-- the last moment; and the number of the next name that a client is given
 pub record Broker : Type 0 where
   pub sessions : Sessions
   pub members : List (Option Member)
   pub connections : List Connection
   pub rights : List Rights
+  pub groups : List Group
   pub limit : ℕ
   pub longest : ℕ
   pub wait : ℕ
@@ -171,9 +174,13 @@ on_connection c f b = record b { connections = with_connection c f b.connections
 
 -- ---- ends
 
--- the session of a client ends, and nobody has its number (3.1.2.4)
+-- the session of a client ends, and nobody has its number (3.1.2.4); its turns go to others (4.8.2)
 unfoldable pub forgets : ℕ → Broker → Broker
-forgets i b = record b { sessions = ends i b.sessions; members = slice_set b.members i None }
+forgets i b = record b {
+  sessions = sessions_without i b.groups (ends i b.sessions);
+  members = slice_set b.members i None;
+  groups = groups_without i b.groups;
+}
 
 -- its connection is lost: its session stays, or ends (3.1.2.11.2)
 unfoldable pub loses_client : ℕ → Broker → Broker

@@ -1,6 +1,7 @@
 -- Which packets a broker refuses, and why (MQTT 5.0 sections 3.1.4, 3.14.2.1 and 4.13).
-use Rattle.std.specs.Prelude.{ℕ, ◌==◌, Bool, true, false, not, ◌||◌, ◌&&◌, List, length}
-use Rattle.std.specs.Prelude.{Option, Some, None, is_some, if◌then◌else◌, nat_eq, nat_lt, codes}
+use Rattle.std.specs.Prelude.{ℕ, ◌+◌, ◌==◌, Bool, true, false, not, ◌||◌, ◌&&◌, List, length, take}
+use Rattle.std.specs.Prelude.{drop, Option, Some, None, is_some, if◌then◌else◌, nat_eq, nat_lt}
+use Rattle.std.specs.Prelude.{codes}
 use Rattle.std.specs.List.{list_any, starts_with}
 use Rattle.std.specs.Str.{is_utf8}
 use Rattle.mqtt5_base.specs.Topics.{is_valid_filter, is_valid_topic}
@@ -9,6 +10,7 @@ use Rattle.mqtt5_publish.specs.declared.publish.PublishProperties.{PublishProper
 use Rattle.mqtt5_subscribe.specs.declared.filter.Filter.{Filter}
 use Rattle.mqtt5_subscribe.specs.declared.subscribe.Subscribe.{Subscribe}
 use Rattle.mqtt5_subscribe.specs.declared.subscribe.SubscribeProperties.{SubscribeProperties}
+use Rattle.mqtt5_network.specs.Asking.{slash_in}
 use Rattle.mqtt5_connect.specs.declared.connect.Connect.{Connect}
 use Rattle.mqtt5_connect.specs.declared.connect.ConnectProperties.{ConnectProperties}
 use Rattle.mqtt5_connect.specs.declared.will.LastWill.{LastWill}
@@ -52,24 +54,48 @@ publish_fault p = first_of (properties_fault p.properties) (topic_fault p.topic)
 
 -- ---- subscriptions
 
--- that of a shared subscription, which the broker says that it hasn't (4.8.2)
+-- whether a number that may be left out is 0
+abbrev pub is_zero : Option ℕ → Bool
+is_zero None = false
+is_zero (Some n) = n == 0
+
+-- that of a shared subscription (4.8.2)
 abbrev pub is_shared : Filter → Bool
 is_shared f = starts_with nat_eq f.path.bytes (codes "$share/")
 
--- no filter (4.7)
-abbrev pub is_malformed : Filter → Bool
-is_malformed f = not (is_valid_filter f.path.bytes)
+-- a share name has a byte at least, and no wildcard (4.8.2)
+abbrev pub is_wildcard : ℕ → Bool
+is_wildcard b = b == 35 || b == 43
 
--- a subscription identifier, which the broker says that it doesn't take (3.8.2.1.2)
+abbrev pub is_share_name : List ℕ → Bool
+is_share_name name = not (length name == 0) && not (list_any is_wildcard name)
+
+-- so many bytes are one, and others stand behind the slash
+abbrev pub is_share_at : Option ℕ → List ℕ → Bool
+is_share_at None bytes = false
+is_share_at (Some n) bytes = nat_lt (n + 1) (length bytes) && is_share_name (take n bytes)
+
+abbrev pub is_share : List ℕ → Bool
+is_share bytes = is_share_at (slash_in bytes) bytes
+
+-- no filter (4.7, 4.8.2)
+abbrev pub is_malformed : Filter → Bool
+is_malformed f =
+    not (is_valid_filter f.path.bytes) || (is_shared f && not (is_share (drop 7 f.path.bytes)))
+
+-- a shared subscription with No Local (3.8.3.1)
+abbrev pub is_local_share : Filter → Bool
+is_local_share f = f.nolocal && is_shared f
+
+-- a subscription identifier is 1 at least (3.8.2.1.2)
 abbrev pub identifier_fault : Option SubscribeProperties → Option DisconnectReasonCode
 identifier_fault None = None
-identifier_fault (Some set) =
-    if is_some set.id then Some reasons.SubscriptionIdentifiersNotSupported else None
+identifier_fault (Some set) = if is_zero set.id then Some reasons.ProtocolError else None
 
 abbrev pub filters_fault : List Filter → Option DisconnectReasonCode
 filters_fault fs =
-    if list_any is_shared fs then Some reasons.SharedSubscriptionNotSupported
-    else if list_any is_malformed fs then Some reasons.TopicFilterInvalid else None
+    if list_any is_malformed fs then Some reasons.TopicFilterInvalid
+    else if list_any is_local_share fs then Some reasons.ProtocolError else None
 
 abbrev pub subscribe_fault : Subscribe → Option DisconnectReasonCode
 subscribe_fault s = first_of (identifier_fault s.properties) (filters_fault s.filters)
@@ -113,13 +139,8 @@ client_fault stays x = first_of (packet_fault x) (goodbye_fault stays x)
 
 -- ---- a Connect (3.1.2.11.3, 3.1.2.11.4, 3.1.3.1, 4.12)
 
--- whether a number that may be left out is 0
-abbrev pub is_zero : Option ℕ → Bool
-is_zero None = false
-is_zero (Some n) = n == 0
-
--- too short for the answer to a Connect, which has up to fourteen bytes, and up to 42 with a name
--- that is given
+-- too short for the answer to a Connect, which has up to ten bytes, and up to 38 with a name that is
+-- given
 abbrev pub is_short : ℕ → Option ℕ → Bool
 is_short least None = false
 is_short least (Some n) = nat_lt n least
@@ -146,7 +167,7 @@ first_code None other = other
 
 -- the length that the answer needs
 abbrev pub answer_length : Connect → ℕ
-answer_length k = if length k.client_id.bytes == 0 then 42 else 14
+answer_length k = if length k.client_id.bytes == 0 then 38 else 10
 
 abbrev pub connect_fault : Connect → Option LastWill → Option ConnectReturnCode
 connect_fault k will =

@@ -1,6 +1,7 @@
 pub mod Cut
 pub mod Moments
 pub mod Rights
+pub mod Groups
 pub mod Connection
 pub mod Broker
 pub mod Wills
@@ -14,3 +15,4 @@ pub mod Standing
 pub mod Asking
 pub mod Calls
 pub mod Within
+pub mod Sharing

@@ -1,6 +1,6 @@
 -- What the users of a broker may publish and subscribe to, which are topics within the topic filters
 -- that each has, and what is answered to more than that (MQTT 5.0 sections 3.4.2.1, 3.5.2.1, 3.9.3,
--- 4.7 and 5.4.2).
+-- 4.7, 4.8.2 and 5.4.2).
 use Rattle.std.specs.Prelude.{ℕ, Bool, true, ◌&&◌, List, [], ◌∷◌, ◌++◌, map, filter, Option, Some, None}
 use Rattle.std.specs.Prelude.{slice_index_or, slice_set, if◌then◌else◌}
 use Rattle.std.specs.List.{list_all, list_any}
@@ -19,7 +19,8 @@ use Rattle.mqtt5_control.specs.declared.connack.ConnectReturnCode.{ConnectReturn
 use Rattle.mqtt5_control.specs.declared.connack.ConnectReturnCode.TheVariants as return_codes
 use Rattle.mqtt5_codec.specs.declared.packet.Packet.{Packet}
 use Rattle.mqtt5_codec.specs.declared.packet.Packet.TheVariants as packets
-use Rattle.mqtt5_network.specs.Asking.{code_of}
+use Rattle.mqtt5_network.specs.Subscriptions.{pattern_in}
+use Rattle.mqtt5_network.specs.Asking.{share_of, code_of}
 
 -- of a user: the filters within which it publishes, and those within which it subscribes
 pub record Rights : Type 0 where
@@ -57,9 +58,13 @@ abbrev pub may_publish : Option ℕ → List Rights → List ℕ → Bool
 may_publish None rs t = true
 may_publish (Some u) rs t = is_utf8 t && is_within t (rights_at u rs).publishes
 
+-- of a shared subscription by the filter behind the share name (4.8.2)
+abbrev pub asked_pattern : Filter → Utf8
+asked_pattern f = pattern_in (share_of f.path) f.path
+
 abbrev pub may_subscribe : Option ℕ → List Rights → Filter → Bool
 may_subscribe None rs f = true
-may_subscribe (Some u) rs f = is_within f.path.bytes (rights_at u rs).subscribes
+may_subscribe (Some u) rs f = is_within (asked_pattern f).bytes (rights_at u rs).subscribes
 
 -- whether it may do all that a packet asks for
 abbrev pub may_do : Option ℕ → List Rights → Packet → Bool

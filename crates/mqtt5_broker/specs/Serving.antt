@@ -1,5 +1,5 @@
 -- What a broker makes of the packets of its clients (MQTT 5.0 sections 3.1.2.10, 3.1.4, 3.2, 3.12,
--- 3.14, 4.13 and 5.4.2).
+-- 3.14, 4.8.2, 4.13 and 5.4.2).
 use Rattle.std.specs.Prelude.{ℕ, ◌*◌, ◌==◌, Bool, true, false, not, ◌||◌, List, [], ◌∷◌}
 use Rattle.std.specs.Prelude.{Option, Some, None, option_map, if◌then◌else◌, slice_set, length}
 use Rattle.std.specs.Option.{option_to_list}
@@ -27,6 +27,8 @@ use Rattle.mqtt5_broker.specs.Broker.{loses_client, leaves_client, refuses, stay
 use Rattle.mqtt5_broker.specs.Broker.{member_at, has_ended, numbers, number_in}
 use Rattle.mqtt5_broker.specs.Broker.{assigned_name, number_after, user_at, owner_at, is_same}
 use Rattle.mqtt5_broker.specs.Rights.{may_do, denial, suback_for, part_of, will_denial}
+use Rattle.mqtt5_broker.specs.Groups.{groups_before, sessions_before, groups_after, sessions_after}
+use Rattle.mqtt5_broker.specs.Groups.{groups_without, sessions_without}
 use Rattle.mqtt5_broker.specs.Wills.{will_of, delay_in}
 use Rattle.mqtt5_broker.specs.Judging.{first_of, client_fault, first_code, connect_fault}
 use Rattle.mqtt5_broker.specs.Judging.{new_expiry}
@@ -34,11 +36,20 @@ use Rattle.mqtt5_broker.specs.Bounds.{has_room, quota_fault}
 
 -- ---- a client that is connected
 
--- a packet comes to its session, and what is sent back is written (4.3)
+-- a packet comes to its session, where a publish finds the turns of shared subscriptions with the next
+-- ones, and a Subscribe or an Unsubscribe changes who takes part (4.3, 4.8.2)
+abbrev pub comes_to_session : ℕ → Packet → Broker → Broker
+comes_to_session i x b = record b {
+  sessions =
+      sessions_after i x b.groups (arrives i x (sessions_before x b.groups b.sessions));
+  groups = groups_after i x (groups_before x b.groups b.sessions);
+}
+
+-- and what is sent back is written
 unfoldable pub arrives_from : ℕ → ℕ → Packet → Broker → Broker
 arrives_from c i x b =
-    on_connection c (written_all (replies i x b.sessions))
-    (record b { sessions = arrives i x b.sessions })
+    on_connection c (written_all (replies i x (sessions_before x b.groups b.sessions)))
+    (comes_to_session i x b)
 
 -- it asks for more than its user may do: a publish comes to no session, and of a Subscribe what the user
 -- may subscribe to does
@@ -47,7 +58,7 @@ denies user c i (packets.Publish p) b =
     on_connection c (written_all (option_to_list (denial p.qos p.pkid))) b
 denies user c i (packets.Subscribe s) b =
     on_connection c (written (suback_for user b.rights s))
-    (record b { sessions = arrives i (packets.Subscribe (part_of user b.rights s)) b.sessions })
+    (comes_to_session i (packets.Subscribe (part_of user b.rights s)) b)
 denies user c i other b = b
 
 -- what it asks for is done, where the user whose session it has may do that
@@ -136,14 +147,11 @@ some_length n = if n == 0 then None else Some n
 abbrev pub given_name : Bool → Utf8 → Option Utf8
 given_name given name = if given then Some name else None
 
--- what a ConnAck says: these, and that there are no subscription identifiers (3.2.2.3.12) and no
--- shared subscriptions (3.2.2.3.13)
+-- what a ConnAck says
 abbrev pub offers : ℕ → Bool → Connect → ConnAckProperties
 offers longest given k = record no_connack_properties {
   max_packet_size = some_length longest;
   assigned_client_identifier = given_name given k.client_id;
-  subscription_identifiers_available = Some 0;
-  shared_subscription_available = Some 0;
 }
 
 -- whether the broker has a session of the client (3.2.2.1.1)
@@ -196,8 +204,10 @@ starts_anew i k b =
 -- then that one ends; and it is known by what it says now, of the same user
 unfoldable pub begins : ℕ → Bool → Connect → Option LastWill → Broker → Broker
 begins i anew k will b = record b {
-  sessions = if anew then ends i b.sessions else b.sessions;
+  sessions =
+      if anew then sessions_without i b.groups (ends i b.sessions) else b.sessions;
   members = slice_set b.members i (Some (member_of (owner_at i b.members) k will));
+  groups = if anew then groups_without i b.groups else b.groups;
 }
 
 -- one that is known

@@ -4,6 +4,7 @@ use Rattle.std.specs.Prelude.{◌≡◌, ℕ, zero, suc, true, List, [], ◌∷�
 use Rattle.std.specs.List.{All}
 use Rattle.mqtt5_base.specs.Texts.{Utf8}
 use Rattle.mqtt5_network.specs.declared.subscription.Subscription.{Subscription}
+use Rattle.mqtt5_network.specs.Subscriptions.{pattern_of}
 use Rattle.mqtt5_sessions.specs.Sessions.{Sessions, ClientState}
 use Rattle.mqtt5_broker.specs.Rights.{rights_at, is_within}
 use Rattle.mqtt5_broker.specs.Broker.{Broker, member_at, owner_at}
@@ -19,7 +20,7 @@ subscriptions_at i s = subscriptions_in i s.clients
 
 -- the filter of each lies within one of these
 abbrev pub AreWithin : List Utf8 → List Subscription → Type 0
-AreWithin fs ss = All (λ (s : Subscription). is_within s.topic_filter.bytes fs ≡ true) ss
+AreWithin fs ss = All (λ (s : Subscription). is_within (pattern_of s).bytes fs ≡ true) ss
 
 -- as many clients are kept as have numbers; a number that nobody has, has no subscriptions; and each of
 -- a client that connected as a user lies within what that user may subscribe to

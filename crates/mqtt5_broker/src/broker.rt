@@ -11,6 +11,7 @@ ghost use Rattle.mqtt5_broker.specs.Receiving.{comes_of, receives_now, receives,
 use crate::bounds::{Bounds, no_bounds};
 use crate::connection::Connection;
 use crate::connections::{client_at, hold_at, is_open_at, write_some_at};
+use crate::groups::Group;
 use crate::member::{Member, name_in};
 use crate::rights::Rights;
 use bytes::BytesMut;
@@ -37,14 +38,15 @@ pub struct Limits {
     pub wait: u32,
 }
 
-/// A broker: the sessions of its clients, who has them, its connections, which are numbers of the caller's, and what its users may
-/// do (MQTT 5.0 sections 4 and 5.4).
+/// A broker: the sessions of its clients, who has them, its connections, which are numbers of the caller's, what its users may do,
+/// and who takes part in shared subscriptions (MQTT 5.0 sections 4 and 5.4).
 #[derive(Debug, Drop)]
 pub struct Broker {
     pub(super) sessions: Sessions,
     pub(super) members: Vec<Option<Member>>,
     pub(super) connections: Vec<Connection>,
     pub(super) rights: Vec<Rights>,
+    pub(super) groups: Vec<Group>,
     pub(super) limit: NonZeroU16,
     pub(super) longest: u32,
     pub(super) wait: u32,
@@ -75,6 +77,7 @@ impl Model for Broker {
       members = a.members.items;
       connections = a.connections.items;
       rights = a.rights.items;
+      groups = a.groups.items;
       limit = non_zero_u16_get a.limit;
       longest = a.longest;
       wait = a.wait;
@@ -113,6 +116,7 @@ impl Broker {
           members = [];
           connections = replicate limits.now.connections closed;
           rights = [];
+          groups = [];
           limit = non_zero_u16_get limits.now.ids;
           longest = limits.now.longest;
           wait = limits.now.wait;
@@ -126,6 +130,7 @@ impl Broker {
             members: Vec::new(alloc),
             connections: none_of(alloc, limits.connections)?,
             rights: Vec::new(alloc),
+            groups: Vec::new(alloc),
             limit: limits.ids,
             longest: limits.longest,
             wait: limits.wait,

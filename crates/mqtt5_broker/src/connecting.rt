@@ -13,6 +13,7 @@ use crate::connections::{
     Terms, client_at, connection_of, hear_at, is_open_at, own_at, refuse_at, shut_at, tell_at,
     user_of, welcome_at,
 };
+use crate::groups::{give_all, leave_all};
 use crate::judging::connect_fault;
 use crate::member::{
     Member, assigned_name, free_number, has_ended_at, is_same, longest_of, member_of, number_after,
@@ -46,8 +47,7 @@ fn given_name(given: bool, name: &Text) -> Result<Option<Text>, AllocError>
     }
 }
 
-/// What a ConnAck says: these, and that there are neither subscription identifiers nor shared subscriptions (3.2.2.3.12 and
-/// 3.2.2.3.13). Err where memory is refused.
+/// What a ConnAck says. Err where memory is refused.
 fn offers(
     alloc: Global,
     longest: u32,
@@ -60,8 +60,6 @@ fn offers(
     let mut offers = ConnAckProperties::new(alloc);
     offers.max_packet_size = some_length(longest);
     offers.assigned_client_identifier = name;
-    offers.subscription_identifiers_available = Some(0);
-    offers.shared_subscription_available = Some(0);
     Ok(offers)
 }
 
@@ -216,6 +214,8 @@ impl Broker {
         let member = member_of(owner, connect, will)?;
         if anew {
             self.sessions.end(alloc, client)?;
+            leave_all(&mut self.groups, client);
+            give_all(&mut self.sessions, self.groups.as_slice());
         }
         if client < self.members.len() {
             self.members[client] = Some(member);

@@ -2,13 +2,14 @@
 
 ghost use Rattle.std.specs.Prelude.{◌≡◌};
 ghost use Rattle.std.specs.List.{list_any};
-ghost use Rattle.mqtt5_broker.specs.Judging.{is_topic_text, is_topic, properties_fault, topic_fault, publish_fault, is_shared, is_malformed, identifier_fault, filters_fault, subscribe_fault, packet_fault, is_zero_or_none, new_expiry, expiry_fault, goodbye_fault, client_fault, is_zero, is_short, settings_fault, will_fault, answer_length, connect_fault};
+ghost use Rattle.mqtt5_broker.specs.Judging.{is_topic_text, is_topic, properties_fault, topic_fault, publish_fault, is_shared, is_wildcard, is_share_name, is_share_at, is_share, is_malformed, is_local_share, identifier_fault, filters_fault, subscribe_fault, packet_fault, is_zero_or_none, new_expiry, expiry_fault, goodbye_fault, client_fault, is_zero, is_short, settings_fault, will_fault, answer_length, connect_fault};
 
 use mqtt5_base::{valid_filter, valid_topic};
 use mqtt5_codec::Packet;
 use mqtt5_connect::{Connect, ConnectProperties, LastWill};
 use mqtt5_control::{ConnectReturnCode, DisconnectProperties, DisconnectReasonCode};
 use mqtt5_publish::{Publish, PublishProperties};
+use mqtt5_router::slash_in;
 use mqtt5_subscribe::{Filter, Subscribe, SubscribeProperties};
 
 /// Whether a text can be the topic of a publish: it isn't empty, and has no wildcard (4.7).
@@ -72,17 +73,60 @@ fn is_shared(filter: &Filter) -> bool
     filter.path.as_bytes().starts_with("$share/".as_bytes())
 }
 
-/// Whether a text is no topic filter (4.7).
+/// Whether so many bytes are a share name, and others stand behind the slash (4.8.2).
+fn is_share_at(name: Option<usize>, bytes: &[u8]) -> bool
+    ensures { result ≡ is_share_at name bytes.now }
+{
+    match name {
+        None => false,
+        Some(n) => n < bytes.len() && n + 1 < bytes.len() && is_share_name(&bytes[..n]),
+    }
+}
+
+fn is_share_name(name: &[u8]) -> bool
+    ensures { result ≡ is_share_name name.now }
+{
+    !name.is_empty() && !has_wildcard(name)
+}
+
+fn has_wildcard(bytes: &[u8]) -> bool
+    ensures { result ≡ list_any is_wildcard bytes.now }
+{
+    bytes.iter().any(|byte| is_wildcard(*byte))
+}
+
+fn is_wildcard(byte: u8) -> bool
+    ensures { result ≡ is_wildcard byte }
+{
+    byte == b'#' || byte == b'+'
+}
+
+/// Whether bytes are a share name, a slash and more (4.8.2).
+fn is_share(bytes: &[u8]) -> bool
+    ensures { result ≡ is_share bytes.now }
+{
+    is_share_at(slash_in(bytes), bytes)
+}
+
+/// Whether a text is no topic filter (4.7, 4.8.2).
 fn is_malformed(filter: &Filter) -> bool
     ensures { result ≡ is_malformed filter.now }
 {
     !valid_filter(filter.path.as_str())
+        || (is_shared(filter) && !is_share(&filter.path.as_bytes()[7..]))
 }
 
-fn has_shared(filters: &[Filter]) -> bool
-    ensures { result ≡ list_any is_shared filters.now }
+/// Whether a filter is that of a shared subscription with No Local (3.8.3.1).
+fn is_local_share(filter: &Filter) -> bool
+    ensures { result ≡ is_local_share filter.now }
 {
-    filters.iter().any(|filter| is_shared(filter))
+    filter.nolocal && is_shared(filter)
+}
+
+fn has_local_share(filters: &[Filter]) -> bool
+    ensures { result ≡ list_any is_local_share filters.now }
+{
+    filters.iter().any(|filter| is_local_share(filter))
 }
 
 fn has_malformed(filters: &[Filter]) -> bool
@@ -94,11 +138,11 @@ fn has_malformed(filters: &[Filter]) -> bool
 fn filters_fault(filters: &[Filter]) -> Option<DisconnectReasonCode>
     ensures { result ≡ filters_fault filters.now }
 {
-    if has_shared(filters) {
-        return Some(DisconnectReasonCode::SharedSubscriptionNotSupported);
-    }
     if has_malformed(filters) {
         return Some(DisconnectReasonCode::TopicFilterInvalid);
+    }
+    if has_local_share(filters) {
+        return Some(DisconnectReasonCode::ProtocolError);
     }
     None
 }
@@ -108,8 +152,8 @@ fn identifier_fault(properties: &Option<SubscribeProperties>) -> Option<Disconne
 {
     match properties {
         Some(set) => {
-            if set.id.is_some() {
-                return Some(DisconnectReasonCode::SubscriptionIdentifiersNotSupported);
+            if is_zero_usize(set.id) {
+                return Some(DisconnectReasonCode::ProtocolError);
             }
             None
         }
@@ -117,8 +161,16 @@ fn identifier_fault(properties: &Option<SubscribeProperties>) -> Option<Disconne
     }
 }
 
-/// Why a Subscribe is refused, if it is: SubscriptionIdentifiersNotSupported, SharedSubscriptionNotSupported,
-/// TopicFilterInvalid.
+fn is_zero_usize(number: Option<usize>) -> bool
+    ensures { result ≡ is_zero number }
+{
+    match number {
+        Some(number) => number == 0,
+        None => false,
+    }
+}
+
+/// Why a Subscribe is refused, if it is: ProtocolError, TopicFilterInvalid.
 fn subscribe_fault(subscribe: &Subscribe) -> Option<DisconnectReasonCode>
     ensures { result ≡ subscribe_fault subscribe.now }
 {
@@ -257,14 +309,14 @@ fn will_fault(will: &Option<LastWill>) -> Option<ConnectReturnCode>
     }
 }
 
-/// The length that the answer to a Connect needs: up to fourteen bytes, and up to 42 with a name that is given.
+/// The length that the answer to a Connect needs: up to ten bytes, and up to 38 with a name that is given.
 fn answer_length(connect: &Connect) -> u32
     ensures { result ≡ answer_length connect.now }
 {
     if connect.client_id.as_bytes().is_empty() {
-        42
+        38
     } else {
-        14
+        10
     }
 }
 

@@ -1,7 +1,7 @@
 //! What holds of the definitions of a broker.
 
 ghost use Rattle.std.specs.Prelude.{◌≡◌, ◌≢◌, ◌⊎◌, ◌++◌, [], ℕ, List, Option, Some, None, Bool, true, false, ◌==◌, length, max, replicate};
-ghost use Rattle.std.specs.List.{All};
+ghost use Rattle.std.specs.List.{All, Contains};
 ghost use Rattle.mqtt5_base.specs.Texts.{Utf8};
 ghost use Rattle.mqtt5_base.specs.Topics.{topic_matches};
 ghost use Rattle.mqtt5_base.specs.declared.error.Error.{Error};
@@ -15,7 +15,8 @@ ghost use Rattle.mqtt5_control.specs.declared.disconnect.DisconnectReasonCode.{D
 ghost use Rattle.mqtt5_codec.specs.declared.packet.Packet.{Packet};
 ghost use Rattle.mqtt5_codec.specs.declared.packet.Packet.TheVariants as packets;
 ghost use Rattle.mqtt5_network.specs.declared.subscription.Subscription.{Subscription};
-ghost use Rattle.mqtt5_network.specs.Subscriptions.{forwarded_to};
+ghost use Rattle.mqtt5_network.specs.declared.subscription.Share.{Share};
+ghost use Rattle.mqtt5_network.specs.Subscriptions.{is_of, holds_for, forwarded_to};
 ghost use Rattle.mqtt5_network.specs.Retained.{copies_for};
 ghost use Rattle.mqtt5_sessions.specs.Runs.{SessionEvent, after_events};
 ghost use Rattle.mqtt5_broker.specs.Cut.{cut_up, goes_on_as, Breaks};
@@ -33,6 +34,7 @@ ghost use Rattle.mqtt5_broker.specs.declared.asking.Asks.TheVariants as asks;
 ghost use Rattle.mqtt5_broker.specs.Asking.{holds, asks_at};
 ghost use Rattle.mqtt5_broker.specs.Calls.{Call, after_calls};
 ghost use Rattle.mqtt5_broker.specs.Within.{subscriptions_at, IsWithin};
+ghost use Rattle.mqtt5_broker.specs.Sharing.{turn_in, IsShared};
 
 use mqtt5_base::{front_laws, matching_laws};
 
@@ -126,6 +128,24 @@ pub fn any_calls_law()
         × ((after_calls calls b).sessions ≡ after_events es b.sessions) }
     ensures standing { (calls : List Call) (b : Broker)
         → IsStanding b → IsStanding (after_calls calls b) }
+{}
+
+/// A law, which does nothing when it is called: of those who have a shared subscription one at most has its turn, so a message that
+/// its filter matches is forwarded to one of them at most under it (4.8.2).
+pub fn sharing_law()
+    // Who has the turn is the first of the group: so it is in a new broker, and after any calls, of which none was refused for want
+    // of memory.
+    ensures new { (b : Broker) → b.sessions.clients ≡ [] → b.groups ≡ [] → IsShared b }
+    ensures calls { (calls : List Call) (b : Broker) → IsShared b → IsShared (after_calls calls b) }
+    // And then two clients that have the turn in the subscription of a filter are one.
+    ensures one { (f : Utf8) (i j : ℕ) (s t : Subscription) (b : Broker)
+        → IsShared b
+        → Contains (subscriptions_at i b.sessions) s → Contains (subscriptions_at j b.sessions) t
+        → is_of f s ≡ true → is_of f t ≡ true
+        → turn_in s.share ≡ true → turn_in t.share ≡ true → i ≡ j }
+    // Of a shared subscription that hasn't its turn nothing is forwarded.
+    ensures waits { (own : Bool) (s : Subscription) (h : Share) (p : Publish)
+        → s.share ≡ Some h → turn_in s.share ≡ false → holds_for own s p ≡ false }
 {}
 
 /// A law, which does nothing when it is called: what is forwarded to a client that connected as a user, or copied for it of what is

@@ -9,6 +9,7 @@ mod clock;
 mod connecting;
 mod connection;
 mod connections;
+mod groups;
 mod judging;
 mod laws;
 mod member;
@@ -22,5 +23,5 @@ pub use bounds::Bounds;
 pub use broker::{Broker, Limits};
 pub use laws::{
     acts_law, any_calls_law, asking_law, clock_law, connections_law, fault_law, pieces_law,
-    rights_law,
+    rights_law, sharing_law,
 };

@@ -4,7 +4,7 @@ ghost use Rattle.std.specs.Prelude.{◌≡◌, ◌&&◌, map, filter, length, If
 ghost use Rattle.std.specs.List.{list_all};
 ghost use Rattle.std.specs.Str.{is_utf8};
 ghost use Rattle.mqtt5_base.specs.Texts.{text_of};
-ghost use Rattle.mqtt5_broker.specs.Rights.{no_rights, publishing, subscribing, is_within, may_publish, may_subscribe, may_do, denial, code_for, suback_for, part_of, will_denial};
+ghost use Rattle.mqtt5_broker.specs.Rights.{no_rights, publishing, subscribing, is_within, may_publish, asked_pattern, may_subscribe, may_do, denial, code_for, suback_for, part_of, will_denial};
 ghost use Rattle.mqtt5_broker.specs.Broker.{knows_user, lets};
 
 use crate::broker::Broker;
@@ -13,6 +13,7 @@ use mqtt5_codec::Packet;
 use mqtt5_connect::LastWill;
 use mqtt5_control::ConnectReturnCode;
 use mqtt5_publish::{PubAck, PubAckReason, PubRec, PubRecReason};
+use mqtt5_router::shared_filter;
 use mqtt5_session::StateError;
 use mqtt5_subscribe::{Filter, SubAck, Subscribe, SubscribeReasonCode};
 use std::alloc::{AllocError, Global};
@@ -123,10 +124,29 @@ fn may_subscribe(user: Option<usize>, rights: &[Rights], filter: &Filter) -> boo
     ensures { result ≡ may_subscribe user rights.now filter.now }
 {
     match user {
-        Some(user) => {
-            user < rights.len() && is_within(filter.path.as_str(), rights[user].subscribes())
-        }
+        Some(user) => user < rights.len() && is_filter_within(filter, rights[user].subscribes()),
         None => true,
+    }
+}
+
+/// Whether the topics that a filter is matched with lie within these: of a shared subscription the filter behind the share name
+/// (4.8.2).
+fn is_filter_within(filter: &Filter, filters: &[Text]) -> bool
+    ensures { result ≡ is_within (asked_pattern filter.now).bytes filters.now }
+{
+    match shared_filter(filter.path.as_bytes()) {
+        None => is_within(filter.path.as_str(), filters),
+        Some(bytes) => is_made_within(bytes, filters),
+    }
+}
+
+/// So the text of bytes, or the empty one, where they are none.
+fn is_made_within(bytes: &[u8], filters: &[Text]) -> bool
+    ensures { result ≡ is_within (text_of bytes.now).bytes filters.now }
+{
+    match std::str::from_utf8(bytes) {
+        Ok(text) => is_within(text, filters),
+        Err(_) => is_within("", filters),
     }
 }
 

@@ -1,15 +1,18 @@
 //! What a broker makes of the packets of a client that is connected.
 
-ghost use Rattle.std.specs.Prelude.{◌≡◌, Some, OnOk, OnErr, IfErr};
+ghost use Rattle.std.specs.Prelude.{◌≡◌, Some, OnOk, OnErr, IfOk, IfErr};
 ghost use Rattle.mqtt5_codec.specs.declared.packet.Packet.TheVariants as packets;
 ghost use Rattle.std.specs.Option.{option_to_list};
 ghost use Rattle.mqtt5_control.specs.declared.disconnect.DisconnectReasonCode.TheVariants as reasons;
 ghost use Rattle.mqtt5_broker.specs.Connection.{written, written_all, shut, told};
 ghost use Rattle.mqtt5_broker.specs.Broker.{forgets, loses_client, leaves_client, publishes_will, refuses, dismisses, dismisses_of, on_connection, stays_at};
-ghost use Rattle.mqtt5_broker.specs.Serving.{kind_of, arrives_from, denies, brings, disconnects, fault_of, serves, serves_as};
+ghost use Rattle.mqtt5_sessions.specs.Sessions.{arrives, replies};
+ghost use Rattle.mqtt5_broker.specs.Groups.{gives_all, groups_before, sessions_before};
+ghost use Rattle.mqtt5_broker.specs.Serving.{kind_of, comes_to_session, arrives_from, denies, brings, disconnects, fault_of, serves, serves_as};
 
 use crate::broker::Broker;
 use crate::connections::{client_at, is_open_at, shut_at, tell_at, write_at, write_some_at};
+use crate::groups::{Group, give_all, leave_all, regrouped, turn_to};
 use crate::judging::{client_fault, new_expiry};
 use crate::member::{away_at, expiring_at, gone_at, owner_at, stays_at, undue_at};
 use crate::rights::{denial, may_do, part_of, suback_for};
@@ -52,6 +55,8 @@ impl Broker {
         ensures left { OnErr result (self.new ≡ self.old) }
     {
         self.sessions.end(alloc, client)?;
+        leave_all(&mut self.groups, client);
+        give_all(&mut self.sessions, self.groups.as_slice());
         if client < self.members.len() {
             self.members[client] = None;
         }
@@ -178,6 +183,67 @@ impl Broker {
         Ok(())
     }
 
+    /// A packet of a client comes to its session, where a publish finds the turns of shared subscriptions with the next ones, and a
+    /// Subscribe or an Unsubscribe changes who takes part: what is sent back, if anything is (4.3, 4.8.2). S12.
+    #[tactic(auto, using(crate::proofs::Turned::regrouped_before))]
+    fn come_to_session(
+        &mut self,
+        alloc: Global,
+        client: usize,
+        packet: Packet,
+    ) -> Result<Option<Packet>, StateError>
+        ensures ok { OnOk result (self.new ≡ comes_to_session client packet self.old) }
+        ensures reply { IfOk result (λ r. option_to_list r
+            ≡ replies client packet (sessions_before packet self.old.groups self.old.sessions)) }
+        ensures memory { IfErr result (λ e. e ≡ StateError.OutOfMemory) }
+    {
+        match regrouped(alloc, self.groups.as_slice(), client, &packet)? {
+            Some(groups) => self.regroup(alloc, client, packet, groups),
+            None => {
+                self.turn_for(&packet);
+                Ok(self.sessions.arrive(alloc, client, packet)?)
+            }
+        }
+    }
+
+    /// One comes that changes who takes part, as these do then. S12.
+    fn regroup(
+        &mut self,
+        alloc: Global,
+        client: usize,
+        packet: Packet,
+        groups: Vec<Group>,
+    ) -> Result<Option<Packet>, StateError>
+        ensures ok { OnOk result (self.new ≡ record self.old {
+          sessions = gives_all groups.items (arrives client packet self.old.sessions);
+          groups = groups.items;
+        }) }
+        ensures reply { IfOk result
+            (λ r. option_to_list r ≡ replies client packet self.old.sessions) }
+        ensures memory { IfErr result (λ e. e ≡ StateError.OutOfMemory) }
+    {
+        let reply = self.sessions.arrive(alloc, client, packet)?;
+        self.groups = groups;
+        give_all(&mut self.sessions, self.groups.as_slice());
+        Ok(reply)
+    }
+
+    /// Before a publish comes the turns go to the next clients that are connected.
+    fn turn_for(&mut self, packet: &Packet)
+        ensures { self.new ≡ record self.old {
+          sessions = sessions_before packet.now self.old.groups self.old.sessions;
+          groups = groups_before packet.now self.old.groups self.old.sessions;
+        } }
+    {
+        if let Packet::Publish(publish) = packet {
+            turn_to(
+                self.groups.as_mut_slice(),
+                &mut self.sessions,
+                publish.topic.as_slice(),
+            );
+        }
+    }
+
     /// A packet comes to the session of a client, and what is sent back is written. S12.
     #[tactic(auto, unfolding(crate::specs::Serving::arrives_from))]
     fn arrive(
@@ -190,7 +256,7 @@ impl Broker {
         ensures ok { OnOk result (self.new ≡ arrives_from connection client packet self.old) }
         ensures memory { IfErr result (λ e. e ≡ StateError.OutOfMemory) }
     {
-        let reply = self.sessions.arrive(alloc, client, packet)?;
+        let reply = self.come_to_session(alloc, client, packet)?;
         let written = write_some_at(&mut self.connections, connection, &reply);
         drop(reply);
         written?;
@@ -214,7 +280,7 @@ impl Broker {
         let rights = self.rights.as_slice();
         let answer = suback_for(alloc, user, rights, &subscribe)?;
         let part = Packet::Subscribe(part_of(user, rights, subscribe));
-        let reply = self.sessions.arrive(alloc, client, part)?;
+        let reply = self.come_to_session(alloc, client, part)?;
         drop(reply);
         let written = write_at(&mut self.connections, connection, &answer);
         drop(answer);
