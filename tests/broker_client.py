@@ -47,6 +47,16 @@ def receive_maximum(n):
     return b"\x21" + struct.pack(">H", n)
 
 
+def longest_packet(n):
+    """A Maximum Packet Size (3.1.2.11.4)."""
+    return b"\x27" + struct.pack(">I", n)
+
+
+def identifier(n):
+    """A Subscription Identifier (3.3.2.3.8, 3.8.2.1.2)."""
+    return b"\x0b" + number(n)
+
+
 @dataclass
 class Will:
     topic: str
@@ -77,7 +87,8 @@ def publish_frame(topic, payload, qos=0, retain=0, id=0, dup=0, properties=b""):
 
 
 def subscribe_frame(id, filters, properties=b""):
-    """A Subscribe (3.8): filters with their options, which are the QoS, 4 for No Local, and 16 and 32 for Retain Handling."""
+    """A Subscribe (3.8): filters with their options, which are the QoS, 4 for No Local, 8 for Retain As Published, and 16 and 32
+    for Retain Handling."""
     return frame(0x82, struct.pack(">H", id) + block(properties) + b"".join(text(f) + bytes([o]) for f, o in filters))
 
 
@@ -157,6 +168,10 @@ class Message:
     dup: int
     id: int
     properties: bytes
+
+    def identifiers(self):
+        """The identifiers of the subscriptions that it comes for (3.3.2.3.8)."""
+        return [value for kind, value in properties_of(self.properties) if kind == 0x0B]
 
 
 def message_of(first, body):

@@ -1,5 +1,5 @@
-// mqtt.js at a broker on this machine: each QoS both ways, properties, a retained message, a will, and a session that is kept.
-// Usage: broker_mqttjs.js PORT
+// mqtt.js at a broker on this machine: each QoS both ways, properties, a retained message, a will, a session that is kept, and
+// subscription identifiers. Usage: broker_mqttjs.js PORT
 'use strict'
 const assert = require('assert')
 const mqtt = require(process.env.MQTTJS || '/usr/share/nodejs/mqtt')
@@ -17,8 +17,8 @@ function connect(name, more = {}) {
   })
   client.next = () => came.length ? Promise.resolve(came.shift()) : new Promise(done => waiting.push(done))
   client.says = (...words) => new Promise((done, fail) => client.publish(...words, error => error ? fail(error) : done()))
-  client.asks = (topic, qos) => new Promise((done, fail) =>
-    client.subscribe(topic, { qos }, (error, granted) => error ? fail(error) : done(granted)))
+  client.asks = (topic, qos, properties = {}) => new Promise((done, fail) =>
+    client.subscribe(topic, { qos, properties }, (error, granted) => error ? fail(error) : done(granted)))
   client.ends = () => new Promise(done => client.end(false, done))
   return new Promise((done, fail) => {
     client.on('error', fail)
@@ -60,6 +60,12 @@ async function main() {
   const lost = await connect('js-will', { will: { topic: 'js/will', payload: 'gone', qos: 1 } })
   lost.stream.destroy()
   assert.strictEqual((await sub.next()).payload.toString(), 'gone')
+
+  for (const subscriptionIdentifier of [1, 268435455]) {
+    await sub.asks('js/known', 1, { subscriptionIdentifier })
+    await pub.says('js/known', 'x', { qos: 1 })
+    assert.strictEqual((await sub.next()).properties.subscriptionIdentifier, subscriptionIdentifier)
+  }
   await sub.ends()
   await pub.ends()
   console.log('done')

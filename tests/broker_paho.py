@@ -1,5 +1,5 @@
-"""Paho 1 for Python at a broker on this machine: each QoS both ways, properties, a retained message, a will, and a session that is
-kept. Usage: broker_paho.py PORT"""
+"""Paho 1 for Python at a broker on this machine: each QoS both ways, properties, a retained message, a will, a session that is kept,
+and a shared subscription. Usage: broker_paho.py PORT"""
 
 import queue
 import sys
@@ -86,5 +86,15 @@ sub.subscribe("paho/will", 1)
 One("paho-will", will=("paho/will", "gone", 1)).is_lost()
 assert sub.next().payload == b"gone"
 sub.end()
+
+pair = [One("paho-one"), One("paho-two")]
+for one in pair:
+    one.subscribe("$share/g/paho/shared", 2)
+for i in range(10):
+    pub.publish("paho/shared", str(i), 2)
+came = [[int(one.next().payload) for _ in range(5)] for one in pair]
+assert sorted(came[0] + came[1]) == list(range(10)), came
+for one in pair:
+    one.end()
 pub.end()
 print("done")

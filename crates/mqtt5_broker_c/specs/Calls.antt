@@ -68,6 +68,7 @@ may_begin c b =
 abbrev pub fresh : ℕ → ℕ → ℕ → ℕ → Broker
 fresh connections longest ids wait = record {
   sessions = record { clients = []; retained = [] };
+  groups = [];
   members = [];
   connections = replicate connections closed;
   rights = [];
