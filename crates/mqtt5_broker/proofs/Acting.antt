@@ -19,17 +19,18 @@ use Rattle.mqtt5_broker.specs.declared.serving.Kind.{Kind}
 use Rattle.mqtt5_broker.specs.declared.serving.Kind.TheVariants as kinds
 use Rattle.mqtt5_broker.specs.Moments.{has_come}
 use Rattle.mqtt5_broker.specs.Cut.{Cut, Ending, Holds, Breaks, cut_up}
-use Rattle.mqtt5_broker.specs.Connection.{Connection, closed, shut, disconnect, taken_by, written, written_all, emptied, connection_at, connection_of}
+use Rattle.mqtt5_broker.specs.Connection.{Connection, closed, shut, disconnect, taken_by, learned_topic, written, written_all, emptied, connection_at, connection_of}
 use Rattle.mqtt5_broker.specs.Broker.{Broker, at_moment, on_connection, on_member, away, gone, expiring, undue, member_at, has_ended, will_is_due, forgets, loses_client, leaves_client, publishes_will, stays_at, refuses, dismisses, dismisses_of, numbers, number_in, free_number, number_of, assigned_name, number_after, user_at, owner_at}
 use Rattle.mqtt5_broker.specs.Wills.{will_of}
 use Rattle.mqtt5_broker.specs.Rights.{may_do, denial, suback_for, part_of}
 use Rattle.mqtt5_broker.specs.Groups.{sessions_before, groups_without, sessions_without}
 use Rattle.mqtt5_sessions.specs.Counts.{counts}
-use Rattle.mqtt5_broker.specs.Serving.{kind_of, comes_to_session, arrives_from, denies, brings, goes, disconnects, serves_as, serves_by, fault_of, serves, refusal, receive_max_of, longest_of, silence_of, member_of, welcome, comes_in, displaced, displaces, starts_anew, begins, enters, turns_away, enters_if_room, assigns_by, assigns, is_its, admits_as, admits, entry_fault, connects_by, connects, begins_with, takes_of, takes, passes_of, passes_on}
+use Rattle.mqtt5_broker.specs.Serving.{kind_of, comes_to_session, arrives_from, denies, brings, goes, disconnects, serves_as, serves_by, fault_of, serves, refusal, receive_max_of, longest_of, silence_of, member_of, welcome, comes_in, displaced, displaces, starts_anew, begins, enters, turns_away, enters_if_room, assigns_by, assigns, is_its, admits_as, admits, entry_fault, connects_by, connects, begins_with, takes_under, takes_by, takes_of, takes, passes_of, passes_on}
+use Rattle.mqtt5_broker.specs.Aliases.{alias_used, unaliased, named}
 use Rattle.mqtt5_broker.specs.Receiving.{takes_all, reason_for, ends_with, comes_of, receives_now, receives}
 use Rattle.mqtt5_broker.specs.Bounds.{has_room, exceeds, ends_of, trims, trims_all}
 use Rattle.mqtt5_broker.specs.Clock.{for_each, silences, silences_all, expires, ticks, ends_now, shuts_down}
-use Rattle.mqtt5_broker.specs.Acts.{Act, Session, Know, Name, Moment, Hear, Write, Shut, Welcome, Hold, Empty, act}
+use Rattle.mqtt5_broker.specs.Acts.{Act, Session, Know, Name, Moment, Hear, Write, Shut, Welcome, Learn, Hold, Empty, act}
 use Rattle.mqtt5_broker.proofs.Steps.{IsPlain, Step, Do, Comes, Leaves, step, steps}
 
 -- ---- lists of steps
@@ -164,11 +165,11 @@ comes_done : (d i : ℕ) (present given : Bool) (q : Connect) (will : Option Las
 unfolding comes_in
 comes_done d i present given q will b =
     let e : Act = Session (runs.Comes i (Some (receive_max_of q.properties)) (option_map will_of will)) in
-    let w : Act = Welcome d i (longest_of q.properties) (silence_of q) b.moment in
+    let w : Act = Welcome d i (longest_of q.properties) (silence_of b.keep_alive_max q) b.moment in
     let ps : List Packet = welcome i present given q b in
     let came : Broker = act e b in
     let here : Broker = act w came in
-    done_as b _ _ (on_after d (taken_by i (longest_of q.properties) (silence_of q) b.moment) (written_all ps) came) (done_more b here _ (Do e tt ∷ Do w tt ∷ [], refl) (all_done ps d here))
+    done_as b _ _ (on_after d (taken_by i (longest_of q.properties) (silence_of b.keep_alive_max q) b.moment) (written_all ps) came) (done_more b here _ (Do e tt ∷ Do w tt ∷ [], refl) (all_done ps d here))
 
 displaced_done : (o : Option ℕ) (b : Broker) → Done b (displaced o b)
 displaced_done None b = done_none b
@@ -240,9 +241,20 @@ begins_with_done : (d : ℕ) (x : Packet) (b : Broker) → Done b (begins_with d
 begins_with_done d (packets.Connect q will login) b = connects_done d q will b
 begins_with_done d other b = done_one (Shut d) tt b
 
+under_done : (a d i : ℕ) (x : Packet) (b : Broker) → Done b (takes_under a d i x b)
+under_done a d i (packets.Publish p) b =
+    let told : Broker = act (Learn d a p.topic) b in
+    done_if (length p.topic == 0) b _ _ (serves_done d i (packets.Publish (named (learned_topic a (connection_at d b.connections)) p)) b)
+    (done_more b told _ (done_one (Learn d a p.topic) tt b) (serves_done d i (packets.Publish (unaliased p)) told))
+under_done a d i other b = serves_done d i other b
+
+alias_done : (o : Option ℕ) (d i : ℕ) (x : Packet) (b : Broker) → Done b (takes_by o d i x b)
+alias_done None d i x b = serves_done d i x b
+alias_done (Some a) d i x b = under_done a d i x b
+
 of_done : (o : Option ℕ) (d : ℕ) (x : Packet) (b : Broker) → Done b (takes_of o d x b)
 of_done None d x b = begins_with_done d x b
-of_done (Some i) d x b = serves_done d i x b
+of_done (Some i) d x b = alias_done (alias_used b.alias_max x) d i x b
 
 takes_done : (d : ℕ) (x : Packet) (b : Broker) → Done b (takes d x b)
 unfolding takes

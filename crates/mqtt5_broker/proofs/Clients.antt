@@ -103,6 +103,32 @@ changes_fewer i f new s h = record {
     by j (inl e) = inr (changes_subscriptions i f new s j ∙ e)
     by j (inr e) = pick j e.1 e.2 e.3 (h e.1)
 
+-- ---- that have the same
+
+abbrev pub Same : Sessions → Sessions → Type 0
+Same s t = (j : ℕ) → subscriptions_at j t ≡ subscriptions_at j s
+
+changes_same : (i : ℕ) (f : ClientState → ClientState) (new : ClientState → List Publish) (s : Sessions) → ((c : ClientState) → subscriptions_of (f c) ≡ subscriptions_of c) → Same s (changes i f new s)
+changes_same i f new s h j = by (changed f i j s.clients)
+  where
+    by : Changed f i j s.clients → subscriptions_at j (changes i f new s) ≡ subscriptions_at j s
+    by (inl e) = changes_subscriptions i f new s j ∙ e
+    by (inr e) = changes_subscriptions i f new s j ∙ e.3 ∙ h e.1 ∙ sym e.2
+
+pub loses_same : (i : ℕ) (s : Sessions) → Same s (loses i s)
+loses_same i s = changes_same i (λ (c : ClientState). record c { here = false; will = waiting c.will }) (λ (c : ClientState). lost_message c.will) s (λ c. refl)
+
+pub due_same : (i : ℕ) (s : Sessions) → Same s (is_due i s)
+due_same i s = changes_same i (λ (c : ClientState). record c { will = not_due c.here c.will }) (λ (c : ClientState). due_message c.here c.will) s (λ c. refl)
+
+pub leaves_same : (i : ℕ) (s : Sessions) → Same s (leaves i s)
+leaves_same i s = changes_same i (λ (c : ClientState). record c { here = false; will = left_will c.here c.will }) (λ c. []) s (λ c. refl)
+
+pub comes_same : (i : ℕ) (m : Option ℕ) (will : Option Will) (s : Sessions) → Same s (comes i m will s)
+comes_same i m will s = changes_same i (λ (c : ClientState). record { kept = taken_up m c.kept; here = true; will = will }) (λ (c : ClientState). replaced_message c.here c.will) s (λ c. refl)
+
+-- ---- and so no more
+
 pub loses_fewer : (i : ℕ) (s : Sessions) → Fewer s (loses i s)
 loses_fewer i s = changes_fewer i (λ (c : ClientState). record c { here = false; will = waiting c.will }) (λ (c : ClientState). lost_message c.will) s (λ c. inr refl)
 
@@ -135,6 +161,9 @@ here_subscriptions false k = refl
 
 pub passes_fewer : (i : ℕ) (s : Sessions) → Fewer s (passes i s)
 passes_fewer i s = changes_fewer i (λ (c : ClientState). record c { kept = passes_here c.here c.kept }) (λ c. []) s (λ c. inr (here_subscriptions c.here c.kept))
+
+pub passes_same : (i : ℕ) (s : Sessions) → Same s (passes i s)
+passes_same i s = changes_same i (λ (c : ClientState). record c { kept = passes_here c.here c.kept }) (λ c. []) s (λ c. here_subscriptions c.here c.kept)
 
 -- ---- one client more
 

@@ -15,12 +15,13 @@ use Rattle.mqtt5_sessions.specs.Sessions.{replies}
 use Rattle.mqtt5_broker.specs.declared.member.Member.{Member}
 use Rattle.mqtt5_broker.specs.declared.serving.Kind.{Kind}
 use Rattle.mqtt5_broker.specs.declared.serving.Kind.TheVariants as kinds
-use Rattle.mqtt5_broker.specs.Connection.{Connection, closed, shut, told, heard, taken_by, with_bytes, written, written_all, connection_at, connection_of}
+use Rattle.mqtt5_broker.specs.Connection.{Connection, closed, shut, told, heard, taken_by, learned, learned_topic, with_bytes, written, written_all, connection_at, connection_of}
 use Rattle.mqtt5_broker.specs.Broker.{Broker, on_connection, on_member, expiring, forgets, loses_client, leaves_client, stays_at, refuses, dismisses, dismisses_of, numbers, number_in, free_number, number_of, assigned_name, number_after, user_at, owner_at}
 use Rattle.mqtt5_broker.specs.Rights.{may_do, denial, suback_for}
 use Rattle.mqtt5_broker.specs.Groups.{sessions_before}
 use Rattle.mqtt5_broker.specs.Bounds.{has_room}
-use Rattle.mqtt5_broker.specs.Serving.{kind_of, arrives_from, denies, brings, goes, disconnects, serves_as, serves_by, fault_of, serves, refusal, longest_of, silence_of, member_of, welcome, comes_in, displaced, displaces, starts_anew, begins, enters, turns_away, enters_if_room, assigns_by, assigns, is_its, admits_as, admits, entry_fault, connects_by, connects, begins_with, takes_of, takes}
+use Rattle.mqtt5_broker.specs.Aliases.{alias_used, unaliased, named}
+use Rattle.mqtt5_broker.specs.Serving.{kind_of, arrives_from, denies, brings, goes, disconnects, serves_as, serves_by, fault_of, serves, refusal, longest_of, silence_of, member_of, welcome, comes_in, displaced, displaces, starts_anew, begins, enters, turns_away, enters_if_room, assigns_by, assigns, is_its, admits_as, admits, entry_fault, connects_by, connects, begins_with, takes_under, takes_by, takes_of, takes}
 use Rattle.mqtt5_broker.specs.Receiving.{takes_all}
 
 -- ---- connections
@@ -134,8 +135,8 @@ module _ (c n at : ℕ) where
   comes_keeps : (d i : ℕ) (present given : Bool) (q : Connect) (will : Option LastWill) (b : Broker) → Keeps c n at b → Keeps c n at (comes_in d i present given q will b)
   unfolding comes_in
   comes_keeps d i present given q will b k =
-      on_keeps d (λ (l : Connection). written_all (welcome i present given q b) (taken_by i (longest_of q.properties) (silence_of q) b.moment l)) _
-      (λ l h. all_held (welcome i present given q b) (taken_by i (longest_of q.properties) (silence_of q) b.moment l) ∙ h) (record { held = k.held; longest = k.longest; moment = k.moment })
+      on_keeps d (λ (l : Connection). written_all (welcome i present given q b) (taken_by i (longest_of q.properties) (silence_of b.keep_alive_max q) b.moment l)) _
+      (λ l h. all_held (welcome i present given q b) (taken_by i (longest_of q.properties) (silence_of b.keep_alive_max q) b.moment l) ∙ h) (record { held = k.held; longest = k.longest; moment = k.moment })
 
   displaced_keeps : (o : Option ℕ) (b : Broker) → Keeps c n at b → Keeps c n at (displaced o b)
   displaced_keeps None b k = k
@@ -195,9 +196,19 @@ module _ (c n at : ℕ) where
   begins_with_keeps d (packets.Connect q will login) b k = connects_keeps d q will b k
   begins_with_keeps d other b k = on_keeps d shut b (λ l h. refl) k
 
+  under_keeps : (a d i : ℕ) (x : Packet) (b : Broker) → Keeps c n at b → Keeps c n at (takes_under a d i x b)
+  under_keeps a d i (packets.Publish p) b k =
+      if_keeps (length p.topic == 0) _ _ (serves_keeps d i (packets.Publish (named (learned_topic a (connection_at d b.connections)) p)) b k)
+      (serves_keeps d i (packets.Publish (unaliased p)) (on_connection d (learned a p.topic) b) (on_keeps d (learned a p.topic) b (λ l h. h) k))
+  under_keeps a d i other b k = serves_keeps d i other b k
+
+  alias_keeps : (o : Option ℕ) (d i : ℕ) (x : Packet) (b : Broker) → Keeps c n at b → Keeps c n at (takes_by o d i x b)
+  alias_keeps None d i x b k = serves_keeps d i x b k
+  alias_keeps (Some a) d i x b k = under_keeps a d i x b k
+
   of_keeps : (o : Option ℕ) (d : ℕ) (x : Packet) (b : Broker) → Keeps c n at b → Keeps c n at (takes_of o d x b)
   of_keeps None d x b k = begins_with_keeps d x b k
-  of_keeps (Some i) d x b k = serves_keeps d i x b k
+  of_keeps (Some i) d x b k = alias_keeps (alias_used b.alias_max x) d i x b k
 
   pub takes_keeps : (d : ℕ) (x : Packet) (b : Broker) → Keeps c n at b → Keeps c n at (takes d x b)
   unfolding takes

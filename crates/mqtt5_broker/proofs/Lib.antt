@@ -19,3 +19,5 @@ pub mod Calling
 pub mod Within
 pub mod Permitted
 pub mod Sharing
+pub mod Turning
+pub mod Parts

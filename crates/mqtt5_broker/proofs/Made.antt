@@ -5,7 +5,7 @@ use Rattle.mqtt5_sessions.specs.Sessions.{Sessions, arrives, ends}
 use Rattle.mqtt5_sessions.specs.Runs.{SessionEvent, Arrives, Ends, after_events}
 use Rattle.mqtt5_broker.specs.Groups.{Group, groups_before, sessions_before, groups_after, sessions_after, groups_without, sessions_without}
 use Rattle.mqtt5_broker.specs.Broker.{Broker}
-use Rattle.mqtt5_broker.specs.Serving.{comes_to_session}
+use Rattle.mqtt5_broker.specs.Serving.{answers, comes_to_session}
 use Rattle.mqtt5_broker.specs.Acts.{Act, Session, Regroup, act, acts}
 use Rattle.mqtt5_broker.proofs.Steps.{Step, Do, Comes, Leaves, leaves, step, steps}
 use Rattle.mqtt5_broker.proofs.Acting.{Done}
@@ -55,7 +55,7 @@ comes_made i x b =
     let came : Broker = record b { sessions = t } in
     made_more b came _
     (made_more b turned_first came (makes_made b s (before_kept (Makes b.sessions) (makes_turn b.sessions) x b.groups b.sessions ([], refl))) (made_one (Session (Arrives i x)) turned_first))
-    (grouped_made came (sessions_after i x b.groups t) (groups_after i x (groups_before x b.groups b.sessions)) (after_kept (Makes t) (makes_turn t) i x b.groups t ([], refl)))
+    (grouped_made came (sessions_after (answers i x b) i x (groups_before x b.groups b.sessions) t) (groups_after (answers i x b) i x (groups_before x b.groups b.sessions)) (after_kept (Makes t) (makes_turn t) (answers i x b) i x (groups_before x b.groups b.sessions) t ([], refl)))
 
 step_made : (d : Step) (b : Broker) → Made b (step d b)
 step_made (Do a h) b = made_one a b

@@ -7,10 +7,10 @@ use Rattle.mqtt5_codec.specs.declared.packet.Packet.{Packet}
 use Rattle.mqtt5_codec.specs.Packets.{packet_writing, packet_len, writing_under}
 use Rattle.mqtt5_sessions.specs.Sessions.{ends}
 use Rattle.mqtt5_sessions.specs.Runs.{SessionEvent, Loses, Ends, after_events}
-use Rattle.mqtt5_broker.specs.Connection.{Connection, shut, heard, taken_by, emptied, holding, with_bytes, written, connection_at}
+use Rattle.mqtt5_broker.specs.Connection.{Connection, shut, heard, taken_by, learned, emptied, holding, with_bytes, written, connection_at}
 use Rattle.mqtt5_broker.specs.Broker.{Broker, at_moment, loses_client, forgets, stays_at, on_connection}
 use Rattle.mqtt5_broker.specs.Receiving.{closes_of, closes_now, closes}
-use Rattle.mqtt5_broker.specs.Acts.{Act, Session, Know, Regroup, Name, Moment, Hear, Write, Shut, Welcome, Hold, Empty, act, acts, event_in, events_in, AreFrames, output_at, Sends}
+use Rattle.mqtt5_broker.specs.Acts.{Act, Session, Know, Regroup, Name, Moment, Hear, Write, Shut, Welcome, Learn, Hold, Empty, act, acts, event_in, events_in, AreFrames, output_at, Sends}
 use Rattle.mqtt5_broker.proofs.Keeping.{at_changed}
 use Rattle.mqtt5_broker.proofs.Turned.{events_append, Makes, makes_turn, without_kept}
 
@@ -26,6 +26,7 @@ one_event (Hear d at) b = refl
 one_event (Write d p) b = refl
 one_event (Shut d) b = refl
 one_event (Welcome d i longest silence at) b = refl
+one_event (Learn d a t) b = refl
 one_event (Hold d bytes) b = refl
 one_event (Empty d) b = refl
 
@@ -99,6 +100,7 @@ one_sends d (Hear e at) b = on_sends d e (heard at) b (λ l. sends_none l.output
 one_sends d (Write e p) b = on_sends d e (written p) b (λ l. written_sends p l)
 one_sends d (Shut e) b = on_sends d e shut b (λ l. sends_none l.output l.output refl)
 one_sends d (Welcome e i longest silence at) b = on_sends d e (taken_by i longest silence at) b (λ l. sends_none l.output l.output refl)
+one_sends d (Learn e a t) b = on_sends d e (learned a t) b (λ l. sends_none l.output l.output refl)
 one_sends d (Hold e bytes) b = on_sends d e (holding bytes) b (λ l. sends_none l.output (holding bytes l).output (holding_sends l.is_open bytes l))
 one_sends d (Empty e) b = on_sends d e emptied b (λ l. sends_none l.output l.output refl)
 

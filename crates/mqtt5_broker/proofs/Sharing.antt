@@ -1,8 +1,8 @@
 -- Who has the turn in a shared subscription is the first of its group, whatever is called.
-use Rattle.std.proofs.Common.{◌≡◌, ◌≢◌, ℕ, zero, suc, ◌+◌, ◌<◌, Bool, true, false, List, [], ◌∷◌, ◌++◌, Option, Some, None, refl, sym, subst, ap, ◌∙◌, set, get_or, cond, if◌then◌else◌, not, length, map, ◌==◌, ◌&&◌, ◌||◌, ◌⊎◌, inl, inr, arith, nat_lt}
+use Rattle.std.proofs.Common.{◌≡◌, ◌≢◌, ℕ, zero, suc, ◌+◌, ◌<◌, Bool, true, false, List, [], ◌∷◌, ◌++◌, Option, Some, None, refl, sym, subst, ap, ◌∙◌, set, get_or, cond, not, length, map, ◌==◌, ◌||◌, ◌⊎◌, inl, inr, arith, nat_lt}
 use Rattle.std.proofs.Math.Numerals.{one-add}
 use Rattle.std.specs.Prelude.{option_map, filter, nat_eq}
-use Rattle.std.specs.List.{list_any, position, position_or_len, Contains}
+use Rattle.std.specs.List.{list_any, position, position_or_len}
 use Rattle.std.specs.Str.{is_utf8}
 use Rattle.std.specs.Cmp.Lexicographic.{pointwise, same_text}
 use Rattle.std.proofs.lemmas.Bool.{eqb-true, eq-eqb, ne_eqb, leb-false, lt-leb}
@@ -13,14 +13,12 @@ use Rattle.std.proofs.lemmas.List.Folds.{list_any-append}
 use Rattle.mqtt5_base.specs.Texts.{Utf8}
 use Rattle.mqtt5_subscribe.specs.declared.filter.Filter.{Filter}
 use Rattle.mqtt5_subscribe.specs.declared.unsubscribe.Unsubscribe.{Unsubscribe}
-use Rattle.mqtt5_publish.specs.declared.publish.Publish.{Publish}
 use Rattle.mqtt5_codec.specs.declared.packet.Packet.{Packet}
 use Rattle.mqtt5_codec.specs.declared.packet.Packet.TheVariants as packets
 use Rattle.mqtt5_network.specs.Connection.{is_sending}
 use Rattle.mqtt5_network.specs.declared.subscription.Share.{Share}
 use Rattle.mqtt5_network.specs.declared.subscription.Subscription.{Subscription}
-use Rattle.mqtt5_progress.specs.Subscribers.{hits}
-use Rattle.mqtt5_network.specs.Subscriptions.{is_of, subscribed, unsubscribed, has_turn, pattern_of, with_turn, turned, holds_for}
+use Rattle.mqtt5_network.specs.Subscriptions.{is_of, subscribed, unsubscribed, with_turn, turned}
 use Rattle.mqtt5_network.specs.Asking.{is_ack, identifier_of, shared_filter, share_in, share_of, subscription_of, subscribed_all, unsubscribed_all, subscriptions_after}
 use Rattle.mqtt5_network.specs.Client.{Client, comes_to}
 use Rattle.mqtt5_network.specs.Retained.{copies_for}
@@ -29,38 +27,29 @@ use Rattle.mqtt5_router.specs.Kept.{without_events, kept_of, alone, after_packet
 use Rattle.mqtt5_sessions.specs.Sessions.{Sessions, ClientState, gets, with_client, with_turn_of, turns, arrives, passes, loses, is_due, leaves, comes, ends}
 use Rattle.mqtt5_sessions.specs.Runs as runs
 use Rattle.mqtt5_sessions.specs.Runs.{SessionEvent, after_event}
-use Rattle.mqtt5_broker.specs.Connection.{Connection, opened, of_user, connection_at}
 use Rattle.mqtt5_broker.specs.Groups.{Group, is_group, has_members, has_member, without_member, with_member, rotated, turns_of, turns_first, gives_all, meets, turns_met, rotates, rotated_for, turned_for, groups_turned, sessions_turned, no_group, joined, joins_by, joins_all, is_among, parts_from, asks_shared, ends_shared, groups_before, sessions_before, groups_after, sessions_after, groups_without, sessions_without}
-use Rattle.mqtt5_broker.specs.Broker.{Broker, at_moment, on_connection, loses_client}
-use Rattle.mqtt5_broker.specs.Serving.{turns_away}
-use Rattle.mqtt5_broker.specs.Receiving.{closes_of, closes_now}
-use Rattle.mqtt5_broker.specs.Asking.{is_new}
-use Rattle.mqtt5_broker.specs.Acts.{Act, Session, Know, Regroup, Name, Moment, Hear, Write, Shut, Welcome, Hold, Empty, act}
-use Rattle.mqtt5_broker.specs.Calls as calls
-use Rattle.mqtt5_broker.specs.Calls.{Call, Open, Identify, Reject, Receive, Sent, Pass, Close, Tick, SetBounds, Trim, ShutDown, AddUser, AllowPublish, AllowSubscribe, after_call, after_calls}
 use Rattle.mqtt5_broker.specs.Within.{subscriptions_in, subscriptions_at}
-use Rattle.mqtt5_broker.specs.Sharing.{turn_in, first_in, first_of, AreDistinct, MayTurn, IsShared}
+use Rattle.mqtt5_broker.specs.Sharing.{turn_in, first_in, first_of, AreDistinct, MayTurn}
 use Rattle.mqtt5_broker.proofs.Names.{text_is}
 use Rattle.mqtt5_broker.proofs.Clients.{Changed, changed, changes_subscriptions, Fewer, loses_fewer, due_fewer, leaves_fewer, comes_fewer, ended_state, ends_fewer, passes_fewer, pushed_subscriptions}
-use Rattle.mqtt5_broker.proofs.Steps.{IsOther, IsPlain, Step, Do, Comes, Leaves, step, steps}
-use Rattle.mqtt5_broker.proofs.Acting.{Done, loses_done, receives_done, passes_done, ticks_done, trims_all_done, shuts_down_done}
+use Rattle.mqtt5_broker.proofs.Steps.{IsOther}
 
 -- ---- filters of the same text
 
-abbrev Turned : Utf8 → Option ℕ → ℕ → Subscription → Type 0
+abbrev pub Turned : Utf8 → Option ℕ → ℕ → Subscription → Type 0
 Turned f o i s = is_of f s ≡ true → turn_in s.share ≡ true → o ≡ Some i
 
-same_filter : (f h : Utf8) → pointwise nat_eq f.bytes h.bytes ≡ true → f ≡ h
+pub same_filter : (f h : Utf8) → pointwise nat_eq f.bytes h.bytes ≡ true → f ≡ h
 same_filter f h e = text_is f h.bytes (same_text f.bytes h.bytes (sym e)) ∙ sym (text_is h h.bytes refl)
 
 other_filter : (f h : Utf8) → pointwise nat_eq f.bytes h.bytes ≡ false → pointwise nat_eq h.bytes f.bytes ≡ false
 other_filter f h e = nat_list_eq_equiv.symm h.bytes f.bytes ∙ e
 
-true_false : true ≡ false → ⊥
+pub true_false : true ≡ false → ⊥
 true_false e = cc e
 
 -- a subscription of one filter isn't of another
-not_both : (f h : Utf8) (s : Subscription) → pointwise nat_eq h.bytes f.bytes ≡ false → is_of f s ≡ true → is_of h s ≡ false
+pub not_both : (f h : Utf8) (s : Subscription) → pointwise nat_eq h.bytes f.bytes ≡ false → is_of f s ≡ true → is_of h s ≡ false
 not_both f h s differ e =
     ap (λ bs. pointwise nat_eq bs h.bytes) (same_text s.topic_filter.bytes f.bytes (sym e)) ∙ other_filter h f differ
 
@@ -83,12 +72,12 @@ any s f o h i = may_by f None o i (subscriptions_at i s) (λ e. absurd (none-som
 suc_same : (m n : ℕ) → suc m ≡ suc n → m ≡ n
 suc_same m n e = cc e
 
-abbrev Turns : ℕ → ℕ → Utf8 → Bool → List ClientState → Type 0
+abbrev pub Turns : ℕ → ℕ → Utf8 → Bool → List ClientState → Type 0
 Turns i j f on cs =
     ((j ≢ i) × (subscriptions_in j (with_client i (with_turn_of f on) cs) ≡ subscriptions_in j cs))
     ⊎ ((j ≡ i) × (subscriptions_in j (with_client i (with_turn_of f on) cs) ≡ turned f on (subscriptions_in j cs)))
 
-turned_in : (i j : ℕ) (f : Utf8) (on : Bool) (cs : List ClientState) → Turns i j f on cs
+pub turned_in : (i j : ℕ) (f : Utf8) (on : Bool) (cs : List ClientState) → Turns i j f on cs
 turned_in zero zero f on [] = inr (refl, refl)
 turned_in zero (suc j) f on [] = inl (λ e. absurd (cc e), refl)
 turned_in (suc i) zero f on [] = inl (λ e. absurd (cc e), refl)
@@ -114,7 +103,7 @@ turn_taken s = by s.share
     by (Some h) e = absurd (cc e)
 
 module _ (i : ℕ) (f : Utf8) (on : Bool) (s : Sessions) where
-  same : (j : ℕ) → subscriptions_at j (turns i f on s) ≡ subscriptions_in j (with_client i (with_turn_of f on) s.clients)
+  pub same : (j : ℕ) → subscriptions_at j (turns i f on s) ≡ subscriptions_in j (with_client i (with_turn_of f on) s.clients)
   same = changes_subscriptions i (with_turn_of f on) (λ c. []) s
 
   -- of another filter
@@ -190,16 +179,16 @@ module _ (f : Utf8) where
 
   -- ---- all groups
 
-  or_left : (a b : Bool) → (a || b) ≡ false → a ≡ false
+  pub or_left : (a b : Bool) → (a || b) ≡ false → a ≡ false
   or_left true b e = absurd (true_false e)
   or_left false b e = refl
 
-  or_right : (a b : Bool) → (a || b) ≡ false → b ≡ false
+  pub or_right : (a b : Bool) → (a || b) ≡ false → b ≡ false
   or_right true b e = absurd (true_false e)
   or_right false b e = e
 
   -- none of these is of the filter
-  abbrev NoneOf : List Group → Type 0
+  abbrev pub NoneOf : List Group → Type 0
   NoneOf gs = list_any (is_group f) gs ≡ false
 
   none_first : (gs : List Group) → NoneOf gs → first_of f gs ≡ None
@@ -207,7 +196,7 @@ module _ (f : Utf8) where
   none_first (g ∷ gs) e = ap (λ v. cond v (first_in g.members) (first_of f gs)) (or_left (is_group f g) (list_any (is_group f) gs) e) ∙ none_first gs (or_right (is_group f g) (list_any (is_group f) gs) e)
 
   -- the others aren't, where one is
-  no_others : (g : Group) (gs : List Group) → is_group f g ≡ true → AreDistinct (g ∷ gs) → NoneOf gs
+  pub no_others : (g : Group) (gs : List Group) → is_group f g ≡ true → AreDistinct (g ∷ gs) → NoneOf gs
   no_others g gs is d = subst (λ h. list_any (is_group h) gs ≡ false) (same_filter g.topic_filter f is) d.0
 
   gives_others : (gs : List Group) (o : Option ℕ) (s : Sessions) → NoneOf gs → Only s f o → Only (gives_all gs s) f o
@@ -228,7 +217,7 @@ module _ (f : Utf8) where
 
   module _ (t : List ℕ) where
     -- once the turns are taken
-    abbrev left : List Group → Option ℕ
+    abbrev pub left : List Group → Option ℕ
     left [] = None
     left (g ∷ gs) = cond (is_group f g) (cond (meets t g) None (first_in g.members)) (left gs)
 
@@ -261,7 +250,7 @@ module _ (f : Utf8) where
         by false e rest k = rest (others e (first_of f gs) k (meets t g))
 
     module _ (u : Sessions) where
-      rotated_none : (gs : List Group) → NoneOf gs → NoneOf (rotates t u gs)
+      pub rotated_none : (gs : List Group) → NoneOf gs → NoneOf (rotates t u gs)
       rotated_none [] e = refl
       rotated_none (g ∷ gs) e = by (meets t g) (rotated_none gs (or_right (is_group f g) (list_any (is_group f) gs) e))
         where
@@ -383,7 +372,7 @@ module _ (f : Utf8) where
       by false e rest k = rest k
 
   -- groups of nobody
-  not_empty : (j : ℕ) (ms : List ℕ) → not (length (j ∷ ms) == 0) ≡ true
+  pub not_empty : (j : ℕ) (ms : List ℕ) → not (length (j ∷ ms) == 0) ≡ true
   not_empty j ms = ap not (ne_eqb (suc (length ms)) 0 (λ e. omega (arith, e)))
 
   emptied : (s : Sessions) (gs : List Group) → Only s f (first_of f gs) → Only s f (first_of f (filter has_members gs))
@@ -405,7 +394,7 @@ any_map : (F : Group → Group) → ((g : Group) → (F g).topic_filter ≡ g.to
 any_map F same h [] = refl
 any_map F same h (g ∷ gs) = λ n. pointwise nat_eq (same g n).bytes h.bytes || any_map F same h gs n
 
-distinct_map : (F : Group → Group) → ((g : Group) → (F g).topic_filter ≡ g.topic_filter) → (gs : List Group) → AreDistinct gs → AreDistinct (map F gs)
+pub distinct_map : (F : Group → Group) → ((g : Group) → (F g).topic_filter ≡ g.topic_filter) → (gs : List Group) → AreDistinct gs → AreDistinct (map F gs)
 distinct_map F same [] d = d
 distinct_map F same (g ∷ gs) d = (ap (λ (h : Utf8). list_any (is_group h) (map F gs)) (same g) ∙ any_map F same g.topic_filter gs ∙ d.0, distinct_map F same gs d.1)
 
@@ -417,7 +406,7 @@ any_filter p h (g ∷ gs) e = by (p g) (any_filter p h gs (or_right h (is_group 
     by true rest = group_false h g (filter p gs) (or_left h (is_group h g) (list_any (is_group h) gs) e) rest
     by false rest = rest
 
-distinct_filter : (p : Group → Bool) (gs : List Group) → AreDistinct gs → AreDistinct (filter p gs)
+pub distinct_filter : (p : Group → Bool) (gs : List Group) → AreDistinct gs → AreDistinct (filter p gs)
 distinct_filter p [] d = d
 distinct_filter p (g ∷ gs) d = by (p g) (distinct_filter p gs d.1)
   where
@@ -477,7 +466,7 @@ distinct_join i (Some share) h gs d = by (position (is_group h) gs) refl
     by None e = distinct_last (record { topic_filter = h; pattern = share.topic_filter; members = i ∷ [] }) gs (none_there h gs e) d
     by (Some n) e = distinct_set i n gs d
 
-distinct_joins : (i : ℕ) (fs : List Filter) (gs : List Group) → AreDistinct gs → AreDistinct (joins_all i fs gs)
+pub distinct_joins : (i : ℕ) (fs : List Filter) (gs : List Group) → AreDistinct gs → AreDistinct (joins_all i fs gs)
 distinct_joins i [] gs d = d
 distinct_joins i (h ∷ fs) gs d = distinct_joins i fs (joins_by (share_of h.path) i h.path gs) (distinct_join i (share_of h.path) h.path gs d)
 
@@ -536,10 +525,10 @@ own_at F zero (c ∷ cs) = inr (c, refl)
 own_at F (suc i) (c ∷ cs) = own_at F i cs
 
 module _ (i : ℕ) (x : Packet) (s : Sessions) where
-  abbrev arrived : ClientState → ClientState
+  abbrev pub arrived : ClientState → ClientState
   arrived c = gets (copies_for s.retained c.kept.subscriptions x) (record c { kept = without_events (kept_of (after_packet c.kept x)) })
 
-  arrived_same : (j : ℕ) → subscriptions_at j (arrives i x s) ≡ subscriptions_in j (with_client i arrived s.clients)
+  pub arrived_same : (j : ℕ) → subscriptions_at j (arrives i x s) ≡ subscriptions_in j (with_client i arrived s.clients)
   arrived_same = changes_subscriptions i arrived (λ (c : ClientState). (after_packet c.kept x).receiver.handed) s
 
   arrives_only : (f : Utf8) (o : Option ℕ) → Only s f o → Only (arrives i x s) f o
@@ -609,7 +598,7 @@ arrives_shared i x gs s q = (q.0, λ f. arrives_only i x s f (first_of f gs) (q.
 joins_shared : (i : ℕ) (fs : List Filter) (gs : List Group) (s : Sessions) → Shared s gs → Shared s (joins_all i fs gs)
 joins_shared i fs gs s q = (distinct_joins i fs gs q.0, λ f. all_join f i s fs gs (q.1 f))
 
-parted_filter : (i : ℕ) (fs : List Utf8) (g : Group) → (cond (is_among fs g.topic_filter) (without_member i g) g).topic_filter ≡ g.topic_filter
+pub parted_filter : (i : ℕ) (fs : List Utf8) (g : Group) → (cond (is_among fs g.topic_filter) (without_member i g) g).topic_filter ≡ g.topic_filter
 parted_filter i fs g = by (is_among fs g.topic_filter)
   where
     by : (v : Bool) → (cond v (without_member i g) g).topic_filter ≡ g.topic_filter
@@ -625,27 +614,35 @@ parts_shared i fs gs s none q =
     own f g e m true h = first_parted f i s g.members (none f (subst (λ (k : Utf8). is_among fs k ≡ true) (same_filter g.topic_filter f e) h)) m
     own f g e m false h = m
 
-comes_shared : (i : ℕ) (x : Packet) (gs : List Group) (s : Sessions) → Shared s gs → Shared (sessions_after i x gs (arrives i x (sessions_before x gs s))) (groups_after i x (groups_before x gs s))
-comes_shared i (packets.Publish p) gs s q = arrives_shared i (packets.Publish p) (groups_turned p.topic gs s) (sessions_turned p.topic gs s) (turned_shared p.topic gs s q)
-comes_shared i (packets.Subscribe p) gs s q = by (asks_shared p.filters)
+pub comes_shared : (answered : Bool) (i : ℕ) (x : Packet) (gs : List Group) (s : Sessions) → Shared s gs → Shared (sessions_after answered i x (groups_before x gs s) (arrives i x (sessions_before x gs s))) (groups_after answered i x (groups_before x gs s))
+comes_shared answered i (packets.Publish p) gs s q = arrives_shared i (packets.Publish p) (groups_turned p.topic gs s) (sessions_turned p.topic gs s) (turned_shared p.topic gs s q)
+comes_shared answered i (packets.Subscribe p) gs s q = by (asks_shared p.filters) answered
   where
     x : Packet
     x = packets.Subscribe p
 
-    by : (v : Bool) → Shared (cond v (gives_all (joins_all i p.filters gs) (arrives i x s)) (arrives i x s)) (cond v (joins_all i p.filters gs) gs)
-    by true = given_shared (joins_all i p.filters gs) (arrives i x s) (joins_shared i p.filters gs (arrives i x s) (arrives_shared i x gs s q))
-    by false = arrives_shared i x gs s q
-comes_shared i (packets.Unsubscribe p) gs s q = by (ends_shared p.filters)
+    came : Shared (arrives i x s) gs
+    came = arrives_shared i x gs s q
+
+    by : (v a : Bool) → Shared (cond v (gives_all (cond a (joins_all i p.filters gs) gs) (arrives i x s)) (arrives i x s)) (cond v (cond a (joins_all i p.filters gs) gs) gs)
+    by true true = given_shared (joins_all i p.filters gs) (arrives i x s) (joins_shared i p.filters gs (arrives i x s) came)
+    by true false = given_shared gs (arrives i x s) came
+    by false a = came
+comes_shared answered i (packets.Unsubscribe p) gs s q = by (ends_shared p.filters) answered
   where
     x : Packet
     x = packets.Unsubscribe p
 
-    by : (v : Bool) → Shared (cond v (gives_all (parts_from i p.filters gs) (arrives i x s)) (arrives i x s)) (cond v (parts_from i p.filters gs) gs)
-    by true = given_shared (parts_from i p.filters gs) (arrives i x s) (parts_shared i p.filters gs (arrives i x s) (λ f e. arrives_none f i p s e) (arrives_shared i x gs s q))
-    by false = arrives_shared i x gs s q
-comes_shared i other gs s q = arrives_shared i other gs s q
+    came : Shared (arrives i x s) gs
+    came = arrives_shared i x gs s q
 
-leaves_shared : (i : ℕ) (gs : List Group) (s : Sessions) → Shared s gs → Shared (sessions_without i gs (ends i s)) (groups_without i gs)
+    by : (v a : Bool) → Shared (cond v (gives_all (cond a (parts_from i p.filters gs) gs) (arrives i x s)) (arrives i x s)) (cond v (cond a (parts_from i p.filters gs) gs) gs)
+    by true true = given_shared (parts_from i p.filters gs) (arrives i x s) (parts_shared i p.filters gs (arrives i x s) (λ f e. arrives_none f i p s e) came)
+    by true false = given_shared gs (arrives i x s) came
+    by false a = came
+comes_shared answered i other gs s q = arrives_shared i other gs s q
+
+pub leaves_shared : (i : ℕ) (gs : List Group) (s : Sessions) → Shared s gs → Shared (sessions_without i gs (ends i s)) (groups_without i gs)
 leaves_shared i gs s q =
     let t : Sessions = ends i s in
     let m : (f : Utf8) → Only t f (first_of f gs) = λ f. fewer_only s t f (first_of f gs) (ends_fewer i s) (q.1 f) in
@@ -654,7 +651,7 @@ leaves_shared i gs s q =
       λ f. emptied f t (map (without_member i) gs) (parted f (without_member i) t (λ g. refl) (λ g e k. first_parted f i t g.members (ends_none f i s) k) gs (m f)),
     )
 
-other_shared : (e : SessionEvent) → IsOther e → (gs : List Group) (s : Sessions) → Shared s gs → Shared (after_event e s) gs
+pub other_shared : (e : SessionEvent) → IsOther e → (gs : List Group) (s : Sessions) → Shared s gs → Shared (after_event e s) gs
 other_shared (runs.Joins limit) h gs s q = (q.0, λ f j. subst (MayTurn f (first_of f gs) j) (sym (pushed_subscriptions limit j s.clients)) (q.1 f j))
 other_shared (runs.Passes i) h gs s q = (q.0, λ f. fewer_only s (passes i s) f (first_of f gs) (passes_fewer i s) (q.1 f))
 other_shared (runs.Loses i) h gs s q = (q.0, λ f. fewer_only s (loses i s) f (first_of f gs) (loses_fewer i s) (q.1 f))
@@ -664,89 +661,3 @@ other_shared (runs.Comes i m will) h gs s q = (q.0, λ f. fewer_only s (comes i 
 other_shared (runs.Arrives i x) h gs s q = absurd h
 other_shared (runs.Ends i) h gs s q = absurd h
 other_shared (runs.Turns i f on) h gs s q = absurd h
-
-abbrev IsKept : Broker → Type 0
-IsKept b = Shared b.sessions b.groups
-
-act_shared : (a : Act) → IsPlain a → (b : Broker) → IsKept b → IsKept (act a b)
-act_shared (Session e) h b q = other_shared e h b.groups b.sessions q
-act_shared (Know ms) h b q = q
-act_shared (Regroup gs) h b q = absurd h
-act_shared (Name n) h b q = q
-act_shared (Moment at) h b q = q
-act_shared (Hear d at) h b q = q
-act_shared (Write d p) h b q = q
-act_shared (Shut d) h b q = q
-act_shared (Welcome d i longest silence at) h b q = q
-act_shared (Hold d bytes) h b q = q
-act_shared (Empty d) h b q = q
-
-step_shared : (d : Step) (b : Broker) → IsKept b → IsKept (step d b)
-step_shared (Do a h) b q = act_shared a h b q
-step_shared (Comes i x) b q = comes_shared i x b.groups b.sessions q
-step_shared (Leaves i) b q = leaves_shared i b.groups b.sessions q
-
-steps_shared : (ds : List Step) (b : Broker) → IsKept b → IsKept (steps ds b)
-steps_shared [] b q = q
-steps_shared (d ∷ ds) b q = steps_shared ds (step d b) (step_shared d b q)
-
-done_shared : (b c : Broker) → Done b c → IsKept b → IsKept c
-done_shared b c d q = subst IsKept (sym d.1) (steps_shared d.0 b q)
-
--- ---- each call
-
-if_shared : (v : Bool) (x y : Broker) → IsKept x → IsKept y → IsKept (if v then x else y)
-if_shared true x y p q = p
-if_shared false x y p q = q
-
-closes_shared : (o : Option ℕ) (d : ℕ) (b : Broker) → IsKept b → IsKept (closes_of o d b)
-closes_shared None d b q = q
-closes_shared (Some i) d b q = done_shared b (loses_client i b) (loses_done i b) q
-
-now_shared : (d : ℕ) (b : Broker) → IsKept b → IsKept (closes_now d b)
-unfolding closes_now
-now_shared d b q = closes_shared (connection_at d b.connections).client d b q
-
-call_shared : (c : Call) (b : Broker) → IsKept b → IsKept (after_call c b)
-call_shared (Open at c) b q =
-    let d : Broker = at_moment at b in
-    if_shared (connection_at c d.connections).is_open d (on_connection c (λ (l : Connection). opened d.wait d.moment) d) q q
-call_shared (calls.Hold c bytes) b q = q
-call_shared (Identify c u) b q = if_shared (is_new (connection_at c b.connections)) (on_connection c (of_user u) b) b q q
-call_shared (Reject c code) b q = if_shared (is_new (connection_at c b.connections)) (turns_away c code b) b q q
-call_shared (Receive at c bytes) b q = done_shared b _ (receives_done at c bytes b) q
-call_shared (Sent c count) b q = q
-call_shared (Pass c) b q = done_shared b _ (passes_done c b) q
-call_shared (Close at c) b q = now_shared c (at_moment at b) q
-call_shared (Tick at) b q = done_shared b _ (ticks_done at b) q
-call_shared (SetBounds bounds) b q = q
-call_shared Trim b q = done_shared b _ (trims_all_done b) q
-call_shared (ShutDown at) b q = done_shared b _ (shuts_down_done at b) q
-call_shared AddUser b q = q
-call_shared (AllowPublish u f) b q = q
-call_shared (AllowSubscribe u f) b q = q
-
-calls_kept : (cs : List Call) (b : Broker) → IsKept b → IsKept (after_calls cs b)
-calls_kept [] b q = q
-calls_kept (c ∷ cs) b q = calls_kept cs (after_call c b) (call_shared c b q)
-
-pub calls_shared : (cs : List Call) (b : Broker) → IsShared b → IsShared (after_calls cs b)
-calls_shared cs b h = let q : IsKept (after_calls cs b) = calls_kept cs b (h.distinct, h.turns) in record { distinct = q.0; turns = q.1 }
-
-pub new_shared : (b : Broker) → b.sessions.clients ≡ [] → b.groups ≡ [] → IsShared b
-new_shared b none e = record {
-  distinct = subst AreDistinct (sym e) tt;
-  turns = λ f i. subst (MayTurn f (first_of f b.groups) i) (sym (ap (subscriptions_in i) none)) (All-nil (Turned f (first_of f b.groups) i));
-}
-
--- two that have the turn in the same one are one
-pub one_turn : (f : Utf8) (i j : ℕ) (s t : Subscription) (b : Broker) → IsShared b → Contains (subscriptions_at i b.sessions) s → Contains (subscriptions_at j b.sessions) t → is_of f s ≡ true → is_of f t ≡ true → turn_in s.share ≡ true → turn_in t.share ≡ true → i ≡ j
-one_turn f i j s t b h has other a c p q =
-    let first : first_of f b.groups ≡ Some i = subst (Turned f (first_of f b.groups) i) has.2 (h.turns f i has.0 s has.1) a p in
-    let second : first_of f b.groups ≡ Some j = subst (Turned f (first_of f b.groups) j) other.2 (h.turns f j other.0 t other.1) c q in
-    cc (sym first ∙ second)
-
-pub waits_for_turn : (own : Bool) (s : Subscription) (h : Share) (p : Publish) → s.share ≡ Some h → turn_in s.share ≡ false → holds_for own s p ≡ false
-waits_for_turn own s h p e t =
-    let none : h.turn ≡ false = sym (ap turn_in e) ∙ t in
-    ap (λ (v : Bool). v && (not (own && s.no_local) && hits (pattern_of s ∷ []) p)) (ap has_turn e ∙ none)

@@ -26,12 +26,13 @@ use Rattle.mqtt5_broker.specs.declared.serving.Kind.{Kind}
 use Rattle.mqtt5_broker.specs.declared.serving.Kind.TheVariants as kinds
 use Rattle.mqtt5_broker.specs.Moments.{has_come}
 use Rattle.mqtt5_broker.specs.Cut.{Cut, Ending, Holds, Breaks, cut_up}
-use Rattle.mqtt5_broker.specs.Connection.{Connection, closed, opened, shut, told, heard, taken_by, with_bytes, written, written_all, emptied, holding, with_sent, connection_at, with_connection, is_client, is_of, connection_of}
+use Rattle.mqtt5_broker.specs.Connection.{Connection, closed, opened, shut, told, heard, taken_by, learned, learned_topic, with_bytes, written, written_all, emptied, holding, with_sent, connection_at, with_connection, is_client, is_of, connection_of}
 use Rattle.mqtt5_broker.specs.Broker.{Broker, at_moment, on_connection, on_member, away, gone, expiring, undue, member_at, has_ended, will_is_due, forgets, loses_client, leaves_client, publishes_will, stays_at, refuses, dismisses, dismisses_of, numbers, number_in, free_number, is_named, number_of, assigned_name, number_after, user_at, owner_at}
 use Rattle.mqtt5_broker.specs.Rights.{may_do, denial, suback_for, part_of}
 use Rattle.mqtt5_broker.specs.Groups.{sessions_before}
 use Rattle.mqtt5_broker.specs.Bounds.{has_room, exceeds, ends_of, trims, trims_all}
-use Rattle.mqtt5_broker.specs.Serving.{kind_of, comes_to_session, arrives_from, denies, brings, goes, disconnects, serves_as, serves_by, fault_of, serves, refusal, longest_of, silence_of, member_of, welcome, comes_in, displaced, displaces, starts_anew, begins, returns, enters, turns_away, enters_if_room, assigns_by, assigns, is_its, admits_as, admits, entry_fault, connects_by, connects, begins_with, takes_of, takes, passes_of, passes_on}
+use Rattle.mqtt5_broker.specs.Aliases.{alias_used, unaliased, named}
+use Rattle.mqtt5_broker.specs.Serving.{kind_of, comes_to_session, arrives_from, denies, brings, goes, disconnects, serves_as, serves_by, fault_of, serves, refusal, longest_of, silence_of, member_of, welcome, comes_in, displaced, displaces, starts_anew, begins, returns, enters, turns_away, enters_if_room, assigns_by, assigns, is_its, admits_as, admits, entry_fault, connects_by, connects, begins_with, takes_under, takes_by, takes_of, takes, passes_of, passes_on}
 use Rattle.mqtt5_broker.specs.Receiving.{takes_all, reason_for, ends_with, receives_now, receives, opens_now, opens, closes_of, closes_now, closes}
 use Rattle.mqtt5_broker.specs.Clock.{for_each, silences, silences_all, expires, ticks, ends_now, shuts_down}
 use Rattle.mqtt5_broker.specs.Standing.{client_at, IsHere, Stands, IsStanding}
@@ -297,8 +298,8 @@ module _ (d i : ℕ) (f : Connection → Connection) (ls : List Connection) (ms 
 comes_standing : (d i : ℕ) (present given : Bool) (q : Connect) (will : Option LastWill) (b : Broker) → Free i b.connections → IsHere (member_at i b.members) → IsStanding b → IsStanding (comes_in d i present given q will b)
 unfolding comes_in
 comes_standing d i present given q will b free is s =
-    client_comes d i (λ (l : Connection). written_all (welcome i present given q b) (taken_by i (longest_of q.properties) (silence_of q) b.moment l)) b.connections b.members
-    (λ l. all_client (welcome i present given q b) (taken_by i (longest_of q.properties) (silence_of q) b.moment l)) free is s
+    client_comes d i (λ (l : Connection). written_all (welcome i present given q b) (taken_by i (longest_of q.properties) (silence_of b.keep_alive_max q) b.moment l)) b.connections b.members
+    (λ l. all_client (welcome i present given q b) (taken_by i (longest_of q.properties) (silence_of b.keep_alive_max q) b.moment l)) free is s
 
 -- one that it has is told
 pub record Freed (i : ℕ) (b x : Broker) : Type 0 where
@@ -407,17 +408,34 @@ begins_with_standing : (d : ℕ) (x : Packet) (b : Broker) → IsStanding b → 
 begins_with_standing d (packets.Connect q will login) b s = connects_standing d q will b s
 begins_with_standing d other b s = on_less d shut b (shut_lets shut (λ l. refl)) s
 
-of_standing : (o : Option ℕ) (d : ℕ) (x : Packet) (b : Broker) → client_at d b.connections ≡ o → IsStanding b → IsStanding (takes_of o d x b)
-of_standing None d x b e s = begins_with_standing d x b s
-of_standing (Some i) d x b e s = serves_standing d i x b e s
-
--- one that is heard has the same client
+-- one that is heard has the same client, and one that learns an alias
 pub heard_client : (d at : ℕ) (ls : List Connection) → client_at d (with_connection d (heard at) ls) ≡ client_at d ls
 heard_client d at ls = by (client_after d d ls (heard at (connection_at d ls)))
   where
     by : (client_at d (with_connection d (heard at) ls) ≡ client_at d ls) ⊎ ((d ≡ d) × (client_at d (with_connection d (heard at) ls) ≡ client_at d ls)) → client_at d (with_connection d (heard at) ls) ≡ client_at d ls
     by (inl e) = e
     by (inr e) = e.1
+
+pub learned_client : (d a : ℕ) (t : List ℕ) (ls : List Connection) → client_at d (with_connection d (learned a t) ls) ≡ client_at d ls
+learned_client d a t ls = by (client_after d d ls (learned a t (connection_at d ls)))
+  where
+    by : (client_at d (with_connection d (learned a t) ls) ≡ client_at d ls) ⊎ ((d ≡ d) × (client_at d (with_connection d (learned a t) ls) ≡ client_at d ls)) → client_at d (with_connection d (learned a t) ls) ≡ client_at d ls
+    by (inl e) = e
+    by (inr e) = e.1
+
+under_standing : (a d i : ℕ) (x : Packet) (b : Broker) → client_at d b.connections ≡ Some i → IsStanding b → IsStanding (takes_under a d i x b)
+under_standing a d i (packets.Publish p) b e s =
+    if_standing (length p.topic == 0) _ _ (serves_standing d i (packets.Publish (named (learned_topic a (connection_at d b.connections)) p)) b e s)
+    (serves_standing d i (packets.Publish (unaliased p)) (on_connection d (learned a p.topic) b) (learned_client d a p.topic b.connections ∙ e) (on_less d (learned a p.topic) b (λ l j h. h) s))
+under_standing a d i other b e s = serves_standing d i other b e s
+
+alias_standing : (o : Option ℕ) (d i : ℕ) (x : Packet) (b : Broker) → client_at d b.connections ≡ Some i → IsStanding b → IsStanding (takes_by o d i x b)
+alias_standing None d i x b e s = serves_standing d i x b e s
+alias_standing (Some a) d i x b e s = under_standing a d i x b e s
+
+of_standing : (o : Option ℕ) (d : ℕ) (x : Packet) (b : Broker) → client_at d b.connections ≡ o → IsStanding b → IsStanding (takes_of o d x b)
+of_standing None d x b e s = begins_with_standing d x b s
+of_standing (Some i) d x b e s = alias_standing (alias_used b.alias_max x) d i x b e s
 
 pub takes_standing : (d : ℕ) (x : Packet) (b : Broker) → IsStanding b → IsStanding (takes d x b)
 unfolding takes

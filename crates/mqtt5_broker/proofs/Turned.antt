@@ -12,7 +12,7 @@ use Rattle.mqtt5_network.specs.Subscriptions.{is_of, pattern_in, pattern_of, wit
 use Rattle.mqtt5_sessions.specs.Sessions.{Sessions, with_client, with_turn_of, turns}
 use Rattle.mqtt5_sessions.specs.Runs.{SessionEvent, Turns, after_event, after_events}
 use Rattle.mqtt5_broker.specs.Rights.{is_within}
-use Rattle.mqtt5_broker.specs.Groups.{Group, turns_of, turns_first, gives_all, meets, turns_met, rotated_for, turned_for, sessions_turned, groups_before, sessions_before, regroups, regrouped, sessions_after, sessions_without, groups_without}
+use Rattle.mqtt5_broker.specs.Groups.{Group, turns_of, turns_first, gives_all, meets, turns_met, rotated_for, turned_for, sessions_turned, groups_before, sessions_before, regroups, regrouped_if, sessions_after, sessions_without, groups_without}
 use Rattle.mqtt5_broker.specs.Within.{subscriptions_in, subscriptions_at, AreWithin}
 use Rattle.mqtt5_broker.proofs.Clients.{Changed, changed, changes_count, changes_subscriptions}
 
@@ -23,11 +23,11 @@ module _ (P : Sessions → Type 0) (keeps : (i : ℕ) (f : Utf8) (on : Bool) (s 
   of_kept [] f on s p = p
   of_kept (i ∷ ms) f on s p = keeps i f on s p
 
-  all_kept : (gs : List Group) (s : Sessions) → P s → P (gives_all gs s)
+  pub all_kept : (gs : List Group) (s : Sessions) → P s → P (gives_all gs s)
   all_kept [] s p = p
   all_kept (g ∷ gs) s p = all_kept gs (turns_first true g s) (of_kept g.members g.topic_filter true s p)
 
-  met_kept : (on : Bool) (t : List ℕ) (gs : List Group) (s : Sessions) → P s → P (turns_met on t gs s)
+  pub met_kept : (on : Bool) (t : List ℕ) (gs : List Group) (s : Sessions) → P s → P (turns_met on t gs s)
   met_kept on t [] s p = p
   met_kept on t (g ∷ gs) s p = met_kept on t gs (if meets t g then turns_first on g s else s) (by (meets t g))
     where
@@ -49,11 +49,11 @@ module _ (P : Sessions → Type 0) (keeps : (i : ℕ) (f : Utf8) (on : Bool) (s 
   before_kept (packets.Publish p) gs s q = turned_kept p.topic gs s q
   before_kept other gs s q = q
 
-  pub after_kept : (i : ℕ) (x : Packet) (gs : List Group) (s : Sessions) → P s → P (sessions_after i x gs s)
-  after_kept i x gs s p = by (regroups x)
+  pub after_kept : (answered : Bool) (i : ℕ) (x : Packet) (gs : List Group) (s : Sessions) → P s → P (sessions_after answered i x gs s)
+  after_kept answered i x gs s p = by (regroups x)
     where
-      by : (v : Bool) → P (if v then gives_all (regrouped i x gs) s else s)
-      by true = all_kept (regrouped i x gs) s p
+      by : (v : Bool) → P (if v then gives_all (regrouped_if answered i x gs) s else s)
+      by true = all_kept (regrouped_if answered i x gs) s p
       by false = p
 
   pub without_kept : (i : ℕ) (gs : List Group) (s : Sessions) → P s → P (sessions_without i gs s)

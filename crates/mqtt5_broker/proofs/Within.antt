@@ -36,11 +36,12 @@ use Rattle.mqtt5_broker.specs.Moments.{has_come}
 use Rattle.mqtt5_broker.specs.Cut.{Cut, Ending, Holds, Breaks, cut_up}
 use Rattle.mqtt5_broker.specs.Rights.{Rights, rights_at, is_within, asked_pattern, may_subscribe, may_do, denial, suback_for, part_of}
 use Rattle.mqtt5_broker.specs.Groups.{Group, groups_before, sessions_before, groups_after, sessions_after, groups_without, sessions_without}
-use Rattle.mqtt5_broker.specs.Connection.{Connection, closed, opened, shut, told, heard, taken_by, written, written_all, holding, emptied, connection_at, connection_of}
+use Rattle.mqtt5_broker.specs.Connection.{Connection, closed, opened, shut, told, heard, taken_by, learned, learned_topic, written, written_all, holding, emptied, connection_at, connection_of}
 use Rattle.mqtt5_broker.specs.Broker.{Broker, at_moment, on_connection, on_member, away, gone, expiring, undue, member_at, has_ended, will_is_due, forgets, loses_client, leaves_client, publishes_will, stays_at, refuses, dismisses, dismisses_of, numbers, number_in, free_number, number_of, assigned_name, number_after, user_at, owner_of, owner_at}
 use Rattle.mqtt5_broker.specs.Wills.{will_of}
 use Rattle.mqtt5_broker.specs.Bounds.{has_room, exceeds, ends_of, trims, trims_all}
-use Rattle.mqtt5_broker.specs.Serving.{kind_of, comes_to_session, arrives_from, denies, brings, goes, disconnects, serves_as, serves_by, fault_of, serves, refusal, receive_max_of, longest_of, silence_of, member_of, welcome, comes_in, displaced, displaces, starts_anew, begins, returns, enters, turns_away, enters_if_room, assigns_by, assigns, is_its, admits_as, admits, entry_fault, connects_by, connects, begins_with, takes_of, takes, passes_of, passes_on}
+use Rattle.mqtt5_broker.specs.Aliases.{alias_used, unaliased, named}
+use Rattle.mqtt5_broker.specs.Serving.{answers, kind_of, comes_to_session, arrives_from, denies, brings, goes, disconnects, serves_as, serves_by, fault_of, serves, refusal, receive_max_of, longest_of, silence_of, member_of, welcome, comes_in, displaced, displaces, starts_anew, begins, returns, enters, turns_away, enters_if_room, assigns_by, assigns, is_its, admits_as, admits, entry_fault, connects_by, connects, begins_with, takes_under, takes_by, takes_of, takes, passes_of, passes_on}
 use Rattle.mqtt5_broker.specs.Receiving.{takes_all, reason_for, ends_with, receives_now, receives, opens, closes_of, closes_now, closes}
 use Rattle.mqtt5_broker.specs.Clock.{for_each, silences, silences_all, expires, ticks, ends_now, shuts_down}
 use Rattle.mqtt5_broker.specs.Standing.{client_at, IsHere, IsStanding}
@@ -297,8 +298,8 @@ comes_session_within i x b known may w =
     let came : Broker = record b { sessions = t } in
     let first : IsWithin turned_first = like_within b s (before_kept (Like b.sessions) (like_turn b.sessions) x b.groups b.sessions (like_same b.sessions)) w in
     let last : IsWithin came = arrives_within i x turned_first known may first in
-    grouped_within (record b { sessions = sessions_after i x b.groups t }) (groups_after i x (groups_before x b.groups b.sessions))
-    (like_within came (sessions_after i x b.groups t) (after_kept (Like t) (like_turn t) i x b.groups t (like_same t)) last)
+    grouped_within (record b { sessions = sessions_after (answers i x b) i x (groups_before x b.groups b.sessions) t }) (groups_after (answers i x b) i x (groups_before x b.groups b.sessions))
+    (like_within came (sessions_after (answers i x b) i x (groups_before x b.groups b.sessions) t) (after_kept (Like t) (like_turn t) (answers i x b) i x (groups_before x b.groups b.sessions) t (like_same t)) last)
 
 -- ---- a client that is connected
 
@@ -360,7 +361,7 @@ unfolding comes_in
 comes_in_within d i present given q will b w =
     let m : Option ℕ = Some (receive_max_of q.properties) in
     let its_will : Option Will = option_map will_of will in
-    connected_within d (λ (l : Connection). written_all (welcome i present given q b) (taken_by i (longest_of q.properties) (silence_of q) b.moment l)) (record b { sessions = comes i m its_will b.sessions })
+    connected_within d (λ (l : Connection). written_all (welcome i present given q b) (taken_by i (longest_of q.properties) (silence_of b.keep_alive_max q) b.moment l)) (record b { sessions = comes i m its_will b.sessions })
     (fewer_within b (comes i m its_will b.sessions) (comes_fewer i m its_will b.sessions) w)
 
 displaced_within : (o : Option ℕ) (b : Broker) → IsWithin b → IsWithin (displaced o b)
@@ -498,9 +499,19 @@ is_known : (m : Option Member) → IsHere m → m ≡ None → ⊥
 is_known None h e = h
 is_known (Some m) h e = none-some m (sym e)
 
+under_within : (a d i : ℕ) (x : Packet) (b : Broker) → (member_at i b.members ≡ None → ⊥) → IsWithin b → IsWithin (takes_under a d i x b)
+under_within a d i (packets.Publish p) b known w =
+    if_within (length p.topic == 0) _ _ (serves_within d i b known w (packets.Publish (named (learned_topic a (connection_at d b.connections)) p)))
+    (serves_within d i (on_connection d (learned a p.topic) b) known (connected_within d (learned a p.topic) b w) (packets.Publish (unaliased p)))
+under_within a d i other b known w = serves_within d i b known w other
+
+alias_within : (o : Option ℕ) (d i : ℕ) (x : Packet) (b : Broker) → (member_at i b.members ≡ None → ⊥) → IsWithin b → IsWithin (takes_by o d i x b)
+alias_within None d i x b known w = serves_within d i b known w x
+alias_within (Some a) d i x b known w = under_within a d i x b known w
+
 of_within : (o : Option ℕ) (d : ℕ) (x : Packet) (b : Broker) → client_at d b.connections ≡ o → IsStanding b → IsWithin b → IsWithin (takes_of o d x b)
 of_within None d x b e s w = begins_with_within d x b w
-of_within (Some i) d x b e s w = serves_within d i b (is_known (member_at i b.members) (s.here d i e)) w x
+of_within (Some i) d x b e s w = alias_within (alias_used b.alias_max x) d i x b (is_known (member_at i b.members) (s.here d i e)) w
 
 takes_within : (d : ℕ) (x : Packet) (b : Broker) → IsStanding b → IsWithin b → IsWithin (takes d x b)
 unfolding takes

@@ -7,14 +7,15 @@ use Rattle.mqtt5_sessions.specs.Runs.{SessionEvent, after_event}
 use Rattle.mqtt5_broker.specs.declared.member.Member.{Member}
 use Rattle.mqtt5_broker.specs.Groups.{Group}
 use Rattle.mqtt5_broker.specs.Connection.{written, shut, emptied, holding, heard}
-use Rattle.mqtt5_broker.specs.Connection.{taken_by, connection_at}
+use Rattle.mqtt5_broker.specs.Connection.{taken_by, learned, connection_at}
 use Rattle.mqtt5_broker.specs.Broker.{Broker, on_connection}
 
 -- ---- acts
 
 -- something happens to the sessions; other clients are known, and others take part in shared
 -- subscriptions; another number for the next name; another moment; of a connection: it is heard, a
--- packet is written, nothing more is taken, it is that of a client, and bytes are held or taken out
+-- packet is written, nothing more is taken, it is that of a client, an alias stands for a topic, and
+-- bytes are held or taken out
 pub data Act : Type 0 where
   Session : (event : SessionEvent) → Act
   Know : (members : List (Option Member)) → Act
@@ -25,6 +26,7 @@ pub data Act : Type 0 where
   Write : (connection : ℕ) (packet : Packet) → Act
   Shut : (connection : ℕ) → Act
   Welcome : (connection client : ℕ) (longest : Option ℕ) (silence at : ℕ) → Act
+  Learn : (connection alias : ℕ) (topic : List ℕ) → Act
   Hold : (connection : ℕ) (bytes : List ℕ) → Act
   Empty : (connection : ℕ) → Act
 
@@ -38,6 +40,7 @@ act (Hear d at) b = on_connection d (heard at) b
 act (Write d p) b = on_connection d (written p) b
 act (Shut d) b = on_connection d shut b
 act (Welcome d i longest silence at) b = on_connection d (taken_by i longest silence at) b
+act (Learn d a t) b = on_connection d (learned a t) b
 act (Hold d bytes) b = on_connection d (holding bytes) b
 act (Empty d) b = on_connection d emptied b
 

@@ -21,7 +21,8 @@ use Rattle.mqtt5_broker.specs.Connection.{connection_at}
 -- the sessions, numbered from 0; by the same numbers the client that has each, or none; the
 -- connections; what each user may do; the shared subscriptions; the greatest packet identifier that is
 -- used to a client (2.2.1); the greatest remaining length of what a client sends; for how many
--- milliseconds a connection may be open without a Connect, or 0 for any time; what may be kept at most;
+-- milliseconds a connection may be open without a Connect, or 0 for any time; the greatest topic alias
+-- of a client, or 0 for none; its longest keep alive in seconds, or 0 for any; what may be kept at most;
 -- the last moment; and the number of the next name that a client is given
 pub record Broker : Type 0 where
   pub sessions : Sessions
@@ -32,6 +33,8 @@ pub record Broker : Type 0 where
   pub limit : ℕ
   pub longest : ℕ
   pub wait : ℕ
+  pub alias_max : ℕ
+  pub keep_alive_max : ℕ
   pub bounds : Bounds
   pub moment : ℕ
   pub next_name : ℕ

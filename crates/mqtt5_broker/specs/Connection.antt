@@ -1,18 +1,21 @@
--- What a broker keeps of a connection (MQTT 5.0 sections 3.1.2.10, 3.1.2.11.4 and 4.2).
+-- What a broker keeps of a connection (MQTT 5.0 sections 3.1.2.10, 3.1.2.11.4, 3.3.2.3.4 and 4.2).
 use Rattle.std.specs.Prelude.{ℕ, ◌==◌, Bool, true, false, List, [], ◌∷◌, ◌++◌, drop, Option, Some}
 use Rattle.std.specs.Prelude.{None, Result, Ok, Err, slice_index_or, slice_set, if◌then◌else◌}
 use Rattle.std.specs.List.{position}
+use Rattle.std.specs.FinMap as map
 use Rattle.mqtt5_base.specs.declared.error.Error.{Error}
 use Rattle.mqtt5_control.specs.declared.disconnect.DisconnectReasonCode.{DisconnectReasonCode}
 use Rattle.mqtt5_codec.specs.declared.packet.Packet.{Packet}
 use Rattle.mqtt5_codec.specs.declared.packet.Packet.TheVariants as packets
 use Rattle.mqtt5_codec.specs.Packets.{writing_under}
+use Rattle.mqtt5_session.specs.Session.{Topics}
 use Rattle.mqtt5_broker.specs.Moments.{unless_zero}
 
 -- whether bytes of it are taken; the number of the client that connected on it; that of the user that
 -- it is of, if it is one's; the longest packet that this client takes; the bytes that came in and are
 -- no whole frame yet; those to be sent; for how many milliseconds it may be silent, or 0 for any time;
--- and the moment at which it was silent for too long, if it isn't heard before
+-- the moment at which it was silent for too long, if it isn't heard before; and the topics that its
+-- client's aliases stand for
 pub record Connection : Type 0 where
   pub is_open : Bool
   pub client : Option ℕ
@@ -22,6 +25,7 @@ pub record Connection : Type 0 where
   pub output : List ℕ
   pub silence : ℕ
   pub deadline : Option ℕ
+  pub aliases : Topics
 
 -- none
 abbrev pub closed : Connection
@@ -34,6 +38,7 @@ closed = record {
   output = [];
   silence = 0;
   deadline = None;
+  aliases = map.empty;
 }
 
 -- one that begins at a moment, of which nothing came; it may be silent for so long
@@ -47,6 +52,7 @@ opened silence at = record {
   output = [];
   silence = silence;
   deadline = unless_zero silence at;
+  aliases = map.empty;
 }
 
 -- it is heard at a moment (3.1.2.10)
@@ -100,6 +106,18 @@ emptied l = record l { held = [] }
 -- bytes are held, where more are taken
 abbrev pub holding : List ℕ → Connection → Connection
 holding bytes l = if l.is_open then record l { held = bytes } else l
+
+-- an alias stands for a topic from now on (3.3.2.3.4)
+abbrev pub learned : ℕ → List ℕ → Connection → Connection
+learned a t l = record l { aliases = map.insert l.aliases a t }
+
+-- the topic that one stands for: no byte where it isn't known
+abbrev pub or_no_byte : Option (List ℕ) → List ℕ
+or_no_byte None = []
+or_no_byte (Some t) = t
+
+abbrev pub learned_topic : ℕ → Connection → List ℕ
+learned_topic a l = or_no_byte (map.get l.aliases a)
 
 -- so many bytes were sent
 abbrev pub with_sent : ℕ → Connection → Connection

@@ -150,12 +150,17 @@ regrouped i (packets.Subscribe p) gs = joins_all i p.filters gs
 regrouped i (packets.Unsubscribe p) gs = parts_from i p.filters gs
 regrouped i other gs = gs
 
--- once it has come
-abbrev pub groups_after : ℕ → Packet → List Group → List Group
-groups_after i x gs = if regroups x then regrouped i x gs else gs
+-- where it is answered, as it is where there is such a client
+abbrev pub regrouped_if : Bool → ℕ → Packet → List Group → List Group
+regrouped_if answered i x gs = if answered then regrouped i x gs else gs
 
-abbrev pub sessions_after : ℕ → Packet → List Group → Sessions → Sessions
-sessions_after i x gs s = if regroups x then gives_all (regrouped i x gs) s else s
+-- once it has come
+abbrev pub groups_after : Bool → ℕ → Packet → List Group → List Group
+groups_after answered i x gs = if regroups x then regrouped_if answered i x gs else gs
+
+abbrev pub sessions_after : Bool → ℕ → Packet → List Group → Sessions → Sessions
+sessions_after answered i x gs s =
+    if regroups x then gives_all (regrouped_if answered i x gs) s else s
 
 -- ---- a session that ends
 

@@ -32,8 +32,8 @@ is_topic_text t = not (length t == 0) && is_valid_topic t
 abbrev pub is_topic : List ℕ → Bool
 is_topic t = is_utf8 t && is_topic_text t
 
--- its properties: no topic alias, since the broker says that it takes none (3.3.2.3.4), and no
--- subscription identifier, which no client sends (3.3.4)
+-- its properties: no topic alias that the broker doesn't take (3.3.2.3.4), and no subscription
+-- identifier, which no client sends (3.3.4)
 abbrev pub properties_fault : Option PublishProperties → Option DisconnectReasonCode
 properties_fault None = None
 properties_fault (Some set) =
@@ -46,8 +46,12 @@ abbrev pub first_of : Option DisconnectReasonCode → Option DisconnectReasonCod
 first_of (Some reason) other = Some reason
 first_of None other = other
 
+-- one of no byte is a protocol error: with it comes an alias that isn't known, or none (3.3.2.1,
+-- 3.3.2.3.4)
 abbrev pub topic_fault : List ℕ → Option DisconnectReasonCode
-topic_fault t = if is_topic t then None else Some reasons.TopicNameInvalid
+topic_fault t =
+    if length t == 0 then Some reasons.ProtocolError
+    else if is_topic t then None else Some reasons.TopicNameInvalid
 
 abbrev pub publish_fault : Publish → Option DisconnectReasonCode
 publish_fault p = first_of (properties_fault p.properties) (topic_fault p.topic)
@@ -167,7 +171,7 @@ first_code None other = other
 
 -- the length that the answer needs
 abbrev pub answer_length : Connect → ℕ
-answer_length k = if length k.client_id.bytes == 0 then 38 else 10
+answer_length k = if length k.client_id.bytes == 0 then 44 else 16
 
 abbrev pub connect_fault : Connect → Option LastWill → Option ConnectReturnCode
 connect_fault k will =

@@ -2,6 +2,7 @@ pub mod Cut
 pub mod Moments
 pub mod Rights
 pub mod Groups
+pub mod Aliases
 pub mod Connection
 pub mod Broker
 pub mod Wills

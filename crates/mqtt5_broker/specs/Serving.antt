@@ -1,6 +1,6 @@
--- What a broker makes of the packets of its clients (MQTT 5.0 sections 3.1.2.10, 3.1.4, 3.2, 3.12,
--- 3.14, 4.8.2, 4.13 and 5.4.2).
-use Rattle.std.specs.Prelude.{ℕ, ◌*◌, ◌==◌, Bool, true, false, not, ◌||◌, List, [], ◌∷◌}
+-- What a broker makes of the packets of its clients (MQTT 5.0 sections 3.1.2.10, 3.1.4, 3.2, 3.3.2.3.4,
+-- 3.12, 3.14, 4.8.2, 4.13 and 5.4.2).
+use Rattle.std.specs.Prelude.{ℕ, ◌*◌, ◌==◌, nat_lt, Bool, true, false, not, ◌||◌, List, [], ◌∷◌}
 use Rattle.std.specs.Prelude.{Option, Some, None, option_map, if◌then◌else◌, slice_set, length}
 use Rattle.std.specs.Option.{option_to_list}
 use Rattle.mqtt5_base.specs.Texts.{Utf8}
@@ -22,6 +22,8 @@ use Rattle.mqtt5_broker.specs.declared.serving.Kind.{Kind}
 use Rattle.mqtt5_broker.specs.declared.serving.Kind.TheVariants as kinds
 use Rattle.mqtt5_broker.specs.Connection.{Connection, written, written_all, shut, told}
 use Rattle.mqtt5_broker.specs.Connection.{connection_at, connection_of, heard, taken_by}
+use Rattle.mqtt5_broker.specs.Connection.{learned, learned_topic}
+use Rattle.mqtt5_broker.specs.Aliases.{alias_used, unaliased, named}
 use Rattle.mqtt5_broker.specs.Broker.{Broker, number_of, free_number, on_connection, on_member}
 use Rattle.mqtt5_broker.specs.Broker.{loses_client, leaves_client, refuses, stays_at, expiring}
 use Rattle.mqtt5_broker.specs.Broker.{member_at, has_ended, numbers, number_in}
@@ -36,13 +38,23 @@ use Rattle.mqtt5_broker.specs.Bounds.{has_room, quota_fault}
 
 -- ---- a client that is connected
 
+-- whether there are any
+abbrev pub has_any : List Packet → Bool
+has_any [] = false
+has_any (p ∷ ps) = true
+
+-- whether a packet is answered
+abbrev pub answers : ℕ → Packet → Broker → Bool
+answers i x b = has_any (replies i x (sessions_before x b.groups b.sessions))
+
 -- a packet comes to its session, where a publish finds the turns of shared subscriptions with the next
 -- ones, and a Subscribe or an Unsubscribe changes who takes part (4.3, 4.8.2)
 abbrev pub comes_to_session : ℕ → Packet → Broker → Broker
 comes_to_session i x b = record b {
   sessions =
-      sessions_after i x b.groups (arrives i x (sessions_before x b.groups b.sessions));
-  groups = groups_after i x (groups_before x b.groups b.sessions);
+      sessions_after (answers i x b) i x (groups_before x b.groups b.sessions)
+      (arrives i x (sessions_before x b.groups b.sessions));
+  groups = groups_after (answers i x b) i x (groups_before x b.groups b.sessions);
 }
 
 -- and what is sent back is written
@@ -124,9 +136,15 @@ abbrev pub longest_of : Option ConnectProperties → Option ℕ
 longest_of None = None
 longest_of (Some set) = set.max_packet_size
 
+-- the keep alive that it is told, where it asks for none, or for a longer one than the longest
+-- (3.2.2.3.14)
+abbrev pub told_keep_alive : ℕ → ℕ → Option ℕ
+told_keep_alive most asked =
+    if most == 0 then None else if asked == 0 || nat_lt most asked then Some most else None
+
 -- for how many milliseconds it may be silent: one and a half times its keep alive (3.1.2.10)
-abbrev pub silence_of : Connect → ℕ
-silence_of k = 1500 * k.keep_alive
+abbrev pub silence_of : ℕ → Connect → ℕ
+silence_of most k = 1500 * or_else k.keep_alive (told_keep_alive most k.keep_alive)
 
 -- by what it is known that says this, of a user
 abbrev pub member_of : Option ℕ → Connect → Option LastWill → Member
@@ -139,29 +157,31 @@ member_of user k will = record {
   due = None;
 }
 
--- the longest packet that is taken (3.2.2.3.6)
-abbrev pub some_length : ℕ → Option ℕ
-some_length n = if n == 0 then None else Some n
+-- what is told of a number, of which 0 says nothing
+abbrev pub if_any : ℕ → Option ℕ
+if_any n = if n == 0 then None else Some n
 
 -- the name that the client is given, if it said none (3.2.2.3.7)
 abbrev pub given_name : Bool → Utf8 → Option Utf8
 given_name given name = if given then Some name else None
 
--- what a ConnAck says
-abbrev pub offers : ℕ → Bool → Connect → ConnAckProperties
-offers longest given k = record no_connack_properties {
-  max_packet_size = some_length longest;
+-- what a ConnAck says (3.2.2.3.6, 3.2.2.3.8, 3.2.2.3.14)
+abbrev pub offers : Bool → Connect → Broker → ConnAckProperties
+offers given k b = record no_connack_properties {
+  max_packet_size = if_any b.longest;
   assigned_client_identifier = given_name given k.client_id;
+  topic_alias_max = if_any b.alias_max;
+  server_keep_alive = told_keep_alive b.keep_alive_max k.keep_alive;
 }
 
 -- whether the broker has a session of the client (3.2.2.1.1)
-abbrev pub connack : ℕ → Bool → Bool → Connect → Packet
-connack longest present given k =
+abbrev pub connack : Bool → Bool → Connect → Broker → Packet
+connack present given k b =
     packets.ConnAck
     (record {
       session_present = present;
       code = return_codes.Success;
-      properties = Some (offers longest given k);
+      properties = Some (offers given k b);
     })
 
 -- why it isn't taken (3.2.2.2)
@@ -172,7 +192,7 @@ refusal code =
 -- the first packets to a client that is taken: the answer, and what its session sends again (4.4)
 abbrev pub welcome : ℕ → Bool → Bool → Connect → Broker → List Packet
 welcome i present given k b =
-    connack b.longest present given k
+    connack present given k b
     ∷ sent_again i (Some (receive_max_of k.properties)) b.sessions
 
 -- it is taken, and sent these
@@ -181,7 +201,7 @@ comes_in c i present given k will b =
     on_connection c
     (λ (l : Connection).
     written_all (welcome i present given k b)
-    (taken_by i (longest_of k.properties) (silence_of k) b.moment l))
+    (taken_by i (longest_of k.properties) (silence_of b.keep_alive_max k) b.moment l))
     (record b {
       sessions =
           comes i (Some (receive_max_of k.properties)) (option_map will_of will) b.sessions;
@@ -282,9 +302,22 @@ abbrev pub begins_with : ℕ → Packet → Broker → Broker
 begins_with c (packets.Connect k will login) b = connects c k will b
 begins_with c other b = on_connection c shut b
 
+-- a publish that uses an alias: with a topic it lets the alias stand for that on its connection, and
+-- otherwise it has the topic that the alias stands for (3.3.2.3.4)
+abbrev pub takes_under : ℕ → ℕ → ℕ → Packet → Broker → Broker
+takes_under a c i (packets.Publish p) b =
+    if length p.topic == 0
+    then serves c i (packets.Publish (named (learned_topic a (connection_at c b.connections)) p)) b
+    else serves c i (packets.Publish (unaliased p)) (on_connection c (learned a p.topic) b)
+takes_under a c i other b = serves c i other b
+
+abbrev pub takes_by : Option ℕ → ℕ → ℕ → Packet → Broker → Broker
+takes_by None c i x b = serves c i x b
+takes_by (Some a) c i x b = takes_under a c i x b
+
 abbrev pub takes_of : Option ℕ → ℕ → Packet → Broker → Broker
 takes_of None c x b = begins_with c x b
-takes_of (Some i) c x b = serves c i x b
+takes_of (Some i) c x b = takes_by (alias_used b.alias_max x) c i x b
 
 -- on a connection that takes none it does nothing; and otherwise that is heard
 abbrev pub takes_at : Connection → ℕ → Packet → Broker → Broker
@@ -300,10 +333,6 @@ takes c x b = takes_at (connection_at c b.connections) c x b
 abbrev pub sent_of : Option ℕ → Broker → List Packet
 sent_of None b = []
 sent_of (Some i) b = passed i b.sessions
-
-abbrev pub has_any : List Packet → Bool
-has_any [] = false
-has_any (p ∷ ps) = true
 
 -- it is passed on
 abbrev pub passes_of : Option ℕ → ℕ → Broker → Broker

@@ -36,6 +36,13 @@ pub struct Limits {
     pub ids: NonZeroU16,
     /// For how many milliseconds a connection may be open without a Connect; 0 is any time (3.1.4).
     pub wait: u32,
+    /// The greatest topic alias of a client; 0 is none (3.2.2.3.8).
+    pub alias_max: u16,
+    /// The longest keep alive of a client, in seconds, which one is told that asks for none or for a longer one; 0 is any
+    /// (3.2.2.3.14).
+    pub keep_alive_max: u16,
+    /// The number of the first name that a client is given which says none (3.1.3.1).
+    pub first_name: u64,
 }
 
 /// A broker: the sessions of its clients, who has them, its connections, which are numbers of the caller's, what its users may do,
@@ -50,6 +57,8 @@ pub struct Broker {
     pub(super) limit: NonZeroU16,
     pub(super) longest: u32,
     pub(super) wait: u32,
+    pub(super) alias_max: u16,
+    pub(super) keep_alive_max: u16,
     pub(super) bounds: Bounds,
     pub(super) moment: u64,
     pub(super) next_name: u64,
@@ -81,6 +90,8 @@ impl Model for Broker {
       limit = non_zero_u16_get a.limit;
       longest = a.longest;
       wait = a.wait;
+      alias_max = a.alias_max;
+      keep_alive_max = a.keep_alive_max;
       bounds = a.bounds;
       moment = a.moment;
       next_name = a.next_name;
@@ -120,9 +131,11 @@ impl Broker {
           limit = non_zero_u16_get limits.now.ids;
           longest = limits.now.longest;
           wait = limits.now.wait;
+          alias_max = limits.now.alias_max;
+          keep_alive_max = limits.now.keep_alive_max;
           bounds = no_bounds;
           moment = 0;
-          next_name = 0;
+          next_name = limits.now.first_name;
         }) }
     {
         Ok(Broker {
@@ -134,9 +147,11 @@ impl Broker {
             limit: limits.ids,
             longest: limits.longest,
             wait: limits.wait,
+            alias_max: limits.alias_max,
+            keep_alive_max: limits.keep_alive_max,
             bounds: no_bounds(),
             moment: 0,
-            next_name: 0,
+            next_name: limits.first_name,
         })
     }
 

@@ -6,8 +6,10 @@ ghost use Rattle.mqtt5_codec.specs.declared.packet.Packet.TheVariants as packets
 ghost use Rattle.mqtt5_broker.specs.declared.member.Member.{Member};
 ghost use Rattle.mqtt5_broker.specs.Connection.{Connection, shut, written, written_all, heard, taken_by};
 ghost use Rattle.mqtt5_broker.specs.Broker.{on_connection, numbers, number_in, number_of, free_number, assigned_name, number_after};
-ghost use Rattle.mqtt5_broker.specs.Serving.{longest_of, silence_of, some_length, given_name, offers, connack, refusal, welcome, comes_in, displaced, displaces, begins, returns, enters, turns_away, enters_if_room, assigns_by, assigns, returns_to_its, admits_as, admits, entry_fault, connects, begins_with, takes, takes_of};
+ghost use Rattle.mqtt5_broker.specs.Aliases.{alias_used};
+ghost use Rattle.mqtt5_broker.specs.Serving.{longest_of, silence_of, told_keep_alive, if_any, given_name, offers, connack, refusal, welcome, comes_in, displaced, displaces, begins, returns, enters, turns_away, enters_if_room, assigns_by, assigns, returns_to_its, admits_as, admits, entry_fault, connects, begins_with, takes, takes_by, takes_of};
 
+use crate::aliases::alias_used;
 use crate::broker::Broker;
 use crate::connections::{
     Terms, client_at, connection_of, hear_at, is_open_at, own_at, refuse_at, shut_at, tell_at,
@@ -17,7 +19,7 @@ use crate::groups::{give_all, leave_all};
 use crate::judging::connect_fault;
 use crate::member::{
     Member, assigned_name, free_number, has_ended_at, is_same, longest_of, member_of, number_after,
-    number_of, owner_at, receive_max_of, silence_of, stays_at,
+    number_of, owner_at, receive_max_of, silence_of, stays_at, told_keep_alive,
 };
 use crate::rights::will_denial;
 use crate::wills::will_of;
@@ -29,11 +31,18 @@ use mqtt5_session::StateError;
 use std::alloc::{AllocError, Global};
 use std::collections::VecDeque;
 
-/// The longest packet that is taken (3.2.2.3.6).
+/// What is told of the longest packet that is taken (3.2.2.3.6).
 fn some_length(longest: u32) -> Option<u32>
-    ensures { result ≡ some_length longest }
+    ensures { result ≡ if_any longest }
 {
     if longest == 0 { None } else { Some(longest) }
+}
+
+/// And of the greatest alias (3.2.2.3.8).
+fn some_alias(greatest: u16) -> Option<u16>
+    ensures { result ≡ if_any greatest }
+{
+    if greatest == 0 { None } else { Some(greatest) }
 }
 
 /// The name that a client is given, if it said none (3.2.2.3.7).
@@ -45,40 +54,6 @@ fn given_name(given: bool, name: &Text) -> Result<Option<Text>, AllocError>
     } else {
         Ok(None)
     }
-}
-
-/// What a ConnAck says. Err where memory is refused.
-fn offers(
-    alloc: Global,
-    longest: u32,
-    given: bool,
-    connect: &Connect,
-) -> Result<ConnAckProperties, AllocError>
-    ensures { IfOk result (λ p. p ≡ offers longest given connect.now) }
-{
-    let name = given_name(given, &connect.client_id)?;
-    let mut offers = ConnAckProperties::new(alloc);
-    offers.max_packet_size = some_length(longest);
-    offers.assigned_client_identifier = name;
-    Ok(offers)
-}
-
-/// The answer to a client that is taken, and whether the broker has a session of it (3.2.2.1.1). Err where memory is refused.
-fn connack(
-    alloc: Global,
-    longest: u32,
-    present: bool,
-    given: bool,
-    connect: &Connect,
-) -> Result<Packet, AllocError>
-    ensures { IfOk result (λ p. p ≡ connack longest present given connect.now) }
-{
-    let offers = offers(alloc, longest, given, connect)?;
-    Ok(Packet::ConnAck(ConnAck {
-        session_present: present,
-        code: ConnectReturnCode::Success,
-        properties: Some(offers),
-    }))
 }
 
 /// The answer to one that isn't.
@@ -93,6 +68,42 @@ fn refusal(code: ConnectReturnCode) -> Packet
 }
 
 impl Broker {
+    /// What a ConnAck says. Err where memory is refused.
+    fn offers(
+        &self,
+        alloc: Global,
+        given: bool,
+        connect: &Connect,
+    ) -> Result<ConnAckProperties, AllocError>
+        ensures { IfOk result (λ p. p ≡ offers given connect.now self.now) }
+    {
+        let name = given_name(given, &connect.client_id)?;
+        let mut offers = ConnAckProperties::new(alloc);
+        offers.max_packet_size = some_length(self.longest);
+        offers.assigned_client_identifier = name;
+        offers.topic_alias_max = some_alias(self.alias_max);
+        offers.server_keep_alive = told_keep_alive(self.keep_alive_max, connect.keep_alive);
+        Ok(offers)
+    }
+
+    /// The answer to a client that is taken, and whether the broker has a session of it (3.2.2.1.1). Err where memory is refused.
+    fn connack(
+        &self,
+        alloc: Global,
+        present: bool,
+        given: bool,
+        connect: &Connect,
+    ) -> Result<Packet, AllocError>
+        ensures { IfOk result (λ p. p ≡ connack present given connect.now self.now) }
+    {
+        let offers = self.offers(alloc, given, connect)?;
+        Ok(Packet::ConnAck(ConnAck {
+            session_present: present,
+            code: ConnectReturnCode::Success,
+            properties: Some(offers),
+        }))
+    }
+
     /// A client is taken on a connection, and sent what its session sends again. S12.
     #[tactic(auto, unfolding(crate::specs::Serving::comes_in))]
     fn come_in(
@@ -155,18 +166,18 @@ impl Broker {
     ) -> Result<(), AllocError>
         ensures { OnOk result (self.new ≡ on_connection connection (λ (l : Connection).
             written_all
-            (connack self.old.longest present given connect.now ∷ packets.now.items)
-            (taken_by client (longest_of connect.now.properties) (silence_of connect.now)
-            self.old.moment l)) self.old) }
+            (connack present given connect.now self.old ∷ packets.now.items)
+            (taken_by client (longest_of connect.now.properties)
+            (silence_of self.old.keep_alive_max connect.now) self.old.moment l)) self.old) }
     {
-        let welcome = connack(alloc, self.longest, present, given, connect)?;
+        let welcome = self.connack(alloc, present, given, connect)?;
         let written = welcome_at(
             &mut self.connections,
             connection,
             client,
             Terms {
                 longest: longest_of(&connect.properties),
-                silence: silence_of(connect),
+                silence: silence_of(self.keep_alive_max, connect),
             },
             self.moment,
             &welcome,
@@ -513,6 +524,24 @@ impl Broker {
         }
     }
 
+    /// A packet of a client that is connected, by the alias that it uses, if it does. S12.
+    fn take_from(
+        &mut self,
+        alloc: Global,
+        connection: usize,
+        client: usize,
+        packet: Packet,
+    ) -> Result<(), StateError>
+        ensures ok { OnOk result (self.new
+            ≡ takes_by (alias_used self.old.alias_max packet) connection client packet self.old) }
+        ensures memory { IfErr result (λ e. e ≡ StateError.OutOfMemory) }
+    {
+        match alias_used(self.alias_max, &packet) {
+            Some(alias) => self.take_under(alloc, connection, client, alias, packet),
+            None => self.serve(alloc, connection, client, packet),
+        }
+    }
+
     /// A packet of a connection that takes packets, by its client. S12.
     fn take_of(
         &mut self,
@@ -525,10 +554,7 @@ impl Broker {
         ensures memory { IfErr result (λ e. e ≡ StateError.OutOfMemory) }
     {
         match client {
-            Some(client) => {
-                self.serve(alloc, connection, client, packet)?;
-                Ok(())
-            }
+            Some(client) => self.take_from(alloc, connection, client, packet),
             None => {
                 let begun = self.begin_with(alloc, connection, &packet);
                 drop(packet);

@@ -2,14 +2,15 @@
 
 ghost use Rattle.std.specs.Prelude.{◌≡◌, ◌≢◌, ◌∷◌, ◌++◌, Some, OnOk, OnErr, IfOk};
 ghost use Rattle.std.specs.Option.{option_to_list};
-ghost use Rattle.mqtt5_broker.specs.Connection.{closed, opened, heard, taken_by, shut, written, written_all, told, of_user, emptied, holding, with_sent};
+ghost use Rattle.mqtt5_broker.specs.Connection.{closed, opened, heard, learned, learned_topic, taken_by, shut, written, written_all, told, of_user, emptied, holding, with_sent};
 ghost use Rattle.mqtt5_broker.specs.Asking.{kept_on};
 
 use crate::moments::unless_zero;
-use bytes::BytesMut;
-use mqtt5_base::Error;
+use bytes::{Bytes, BytesMut};
+use mqtt5_base::{Error, copied};
 use mqtt5_codec::Packet;
 use mqtt5_control::{Disconnect, DisconnectReasonCode};
+use mqtt5_inflight::Aliases;
 use std::alloc::{AllocError, Global};
 use std::collections::VecDeque;
 use std::marker::Model;
@@ -17,7 +18,8 @@ use std::mem;
 
 /// A connection of a broker: whether bytes of it are taken, which client connected on it, which user's it is, the longest packet
 /// that this client takes, the bytes that came in and are no whole frame yet, those to be sent, for how many milliseconds it may be
-/// silent, and the moment at which it was silent for too long (MQTT 5.0 sections 3.1.2.10, 3.1.2.11.4, 4.2 and 5.4.1).
+/// silent, the moment at which it was silent for too long, and the topics that its client's aliases stand for (MQTT 5.0 sections
+/// 3.1.2.10, 3.1.2.11.4, 3.3.2.3.4, 4.2 and 5.4.1).
 #[derive(Debug, Drop)]
 pub struct Connection {
     is_open: bool,
@@ -28,12 +30,17 @@ pub struct Connection {
     output: BytesMut,
     silence: u32,
     deadline: Option<u64>,
+    aliases: Aliases,
 }
 
 impl Model for Connection {
+    ghost use Rattle.std.specs.Coded.{codes};
+    ghost use Rattle.mqtt5_inflight.specs.Codes.{coded_aliases};
     ghost use Rattle.mqtt5_broker.specs.Connection as model;
 
     ghost Value = { model.Connection };
+
+    ghost coded = { Prim.hlevel (codes, coded_aliases) };
 
     ghost view = { λ a. record {
       is_open = a.is_open;
@@ -44,6 +51,7 @@ impl Model for Connection {
       output = a.output.items;
       silence = a.silence;
       deadline = a.deadline;
+      aliases = a.aliases;
     } };
 }
 
@@ -71,6 +79,7 @@ impl Connection {
             output: BytesMut::new(alloc),
             silence: 0,
             deadline: None,
+            aliases: Aliases::new(alloc),
         }
     }
 
@@ -87,6 +96,7 @@ impl Connection {
             output: BytesMut::new(alloc),
             silence,
             deadline: unless_zero(silence, at),
+            aliases: Aliases::new(alloc),
         }
     }
 
@@ -130,6 +140,24 @@ impl Connection {
         ensures { self.new ≡ of_user user self.old }
     {
         self.user = Some(user);
+    }
+
+    /// The topic that an alias stands for: no byte where it isn't known. Err where memory is refused.
+    pub(super) fn learned_topic(&self, alias: u16) -> Result<Bytes, AllocError>
+        ensures { IfOk result (λ t. t ≡ learned_topic alias self.now) }
+    {
+        match self.aliases.get(alias) {
+            Some(topic) => copied(topic),
+            None => Ok(Bytes::new()),
+        }
+    }
+
+    /// An alias stands for a topic from now on. Err where memory is refused.
+    pub(super) fn learn(&mut self, alias: u16, topic: Bytes) -> Result<(), AllocError>
+        ensures ok { OnOk result (self.new ≡ learned alias topic self.old) }
+        ensures left { OnErr result (self.new ≡ self.old) }
+    {
+        self.aliases.insert(alias, topic)
     }
 
     /// The bytes to be sent.

@@ -1,11 +1,11 @@
 //! The connections of a broker, by their numbers.
 
-ghost use Rattle.std.specs.Prelude.{◌≡◌, ◌∷◌, OnOk, OnErr, Some, None};
+ghost use Rattle.std.specs.Prelude.{◌≡◌, ◌∷◌, OnOk, OnErr, IfOk, Some, None};
 ghost use Rattle.std.specs.Option.{option_to_list};
-ghost use Rattle.mqtt5_broker.specs.Connection.{Connection, heard, taken_by, shut, written, written_all, told, holding, connection_at, with_connection, is_of, connection_of};
+ghost use Rattle.mqtt5_broker.specs.Connection.{Connection, heard, learned, learned_topic, taken_by, shut, written, written_all, told, holding, connection_at, with_connection, is_of, connection_of};
 
 use crate::connection::Connection;
-use bytes::BytesMut;
+use bytes::{Bytes, BytesMut};
 use mqtt5_codec::Packet;
 use mqtt5_control::DisconnectReasonCode;
 use std::alloc::AllocError;
@@ -64,6 +64,37 @@ pub(super) fn hear_at(connections: &mut [Connection], connection: usize, at: u64
     if connection < connections.len() {
         connections[connection].hear(at);
     }
+}
+
+/// The topic that an alias stands for on it: no byte where it isn't known. Err where memory is refused.
+pub(super) fn topic_at(
+    connections: &[Connection],
+    connection: usize,
+    alias: u16,
+) -> Result<Bytes, AllocError>
+    ensures { IfOk result (λ t. t ≡ learned_topic alias (connection_at connection connections.now)) }
+{
+    if connection >= connections.len() {
+        return Ok(Bytes::new());
+    }
+    connections[connection].learned_topic(alias)
+}
+
+/// An alias stands for a topic on it from now on. Err where memory is refused.
+pub(super) fn learn_at(
+    connections: &mut [Connection],
+    connection: usize,
+    alias: u16,
+    topic: Bytes,
+) -> Result<(), AllocError>
+    ensures ok { OnOk result
+        (connections.new ≡ with_connection connection (learned alias topic) connections.old) }
+    ensures left { OnErr result (connections.new ≡ connections.old) }
+{
+    if connection < connections.len() {
+        connections[connection].learn(alias, topic)?;
+    }
+    Ok(())
 }
 
 /// The moment at which it was silent for too long.

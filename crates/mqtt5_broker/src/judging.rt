@@ -32,6 +32,9 @@ fn is_topic(bytes: &[u8]) -> bool
 fn topic_fault(topic: &[u8]) -> Option<DisconnectReasonCode>
     ensures { result ≡ topic_fault topic.now }
 {
+    if topic.is_empty() {
+        return Some(DisconnectReasonCode::ProtocolError);
+    }
     if is_topic(topic) {
         None
     } else {
@@ -309,14 +312,14 @@ fn will_fault(will: &Option<LastWill>) -> Option<ConnectReturnCode>
     }
 }
 
-/// The length that the answer to a Connect needs: up to ten bytes, and up to 38 with a name that is given.
+/// The length that the answer to a Connect needs: up to 16 bytes, and up to 44 with a name that is given.
 fn answer_length(connect: &Connect) -> u32
     ensures { result ≡ answer_length connect.now }
 {
     if connect.client_id.as_bytes().is_empty() {
-        38
+        44
     } else {
-        10
+        16
     }
 }
 

@@ -1,6 +1,6 @@
 //! What holds of the definitions of a broker.
 
-ghost use Rattle.std.specs.Prelude.{◌≡◌, ◌≢◌, ◌⊎◌, ◌++◌, [], ℕ, List, Option, Some, None, Bool, true, false, ◌==◌, length, max, replicate};
+ghost use Rattle.std.specs.Prelude.{◌≡◌, ◌≢◌, ◌⊎◌, ◌++◌, [], ◌∷◌, ℕ, List, Option, Some, None, Bool, true, false, ◌==◌, length, max, replicate};
 ghost use Rattle.std.specs.List.{All, Contains};
 ghost use Rattle.mqtt5_base.specs.Texts.{Utf8};
 ghost use Rattle.mqtt5_base.specs.Topics.{topic_matches};
@@ -17,6 +17,7 @@ ghost use Rattle.mqtt5_codec.specs.declared.packet.Packet.TheVariants as packets
 ghost use Rattle.mqtt5_network.specs.declared.subscription.Subscription.{Subscription};
 ghost use Rattle.mqtt5_network.specs.declared.subscription.Share.{Share};
 ghost use Rattle.mqtt5_network.specs.Subscriptions.{is_of, holds_for, forwarded_to};
+ghost use Rattle.mqtt5_progress.specs.Subscribers.{hits};
 ghost use Rattle.mqtt5_network.specs.Retained.{copies_for};
 ghost use Rattle.mqtt5_sessions.specs.Runs.{SessionEvent, after_events};
 ghost use Rattle.mqtt5_broker.specs.Cut.{cut_up, goes_on_as, Breaks};
@@ -34,7 +35,7 @@ ghost use Rattle.mqtt5_broker.specs.declared.asking.Asks.TheVariants as asks;
 ghost use Rattle.mqtt5_broker.specs.Asking.{holds, asks_at};
 ghost use Rattle.mqtt5_broker.specs.Calls.{Call, after_calls};
 ghost use Rattle.mqtt5_broker.specs.Within.{subscriptions_at, IsWithin};
-ghost use Rattle.mqtt5_broker.specs.Sharing.{turn_in, IsShared};
+ghost use Rattle.mqtt5_broker.specs.Sharing.{turn_in, shares, has_turn_of, IsShared};
 
 use mqtt5_base::{front_laws, matching_laws};
 
@@ -130,11 +131,11 @@ pub fn any_calls_law()
         → IsStanding b → IsStanding (after_calls calls b) }
 {}
 
-/// A law, which does nothing when it is called: of those who have a shared subscription one at most has its turn, so a message that
-/// its filter matches is forwarded to one of them at most under it (4.8.2).
+/// A law, which does nothing when it is called: of those who have a shared subscription one has its turn, and a message that its
+/// filter matches is forwarded under it to that one, and to nobody else (4.8.2).
 pub fn sharing_law()
-    // Who has the turn is the first of the group: so it is in a new broker, and after any calls, of which none was refused for want
-    // of memory.
+    // Who takes part is who has the subscription, and who has the turn is the first of these: so it is in a new broker, and after
+    // any calls, of which none was refused for want of memory.
     ensures new { (b : Broker) → b.sessions.clients ≡ [] → b.groups ≡ [] → IsShared b }
     ensures calls { (calls : List Call) (b : Broker) → IsShared b → IsShared (after_calls calls b) }
     // And then two clients that have the turn in the subscription of a filter are one.
@@ -143,6 +144,14 @@ pub fn sharing_law()
         → Contains (subscriptions_at i b.sessions) s → Contains (subscriptions_at j b.sessions) t
         → is_of f s ≡ true → is_of f t ≡ true
         → turn_in s.share ≡ true → turn_in t.share ≡ true → i ≡ j }
+    // And where a client has a shared subscription, somebody has its turn.
+    ensures somebody { (f : Utf8) (i : ℕ) (b : Broker)
+        → IsShared b → shares f (subscriptions_at i b.sessions) ≡ true
+        → (j : ℕ) × (has_turn_of f (subscriptions_at j b.sessions) ≡ true) }
+    // Without No Local one that has its turn holds for each message that its filter matches, behind the share name.
+    ensures forwards { (own : Bool) (s : Subscription) (h : Share) (p : Publish)
+        → s.share ≡ Some h → turn_in s.share ≡ true → s.no_local ≡ false
+        → holds_for own s p ≡ hits (h.topic_filter ∷ []) p }
     // Of a shared subscription that hasn't its turn nothing is forwarded.
     ensures waits { (own : Bool) (s : Subscription) (h : Share) (p : Publish)
         → s.share ≡ Some h → turn_in s.share ≡ false → holds_for own s p ≡ false }

@@ -2,6 +2,7 @@
 //! MQTT 5.0.
 #![tactic(auto)]
 
+mod aliases;
 mod asking;
 mod bounds;
 mod broker;

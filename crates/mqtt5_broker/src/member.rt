@@ -5,7 +5,7 @@ ghost use Rattle.std.specs.Fmt.{decimal};
 ghost use Rattle.std.specs.List.{position};
 ghost use Rattle.mqtt5_base.specs.Texts.{Utf8};
 ghost use Rattle.mqtt5_broker.specs.Broker.{is_named, number_of, free_number, member_at, name_in, name_of, owner_at, owner_of, is_same, assigned_name, number_after, stays_at, stays_of, has_ended, will_is_due, end_of, due_of, away, gone, expiring, undue, on_member};
-ghost use Rattle.mqtt5_broker.specs.Serving.{or_else, expiry_of, receive_max_of, longest_of, silence_of, member_of};
+ghost use Rattle.mqtt5_broker.specs.Serving.{or_else, expiry_of, receive_max_of, longest_of, told_keep_alive, silence_of, member_of};
 
 use crate::moments::{has_come, seconds_after};
 use crate::wills::delay_in;
@@ -264,11 +264,28 @@ pub(super) fn longest_of(properties: &Option<ConnectProperties>) -> Option<u32>
     }
 }
 
-/// For how many milliseconds it may be silent: one and a half times its keep alive (3.1.2.10).
-pub(super) fn silence_of(connect: &Connect) -> u32
-    ensures { result ≡ silence_of connect.now }
+/// The keep alive that it is told, where it asks for none, or for a longer one than the longest (3.2.2.3.14).
+pub(super) fn told_keep_alive(most: u16, asked: u16) -> Option<u16>
+    ensures { result ≡ told_keep_alive most asked }
 {
-    1500 * connect.keep_alive as u32
+    if most == 0 {
+        return None;
+    }
+    if asked == 0 || most < asked {
+        return Some(most);
+    }
+    None
+}
+
+/// For how many milliseconds it may be silent: one and a half times its keep alive (3.1.2.10).
+pub(super) fn silence_of(most: u16, connect: &Connect) -> u32
+    ensures { result ≡ silence_of most connect.now }
+{
+    let seconds = match told_keep_alive(most, connect.keep_alive) {
+        Some(told) => told,
+        None => connect.keep_alive,
+    };
+    1500 * seconds as u32
 }
 
 /// By what a client is known that sent this, of a user.

@@ -1,6 +1,6 @@
 //! What a broker makes of the packets of a client that is connected.
 
-ghost use Rattle.std.specs.Prelude.{◌≡◌, Some, OnOk, OnErr, IfOk, IfErr};
+ghost use Rattle.std.specs.Prelude.{◌≡◌, Some, OnOk, OnErr, IfOk, IfErr, if◌then◌else◌};
 ghost use Rattle.mqtt5_codec.specs.declared.packet.Packet.TheVariants as packets;
 ghost use Rattle.std.specs.Option.{option_to_list};
 ghost use Rattle.mqtt5_control.specs.declared.disconnect.DisconnectReasonCode.TheVariants as reasons;
@@ -8,7 +8,7 @@ ghost use Rattle.mqtt5_broker.specs.Connection.{written, written_all, shut, told
 ghost use Rattle.mqtt5_broker.specs.Broker.{forgets, loses_client, leaves_client, publishes_will, refuses, dismisses, dismisses_of, on_connection, stays_at};
 ghost use Rattle.mqtt5_sessions.specs.Sessions.{arrives, replies};
 ghost use Rattle.mqtt5_broker.specs.Groups.{gives_all, groups_before, sessions_before};
-ghost use Rattle.mqtt5_broker.specs.Serving.{kind_of, comes_to_session, arrives_from, denies, brings, disconnects, fault_of, serves, serves_as};
+ghost use Rattle.mqtt5_broker.specs.Serving.{has_any, kind_of, comes_to_session, arrives_from, denies, brings, disconnects, fault_of, serves, serves_as};
 
 use crate::broker::Broker;
 use crate::connections::{client_at, is_open_at, shut_at, tell_at, write_at, write_some_at};
@@ -206,7 +206,7 @@ impl Broker {
         }
     }
 
-    /// One comes that changes who takes part, as these do then. S12.
+    /// One comes that changes who takes part, as these do then, if it is answered. S12.
     fn regroup(
         &mut self,
         alloc: Global,
@@ -215,15 +215,22 @@ impl Broker {
         groups: Vec<Group>,
     ) -> Result<Option<Packet>, StateError>
         ensures ok { OnOk result (self.new ≡ record self.old {
-          sessions = gives_all groups.items (arrives client packet self.old.sessions);
-          groups = groups.items;
+          sessions = gives_all
+              (if has_any (replies client packet self.old.sessions) then groups.items
+              else self.old.groups)
+              (arrives client packet self.old.sessions);
+          groups =
+              if has_any (replies client packet self.old.sessions) then groups.items
+              else self.old.groups;
         }) }
         ensures reply { IfOk result
             (λ r. option_to_list r ≡ replies client packet self.old.sessions) }
         ensures memory { IfErr result (λ e. e ≡ StateError.OutOfMemory) }
     {
         let reply = self.sessions.arrive(alloc, client, packet)?;
-        self.groups = groups;
+        if reply.is_some() {
+            self.groups = groups;
+        }
         give_all(&mut self.sessions, self.groups.as_slice());
         Ok(reply)
     }
