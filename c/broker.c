@@ -93,6 +93,13 @@ static uint64_t moment(void) {
     return (uint64_t)t.tv_sec * 1000 + (uint64_t)t.tv_nsec / 1000000;
 }
 
+/* The number of the first name that is given: another one at each start. */
+static uint64_t first_name(void) {
+    struct timespec t;
+    clock_gettime(CLOCK_REALTIME, &t);
+    return (uint64_t)t.tv_sec * 1000 + (uint64_t)t.tv_nsec / 1000000;
+}
+
 /* ---- Reasons (MQTT 5.0 section 2.4). ---- */
 
 /* From 0x80 on, by number. */
@@ -540,7 +547,8 @@ int main(int argc, char **argv) {
     connections = calloc(options.most, sizeof *connections);
     polled = calloc(options.most + 2, sizeof *polled);
     uint32_t wait = (uint32_t)options.wait_for * 1000;
-    uint32_t made = mqtt5_broker_new(&broker, options.most, (uint32_t)options.longest, (uint16_t)options.ids, wait);
+    uint32_t made = mqtt5_broker_new(&broker, options.most, (uint32_t)options.longest, (uint16_t)options.ids, wait,
+        (uint16_t)options.alias_max, (uint16_t)options.keep_alive_max, first_name());
     if (!connections || !polled || made != MQTT5_BROKER_DONE) {
         fprintf(stderr, "broker: no memory for %lu connections\n", options.most);
         return 1;

@@ -11,7 +11,7 @@
 #include <string.h>
 
 struct options options = {
-    .port = 1883, .most = 1024, .longest = 1048576, .ids = 1024, .wait_for = 10,
+    .port = 1883, .most = 1024, .longest = 1048576, .ids = 1024, .wait_for = 10, .alias_max = 10,
     .clients = 10000, .subscriptions = 1000, .retained = 10000, .queued = 100000, .queued_bytes = 67108864,
     .bound = "127.0.0.1",
 };
@@ -32,6 +32,8 @@ static const char help[] =
     "  --max-retained N         how many messages are retained, else 10000\n"
     "  --max-queued-messages N  how many messages wait for a client, else 100000\n"
     "  --max-queued-bytes N     and how many bytes these have, else 67108864\n"
+    "  --max-topic-alias N      the greatest topic alias of a client, else 10; 0 for none\n"
+    "  --max-keepalive SECONDS  the longest keep alive of a client; else, or with 0, it is any\n"
     "  --wait SECONDS           how long a connection may be open without a Connect, else 10; 0 for any time\n"
     "  -q, --quiet              no log\n"
     "  --help                   this text\n"
@@ -49,7 +51,8 @@ static const struct number {
 } numbers[] = {
     {"-p", &options.port, 0, 65535}, {"--port", &options.port, 0, 65535}, {"--wait", &options.wait_for, 0, 4294967},
     {"--max-connections", &options.most, 1, 1000000}, {"--max-packet-size", &options.longest, 1, 268435455},
-    {"--max-inflight", &options.ids, 1, 65535},
+    {"--max-inflight", &options.ids, 1, 65535}, {"--max-topic-alias", &options.alias_max, 0, 65535},
+    {"--max-keepalive", &options.keep_alive_max, 0, 65535},
     {"--max-sessions", &options.clients, 1, ULONG_MAX}, {"--max-subscriptions", &options.subscriptions, 0, ULONG_MAX},
     {"--max-retained", &options.retained, 0, ULONG_MAX}, {"--max-queued-messages", &options.queued, 0, ULONG_MAX},
     {"--max-queued-bytes", &options.queued_bytes, 0, ULONG_MAX}, {NULL, NULL, 0, 0},

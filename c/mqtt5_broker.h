@@ -33,9 +33,14 @@ typedef struct {
 
 /* Makes a broker in an empty handle, for connections of the numbers 0 to connections - 1. `longest` is the greatest
    remaining length of a packet that a client may send; `ids`, at least 1, how many publishes of QoS 1 and 2 a client is
-   sent ahead of their acks at most; and `wait` for how many milliseconds a connection may be open without a Connect, or
-   0 for any time. Where memory is refused the handle stays empty. */
-uint32_t mqtt5_broker_new(mqtt5_broker *b, size_t connections, uint32_t longest, uint16_t ids, uint32_t wait);
+   sent ahead of their acks at most; `wait` for how many milliseconds a connection may be open without a Connect, or 0 for
+   any time; `alias_max` the greatest topic alias of a client, or 0 for none; `keep_alive_max` its longest keep alive in
+   seconds, which one is told that asks for none or for a longer one, or 0 for any; and `first_name` the number of the
+   first name that a client is given which says none: auto- and the number, and then the next. A name that comes again
+   after a start of the program may be that of a client which still goes by it, so begin at another number each time.
+   Where memory is refused the handle stays empty. */
+uint32_t mqtt5_broker_new(mqtt5_broker *b, size_t connections, uint32_t longest, uint16_t ids, uint32_t wait, uint16_t alias_max,
+    uint16_t keep_alive_max, uint64_t first_name);
 
 /* What may be kept at most, from now on; before that there is no bound. How many clients are known at once, connected or
    away, and how many messages are retained: one more is refused with Quota exceeded (0x97), but a will is retained all the

@@ -142,7 +142,7 @@ is_server() {
         case $1 in
             -q | --quiet) ;;
             -p | --port | --bind | --users | --acl-file | --wait | --max-connections | --max-packet-size | --max-inflight | --max-sessions | \
-                --max-subscriptions | --max-retained | --max-queued-messages | --max-queued-bytes)
+                --max-subscriptions | --max-retained | --max-queued-messages | --max-queued-bytes | --max-topic-alias | --max-keepalive)
                 [ $# -gt 1 ] || return
                 shift
                 ;;

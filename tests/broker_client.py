@@ -52,6 +52,11 @@ def longest_packet(n):
     return b"\x27" + struct.pack(">I", n)
 
 
+def topic_alias(n):
+    """A Topic Alias (3.3.2.3.4)."""
+    return b"\x23" + struct.pack(">H", n)
+
+
 def identifier(n):
     """A Subscription Identifier (3.3.2.3.8, 3.8.2.1.2)."""
     return b"\x0b" + number(n)

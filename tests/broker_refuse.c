@@ -193,11 +193,11 @@ static void sends(mqtt5_broker *b, size_t connection, told *t) {
 /* Makes the broker; without memory the handle is empty, and may be tried again. */
 static void begins(mqtt5_broker *b, told *t) {
     bool some = false;
-    uint32_t code = mqtt5_broker_new(b, 3, 64, 10, 0);
+    uint32_t code = mqtt5_broker_new(b, 3, 64, 10, 0, 2, 0, 0);
     if (code == MQTT5_BROKER_OUT_OF_MEMORY) {
         t->refusals++;
         EXPECT(mqtt5_broker_pass(b, 0, &some), MQTT5_BROKER_NONE);
-        code = mqtt5_broker_new(b, 3, 64, 10, 0);
+        code = mqtt5_broker_new(b, 3, 64, 10, 0, 2, 0, 0);
     }
     EXPECT(code, MQTT5_BROKER_DONE);
     EXPECT(mqtt5_broker_bound(b, 3, 1, 0, 1, 100), MQTT5_BROKER_DONE);

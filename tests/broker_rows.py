@@ -16,7 +16,7 @@ from contextlib import asynccontextmanager
 from broker_client import (
     PINGRESP, PUBACK, PUBCOMP, PUBLISH, PUBREC, PUBREL, SUBACK, Client, Ended, Will, ack_frame, connect_frame,
     disconnect_frame, expiry, frame, identifier, longest_packet, message_of, number, properties_of, publish_frame, receive_maximum,
-    subscribe_frame, text)
+    subscribe_frame, text, topic_alias)
 
 FOLDER, BROKER = sys.argv[1], sys.argv[2]
 WANTED = sys.argv[3:]
@@ -1085,6 +1085,19 @@ async def keep_alive(b):
     await asyncio.gather(silent(), pings(), is_off())
 
 
+@row(mosquitto=False)  # (its own option stands in a file)
+async def keep_alive_of_server(_):
+    """A client that asks for no keep alive, or for one that is too long, is told the longest, which holds then (3.2.2.3.14)."""
+    async with started("--max-keepalive", "2") as b:
+        for asked, told in ((0, 2), (3, 2), (65535, 2), (2, None), (1, None)):
+            async with b.connected("alive-told", keep=asked) as one:
+                assert one.connack.get(0x13) == told, (asked, one.connack)
+        one, begun = b.client("alive-told"), time.monotonic()
+        await one.connect()
+        await one.ends_by(0x8D)
+        assert 3 <= time.monotonic() - begun <= 7, time.monotonic() - begun
+
+
 @row(mosquitto=False)  # (mosquitto has no option for it)
 async def wait_for_connect(_):
     """A connection on which no Connect comes is closed after the wait (--wait)."""
@@ -1116,6 +1129,9 @@ async def empty_identifier(b):
         assert back.present == 1
     async with b.connected(names[1], clean=False) as back:
         assert back.present == 0
+    # and none of those comes again after another start
+    async with started() as other, other.connected("") as three:
+        assert three.connack[0x12].decode() not in names, (names, three.connack)
 
 
 @row()
@@ -1194,7 +1210,10 @@ async def protocol_errors(b):
         (frame(0x20, b"\0\0\0"), 0x82),                                     # a ConnAck (3.2)
         (frame(0xF0, b"\x18\0"), 0x82),                                      # an Auth without a method (4.12)
         (publish_frame("errors/#", b"x"), 0x90),                             # a wildcard in a topic (3.3.2.1)
-        (publish_frame("errors", b"x", properties=b"\x23\xff\xff"), 0x94),   # an alias over the maximum (3.3.2.3.4)
+        (publish_frame("errors", b"x", properties=topic_alias(65535)), 0x94),  # an alias over the maximum (3.3.2.3.4)
+        (publish_frame("errors", b"x", properties=topic_alias(0)), 0x94),     # and one of 0
+        (publish_frame("", b"x", properties=topic_alias(1)), 0x82),           # one that stands for nothing
+        (publish_frame("", b"x"), 0x82),                                     # no topic, and no alias (3.3.2.1)
     ]
     if IS_OURS:
         # (mosquitto takes them)
@@ -1229,6 +1248,36 @@ async def too_long(b):
 
 
 @row()
+async def topic_aliases(b):
+    """A client's aliases stand for the topics that it says, as long as its connection, and each message comes with its topic
+    (3.3.2.3.4)."""
+    async with b.connected("alias-sub") as sub, b.connected("alias-pub") as pub:
+        assert pub.connack[0x22] == 10, pub.connack
+        await sub.subscribe("alias/#")
+        sent = [("alias/one", 1), ("", 1), ("alias/ten", 10), ("", 1), ("", 10), ("alias/two", 1), ("", 1), ("", 10), ("alias/no", None)]
+        topics = {}
+        for qos in (0, 1, 2):
+            for i, (topic, alias) in enumerate(sent):
+                topics[alias] = topic or topics[alias]
+                await pub.publish(topic, b"%d" % i, qos, properties=topic_alias(alias) if alias else b"")
+                message = await sub.take()
+                assert (message.topic, message.payload, message.qos) == (topics[alias], b"%d" % i, qos), message
+                assert topic_alias(alias or 0)[:1] not in message.properties, message
+        # one of another connection stands for nothing here
+        await pub.disconnect()
+        await pub.connect()
+        pub.send(publish_frame("", b"x", properties=topic_alias(1)))
+        await (pub.ends_by(0x82) if IS_OURS else until_end(pub))
+        await sub.ping()
+    # and without a maximum each is too great
+    if IS_OURS:
+        async with started("--max-topic-alias", "0") as none, none.connected("alias-none") as one:
+            assert 0x22 not in one.connack, one.connack
+            one.send(publish_frame("a", b"x", properties=topic_alias(1)))
+            await one.ends_by(0x94)
+
+
+@row()
 async def offered(b):
     """The ConnAck says of nothing that there isn't (3.2.2.3.4 to 3.2.2.3.13): of each QoS, of what is retained, of wildcards,
     subscription identifiers and shared subscriptions. A filter that is none is invalid (4.7.1)."""
@@ -1242,7 +1291,7 @@ async def offered(b):
 @row(mosquitto=False)  # (mosquitto ends such connections without an answer)
 async def shortest_of_client(b):
     """A client that takes less than the ConnAck of its Connect may need is refused with Packet too large (3.1.2.11.4)."""
-    for name, least in (("shortest", 10), ("", 38)):
+    for name, least in (("shortest", 16), ("", 44)):
         one = await b.client(name).dial()
         one.send(connect_frame(name, properties=longest_packet(least - 1)))
         await one.is_refused(0x95)
@@ -2102,7 +2151,7 @@ async def options(b):
     """Which words the server takes."""
     assert (await says("--help"))[:2][0] == 0
     for words in ("--bind 0.0.0.0", "--bind 192.168.0.1", "--bind ::", "--bind example.org", "--bind", "--port 70000", "-p", "-p 1x", "--nothing 1",
-                  "--max-connections 0", "--max-inflight 65536", "--max-packet-size 268435456", "--max-sessions 0",
+                  "--max-connections 0", "--max-inflight 65536", "--max-topic-alias 65536", "--max-keepalive -1", "--max-packet-size 268435456", "--max-sessions 0",
                   "--max-queued-bytes 18446744073709551616", "--wait -1", "--acl-file x"):
         status, _, told = await says(*words.split())
         assert status == 2 and told.count("\n") == 1, (words, status, told)

@@ -65,8 +65,8 @@ may_begin c b =
     nat_lt c (length b.connections) && not (connection_at c b.connections).is_open
 
 -- a broker with no client, for so many connections
-abbrev pub fresh : ℕ → ℕ → ℕ → ℕ → Broker
-fresh connections longest ids wait = record {
+abbrev pub fresh : ℕ → ℕ → ℕ → ℕ → ℕ → ℕ → ℕ → Broker
+fresh connections longest ids wait alias_max keep_alive_max first_name = record {
   sessions = record { clients = []; retained = [] };
   groups = [];
   members = [];
@@ -75,9 +75,11 @@ fresh connections longest ids wait = record {
   limit = ids;
   longest = longest;
   wait = wait;
+  alias_max = alias_max;
+  keep_alive_max = keep_alive_max;
   bounds = no_bounds;
   moment = 0;
-  next_name = 0;
+  next_name = first_name;
 }
 
 -- ---- who wants to connect

@@ -16,7 +16,7 @@ use std::num::NonZeroU16;
 fn boxed(alloc: Global, limits: &Limits) -> Option<Box<Broker>>
     ensures { IfSome result (λ b. b.value
         ≡ fresh limits.now.connections limits.now.longest (non_zero_u16_get limits.now.ids)
-        limits.now.wait) }
+        limits.now.wait limits.now.alias_max limits.now.keep_alive_max limits.now.first_name) }
 {
     let Ok(broker) = Broker::new(alloc, limits) else {
         return None;
@@ -26,9 +26,10 @@ fn boxed(alloc: Global, limits: &Limits) -> Option<Box<Broker>>
 
 /// Makes a broker in an empty handle, for connections of the numbers 0 to `connections` - 1. `longest` is the greatest
 /// remaining length of a packet that a client may send, in bytes; `ids`, at least 1, how many publishes of QoS 1 and 2 a
-/// client is sent ahead of their acks at most; and `wait` for how many milliseconds a connection may be open without a
-/// Connect, or 0 for any time. 0; 12 where memory is refused, 201 of `ids` 0, 202 where there is a broker: then the handle
-/// is as before.
+/// client is sent ahead of their acks at most; `wait` for how many milliseconds a connection may be open without a Connect,
+/// or 0 for any time; `alias_max` the greatest topic alias of a client, or 0 for none; `keep_alive_max` its longest keep
+/// alive in seconds, or 0 for any; and `first_name` the number of the first name that a client is given which says none.
+/// 0; 12 where memory is refused, 201 of `ids` 0, 202 where there is a broker: then the handle is as before.
 #[unsafe(no_mangle)]
 pub extern "C" fn mqtt5_broker_new(
     alloc: Global,
@@ -37,6 +38,9 @@ pub extern "C" fn mqtt5_broker_new(
     longest: u32,
     ids: u16,
     wait: u32,
+    alias_max: u16,
+    keep_alive_max: u16,
+    first_name: u64,
 ) -> u32
     requires { IsKept h.old }
     ensures kept { IsKept h.new }
@@ -44,7 +48,8 @@ pub extern "C" fn mqtt5_broker_new(
     ensures full { IsSome h.old.broker_ptr.value → (result ≡ has_broker)
         × (h.new.broker_ptr.value ≡ h.old.broker_ptr.value) }
     ensures made { IsNone h.old.broker_ptr.value → 0 < ids
-        → ((result ≡ done) × (h.new.broker_ptr.value ≡ Some (fresh connections longest ids wait)))
+        → ((result ≡ done) × (h.new.broker_ptr.value ≡ Some (fresh connections longest ids wait
+        alias_max keep_alive_max first_name)))
         ⊎ ((result ≡ out_of_memory) × (h.new.broker_ptr.value ≡ None)) }
     ensures none { IsNone h.old.broker_ptr.value → ids ≡ 0
         → (result ≡ bad_argument) × (h.new.broker_ptr.value ≡ None) }
@@ -61,6 +66,9 @@ pub extern "C" fn mqtt5_broker_new(
         longest,
         ids,
         wait,
+        alias_max,
+        keep_alive_max,
+        first_name,
     };
     match boxed(alloc, &limits) {
         Some(broker) => {
