@@ -72,7 +72,8 @@ pub(super) fn topic_at(
     connection: usize,
     alias: u16,
 ) -> Result<Bytes, AllocError>
-    ensures { IfOk result (λ t. t ≡ learned_topic alias (connection_at connection connections.now)) }
+    ensures { IfOk result
+        (λ t. t ≡ learned_topic alias (connection_at connection connections.now)) }
 {
     if connection >= connections.len() {
         return Ok(Bytes::new());
