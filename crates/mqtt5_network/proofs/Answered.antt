@@ -173,7 +173,7 @@ run_more (e ∷ es) fs n = run_more es fs (happens_in n e)
 
 pub shown_since_answered : (n m : Network) (es more : List NetworkEvent) (i : ℕ) (p q : Place) (s : Subscription) (test : Publish → Bool) → IsReached n → Lives i es → m ≡ run_network es n → slice_get n.places i ≡ Some p → slice_get m.places i ≡ Some q → IsClear p.client
     → answers_told q.client.session ≡ answers_told p.client.session + length (asked_in i es n) → Contains (subscriptions_by (asked_in i es n) []) s → Covers test s → IsClass ExactlyOnce test → IsNew test → given_in m (published test) ≡ 0 → Unchanged i more → AllAtRest (run_network more m)
-    → AtPlace i (λ (c : Client). count_by test (shown c.session) + lost_in (run_network more m) (published test) ≡ given_in (run_network more m) (published test)) (run_network more m)
+    → AtPlace i (λ (c : Client). count_by test (shown c.session) + count_by test c.expired + lost_in (run_network more m) (published test) ≡ given_in (run_network more m) (published test)) (run_network more m)
 shown_since_answered n m es more i p q s test r on same was is clear as_many has covers k new none u rest =
     let there : slice_get (run_network es n).places i ≡ Some q = ap (λ (x : Network). slice_get x.places i) (sym same) ∙ is in
     let t = taken_in n es i p q r on was there clear as_many in

@@ -59,7 +59,16 @@ client_turned handed f turn c i =
     record {
       limit = i.limit;
       sender_limit = i.sender_limit;
-      good = record { from = i.good.from; to = i.good.to; own = i.good.own; range = i.good.range; queued = i.good.queued; told = i.good.told };
+      good = record {
+        from = i.good.from;
+        passed = i.good.passed;
+        to = i.good.to;
+        parts = i.good.parts;
+        own = i.good.own;
+        range = i.good.range;
+        queued = i.good.queued;
+        told = i.good.told;
+      };
       few = i.few;
     }
 
@@ -82,7 +91,9 @@ client_gets handed xs c copies i =
       sender_limit = i.sender_limit;
       good = record {
         from = i.good.from;
+        passed = i.good.passed;
         to = i.good.to;
+        parts = i.good.parts;
         own = i.good.own;
         range = i.good.range;
         queued = all_both c.queue xs i.good.queued copies.forwarded;

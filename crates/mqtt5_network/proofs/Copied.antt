@@ -49,6 +49,7 @@ none_come handed p events.Lost q = refl
 none_come handed p events.Left q = refl
 none_come handed p (events.Turn f turn) q = refl
 none_come handed p events.Due q = refl
+none_come handed p events.Expire q = refl
 none_come handed p (events.Back m n w) q = refl
 none_come handed p events.Ends q = refl
 
@@ -109,7 +110,7 @@ module _ (test : Publish → Bool) (old : IsCopy test) (i : ℕ) where
 
 pub copies_shown : (n : Network) (es : List NetworkEvent) (i : ℕ) (p q : Place) (test : Publish → Bool) → IsReached n → IsClass ExactlyOnce test → IsCopy test → slice_get n.places i ≡ Some p
     → slice_get (run_network (record { client = i; what = events.Up } ∷ es) n).places i ≡ Some q → AtPlace i (λ (c : Client). IsHeard c × NoneKeepRetain c.subscriptions) (happens_in n (record { client = i; what = events.Up })) → Unchanged i es → AtRest q
-    → count_by test (shown q.client.session) ≡ count_by test (routed p.client) + count_by test (copies_in n.handed p events.Up)
+    → count_by test (shown q.client.session) + count_by test q.client.expired ≡ count_by test (routed p.client) + count_by test (copies_in n.handed p events.Up)
 copies_shown n es i p q test reached k old was is heard u r =
     let e : NetworkEvent = record { client = i; what = events.Up } in
     let j : IsJoined n = joined n reached in

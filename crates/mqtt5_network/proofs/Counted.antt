@@ -116,27 +116,30 @@ pub record Rests (c : Client) : Type 0 where
 
 module _ (handed : List Publish) (c : Client) (i : IsClient handed c) where
   module _ (test : Publish → Bool) where
-    -- what was put into its queue was taken on, or is in it
-    parted : count_by test (routed c) ≡ count_by test c.taken + count_by test c.queue
-    parted = count_both test c.taken c.queue
+    -- what was put into its queue the sender took on, or it expired, or it is in it
+    parted : count_by test (routed c) ≡ count_by test i.good.passed + count_by test c.expired + count_by test c.queue
+    parted =
+        let a = count_both test c.taken c.queue in
+        let b = i.good.parts test in
+        omega (arith, a, b)
 
     pub shown_most : (q : QoS) → q ≢ AtLeastOnce → IsClass q test → count_by test (shown c.session) ≤ count_by test (routed c)
     shown_most q ne k =
-        let a = most test _ i.sender_limit c.lost (flow_to c) i.good.to q ne k in
+        let a = most test _ i.sender_limit c.lost (flow_to c i.good.passed) i.good.to q ne k in
         let p = parted in
         omega (arith, a, p)
 
     pub shown_losses : (q : QoS) → IsClass q test → count_by test (shown c.session) ≤ (c.lost + 1) * count_by test (routed c)
     shown_losses q k =
-        let a = for_losses test _ i.sender_limit c.lost (flow_to c) i.good.to q k in
+        let a = for_losses test _ i.sender_limit c.lost (flow_to c i.good.passed) i.good.to q k in
         let p = parted in
-        let g : count_by test c.taken ≤ count_by test (routed c) = omega (arith, p) in
+        let g : count_by test i.good.passed ≤ count_by test (routed c) = omega (arith, p) in
         let m = mul-le-mul_left c.lost g in
         omega (arith, a, g, m)
 
-    pub shown_ledger : IsClass ExactlyOnce test → count_by test (shown c.session) + kept_at c.session.core.incoming c.sender.core test + count_by test c.queue ≡ count_by test (routed c)
+    pub shown_ledger : IsClass ExactlyOnce test → count_by test (shown c.session) + kept_at c.session.core.incoming c.sender.core test + count_by test c.expired + count_by test c.queue ≡ count_by test (routed c)
     shown_ledger k =
-        let a = balance test _ i.sender_limit c.lost (flow_to c) i.good.to k in
+        let a = balance test _ i.sender_limit c.lost (flow_to c i.good.passed) i.good.to k in
         let p = parted in
         omega (arith, a, p)
 
@@ -160,16 +163,16 @@ module _ (handed : List Publish) (c : Client) (i : IsClient handed c) where
       none_queued : count_by test c.queue ≡ 0
       none_queued = ap (count_by test) r.queue
 
-      pub shown_exactly : IsClass ExactlyOnce test → count_by test (shown c.session) ≡ count_by test (routed c)
+      pub shown_exactly : IsClass ExactlyOnce test → count_by test (shown c.session) + count_by test c.expired ≡ count_by test (routed c)
       shown_exactly k =
-          let a = exactly test _ i.sender_limit c.lost (flow_to c) i.good.to (ap sent r.down) (ap acks r.up) k in
+          let a = exactly test _ i.sender_limit c.lost (flow_to c i.good.passed) i.good.to (ap sent r.down) (ap acks r.up) k in
           let p = parted in
           let z = none_queued in
           omega (arith, a, p, z)
 
-      pub shown_least : IsClass AtLeastOnce test → count_by test (routed c) ≤ count_by test (shown c.session)
+      pub shown_least : IsClass AtLeastOnce test → count_by test (routed c) ≤ count_by test (shown c.session) + count_by test c.expired
       shown_least k =
-          let a = least test _ i.sender_limit c.lost (flow_to c) i.good.to (ap sent r.down) (ap acks r.up) k in
+          let a = least test _ i.sender_limit c.lost (flow_to c i.good.passed) i.good.to (ap sent r.down) (ap acks r.up) k in
           let p = parted in
           let z = none_queued in
           omega (arith, a, p, z)
@@ -179,13 +182,13 @@ module _ (handed : List Publish) (c : Client) (i : IsClient handed c) where
       own_exactly k = exactly test _ i.limit c.lost (flow_from c) i.good.from (ap sent r.up) (ap acks r.down) k
 
   pub has_tokens : (id : ℕ) → HasTokens c id
-  has_tokens id = record { session = tokens (λ p. true) _ i.limit c.lost (flow_from c) i.good.from id; sender = tokens (λ p. true) _ i.sender_limit c.lost (flow_to c) i.good.to id }
+  has_tokens id = record { session = tokens (λ p. true) _ i.limit c.lost (flow_from c) i.good.from id; sender = tokens (λ p. true) _ i.sender_limit c.lost (flow_to c i.good.passed) i.good.to id }
 
   module _ (u : c.up ≡ []) (d : c.down ≡ []) where
     pub done : IsDone c
     done =
         let a = settled (λ p. true) _ i.limit c.lost (flow_from c) i.good.from (ap sent u) (ap acks d) in
-        let b = settled (λ p. true) _ i.sender_limit c.lost (flow_to c) i.good.to (ap sent d) (ap acks u) in
+        let b = settled (λ p. true) _ i.sender_limit c.lost (flow_to c i.good.passed) i.good.to (ap sent d) (ap acks u) in
         record {
           session = record { in_use = a.core.in_use; waiting = a.core.waiting };
           sender = record { in_use = b.core.in_use; waiting = b.core.waiting };

@@ -1,5 +1,5 @@
 -- What happens to a client keeps both of its flows, and what it leaves in the queue is as it is to be forwarded.
-use Rattle.std.proofs.Common.{◌≡◌, ℕ, ◌+◌, ◌-◌, ◌<◌, ◌≤◌, Bool, true, false, cond, List, [], ◌∷◌, ◌++◌, length, Option, None, Some, Result, Ok, Err, refl, sym, ap, ◌∙◌, subst, arith, append-nil, ◌==◌, append_assoc, length-append, length-drop, drop}
+use Rattle.std.proofs.Common.{◌≡◌, ℕ, ◌+◌, ◌-◌, ◌<◌, ◌≤◌, Bool, true, false, cond, List, [], ◌∷◌, ◌++◌, length, Option, None, Some, Result, Ok, Err, refl, sym, ap, ◌∙◌, subst, arith, append-nil, ◌==◌, count_by, append_assoc, length-append, length-drop, take, drop, take-append-drop}
 use Rattle.std.specs.Prelude.{option_map, sum_by}
 use Rattle.std.specs.Option.{option_to_list}
 use Rattle.std.proofs.lemmas.List.Sums.{sum_by-append, sum_by-cons}
@@ -40,10 +40,11 @@ use Rattle.mqtt5_subscribe.specs.declared.subscribe.Subscribe.{Subscribe}
 use Rattle.mqtt5_subscribe.specs.declared.unsubscribe.Unsubscribe.{Unsubscribe}
 use Rattle.mqtt5_network.specs.Subscriptions.{granted_for, holding, identifiers_of, forwarded_under, forwarded_to}
 use Rattle.mqtt5_network.specs.Answered.{answers_told}
-use Rattle.mqtt5_network.specs.Client.{Client, routed, new_client, asked_of, sends_of, comes_to, goes_up, takes_in, goes_down, queues, taken_for, passes_on, reconnects}
+use Rattle.mqtt5_network.specs.Client.{Client, routed, new_client, asked_of, sends_of, comes_to, goes_up, takes_in, goes_down, queues, taken_for, passes_on, takes_out, reconnects}
 use Rattle.mqtt5_network.proofs.Telling.{Same, out_same, subscribe_same, unsubscribe_same, sending_same, ack_same, answer_more, back_same, Tells, tells_still, tells_same, tells_taken, tells_lost, tells_asked}
 use Rattle.mqtt5_network.proofs.Moves.{Move, moved, AsksForNone, asked_in_move}
 use Rattle.mqtt5_network.proofs.Moves as moves
+use Rattle.mqtt5_network.proofs.Forwarding.{count_both}
 
 -- ---- what is said of the packets of a flow
 
@@ -86,6 +87,10 @@ pub record IsForwarded (p : Publish) : Type 0 where
 pub all_both : (xs ys : List Publish) → AllByRecursion IsForwarded xs → AllByRecursion IsForwarded ys → AllByRecursion IsForwarded (xs ++ ys)
 all_both [] ys all more = more
 all_both (x ∷ xs) ys all more = (all.0, all_both xs ys all.1 more)
+
+all_dropped : (xs : List Publish) → AllByRecursion IsForwarded xs → AllByRecursion IsForwarded (drop 1 xs)
+all_dropped [] all = tt
+all_dropped (x ∷ xs) all = all.1
 
 -- so is all that is forwarded
 module _ (own : Bool) (ss : List Subscription) where
@@ -165,17 +170,21 @@ ends_from c = record { sender = c.session; receiver = c.receiver; there = c.up; 
 abbrev pub flow_from : Client → World
 flow_from c = flow_of (ends_from c)
 
-abbrev ends_to : Client → Ends
-ends_to c = record { sender = c.sender; receiver = as_receiver c.session; there = c.down; back = c.up; taken = c.taken }
+-- (of those that the sender took on)
+abbrev ends_to : Client → List Publish → Ends
+ends_to c passed = record { sender = c.sender; receiver = as_receiver c.session; there = c.down; back = c.up; taken = passed }
 
-abbrev pub flow_to : Client → World
-flow_to c = flow_of (ends_to c)
+abbrev pub flow_to : Client → List Publish → World
+flow_to c passed = flow_of (ends_to c passed)
 
 -- both flows are runs, the client sends its acks itself, its sender's last id is within its limit, what is in its queue is as it is
--- forwarded, and what comes down beside the flows answers a request for subscriptions
+-- forwarded, what left the queue the sender took on, or it had expired, and what comes down beside the flows answers a request for
+-- subscriptions
 pub record IsGood (limit sender_limit : ℕ) (c : Client) : Type 0 where
   pub from : IsFlow Any limit c.lost (flow_from c)
-  pub to : IsFlow Plain sender_limit c.lost (flow_to c)
+  pub passed : List Publish
+  pub to : IsFlow Plain sender_limit c.lost (flow_to c passed)
+  pub parts : (test : Publish → Bool) → count_by test c.taken ≡ count_by test passed + count_by test c.expired
   pub own : c.session.core.manual_acks ≡ false
   pub range : 0 < sender_limit → InRange c.sender.core
   pub queued : AllByRecursion IsForwarded c.queue
@@ -271,10 +280,12 @@ module _ (limit sender_limit : ℕ) (c : Client) (i : IsGood limit sender_limit 
           record {
             good = record {
               from = a;
-              to = subst (IsFlow Plain sender_limit c.lost) (sym (same_flow c.sender c.sender (as_receiver c.session) (as_receiver t) c.down c.down c.up (c.up ++ option_to_list reply) c.taken refl e.seen refl (behind_sends c.up (option_to_list reply) k).1)) i.to;
+              to = subst (IsFlow Plain sender_limit c.lost) (sym (same_flow c.sender c.sender (as_receiver c.session) (as_receiver t) c.down c.down c.up (c.up ++ option_to_list reply) i.passed refl e.seen refl (behind_sends c.up (option_to_list reply) k).1)) i.to;
               own = e.own ∙ i.own;
               range = i.range;
               queued = i.queued;
+              passed = i.passed;
+              parts = i.parts;
               told = i.told;
             };
             grows = same _ _ refl;
@@ -288,10 +299,12 @@ module _ (limit sender_limit : ℕ) (c : Client) (i : IsGood limit sender_limit 
   good_sends (Ok reply) t a k =
       record {
         from = subst (IsFlow Any limit c.lost) (sym (same_flow c.session t c.receiver c.receiver c.up (c.up ++ option_to_list reply) c.down c.down c.accepted a.same refl (behind_others c.up (option_to_list reply) k).1 refl)) i.from;
-        to = subst (IsFlow Plain sender_limit c.lost) (sym (same_flow c.sender c.sender (as_receiver c.session) (as_receiver t) c.down c.down c.up (c.up ++ option_to_list reply) c.taken refl a.kept.seen refl (behind_others c.up (option_to_list reply) k).2)) i.to;
+        to = subst (IsFlow Plain sender_limit c.lost) (sym (same_flow c.sender c.sender (as_receiver c.session) (as_receiver t) c.down c.down c.up (c.up ++ option_to_list reply) i.passed refl a.kept.seen refl (behind_others c.up (option_to_list reply) k).2)) i.to;
         own = a.kept.own ∙ i.own;
         range = i.range;
         queued = i.queued;
+        passed = i.passed;
+        parts = i.parts;
         told = i.told;
       }
   good_sends (Err f) t a k = i
@@ -308,6 +321,8 @@ module _ (limit sender_limit : ℕ) (c : Client) (i : IsGood limit sender_limit 
               own = i.own;
               range = i.range;
               queued = i.queued;
+              passed = i.passed;
+              parts = i.parts;
               told = told_still d.down behind.2;
             };
             grows = serve_grows c.receiver x;
@@ -334,8 +349,8 @@ module _ (limit sender_limit : ℕ) (c : Client) (i : IsGood limit sender_limit 
         behind : (acks (c.down ++ option_to_list (serve c.receiver x).0) ≡ acks c.down ++ option_to_list (serve c.receiver x).0) × (sent (c.down ++ option_to_list (serve c.receiver x).0) ≡ sent c.down) × (others (c.down ++ option_to_list (serve c.receiver x).0) ≡ others c.down)
         behind = behind_acks c.down (option_to_list (serve c.receiver x).0) (serve_acks c.receiver x)
 
-        other : flow_to d ≡ flow_to c
-        other = same_flow c.sender c.sender (as_receiver c.session) (as_receiver c.session) c.down d.down c.up rest c.taken refl refl behind.1 (sym (first_sending c.up x rest u e).1)
+        other : flow_to d i.passed ≡ flow_to c i.passed
+        other = same_flow c.sender c.sender (as_receiver c.session) (as_receiver c.session) c.down d.down c.up rest i.passed refl refl behind.1 (sym (first_sending c.up x rest u e).1)
 
     to_sender : is_sending x ≡ false → is_an_ack x ≡ true → Step limit sender_limit c (comes_to false true (record c { up = rest }) x) 1 (filters_in x)
     to_sender e h =
@@ -345,8 +360,10 @@ module _ (limit sender_limit : ℕ) (c : Client) (i : IsGood limit sender_limit 
               from = subst (IsFlow Any limit c.lost) (sym other) i.from;
               to = a.still;
               own = i.own;
-              range = λ l. (ack_apart c.sender x (is_ack Plain plain_closed sender_limit c.lost (ends_to c) i.to x rest u e h)).range (i.range l);
+              range = λ l. (ack_apart c.sender x (is_ack Plain plain_closed sender_limit c.lost (ends_to c i.passed) i.to x rest u e h)).range (i.range l);
               queued = i.queued;
+              passed = i.passed;
+              parts = i.parts;
               told = told_still (c.down ++ reply_in (on_packet c.sender x 0).0) behind.2;
             };
             grows = same _ _ refl;
@@ -367,11 +384,11 @@ module _ (limit sender_limit : ℕ) (c : Client) (i : IsGood limit sender_limit 
         d : Client
         d = comes_to false true (record c { up = rest }) x
 
-        a : Goes Plain sender_limit c.lost (flow_to c) (flow_to d)
-        a = comes_back Plain plain_closed sender_limit c.lost (ends_to c) i.to x rest u e h
+        a : Goes Plain sender_limit c.lost (flow_to c i.passed) (flow_to d i.passed)
+        a = comes_back Plain plain_closed sender_limit c.lost (ends_to c i.passed) i.to x rest u e h
 
         behind : (sent (c.down ++ reply_in (on_packet c.sender x 0).0) ≡ sent c.down ++ reply_in (on_packet c.sender x 0).0) × (acks (c.down ++ reply_in (on_packet c.sender x 0).0) ≡ acks c.down) × (others (c.down ++ reply_in (on_packet c.sender x 0).0) ≡ others c.down)
-        behind = behind_sends c.down (reply_in (on_packet c.sender x 0).0) (sends_back Plain plain_closed sender_limit c.lost (ends_to c) i.to x rest u e h)
+        behind = behind_sends c.down (reply_in (on_packet c.sender x 0).0) (sends_back Plain plain_closed sender_limit c.lost (ends_to c i.passed) i.to x rest u e h)
 
         other : flow_from d ≡ flow_from c
         other = same_flow c.session c.session c.receiver c.receiver c.up rest c.down d.down c.accepted refl refl (sym (first_ack c.up x rest u e h).1) behind.1
@@ -386,6 +403,8 @@ module _ (limit sender_limit : ℕ) (c : Client) (i : IsGood limit sender_limit 
               own = i.own;
               range = i.range;
               queued = i.queued;
+              passed = i.passed;
+              parts = i.parts;
               told = subst (AllByRecursion IsAnswer) (sym behind.0) (answers_behind (others c.down) (option_to_list (answer_of c.subscriptions x)) i.told (answered c.subscriptions x));
             };
             grows = same _ _ refl;
@@ -425,8 +444,8 @@ module _ (limit sender_limit : ℕ) (c : Client) (i : IsGood limit sender_limit 
         own : flow_from d ≡ flow_from c
         own = same_flow c.session c.session c.receiver c.receiver c.up rest c.down d.down c.accepted refl refl (sym front.1) behind.2
 
-        other : flow_to d ≡ flow_to c
-        other = same_flow c.sender c.sender (as_receiver c.session) (as_receiver c.session) c.down d.down c.up rest c.taken refl refl behind.1 (sym front.2)
+        other : flow_to d i.passed ≡ flow_to c i.passed
+        other = same_flow c.sender c.sender (as_receiver c.session) (as_receiver c.session) c.down d.down c.up rest i.passed refl refl behind.1 (sym front.2)
 
     to_broker : (a b : Bool) → is_sending x ≡ a → is_an_ack x ≡ b → Step limit sender_limit c (comes_to a b (record c { up = rest }) x) 1 (filters_in x)
     to_broker true b e h = to_receiver b e
@@ -446,7 +465,7 @@ module _ (limit sender_limit : ℕ) (c : Client) (i : IsGood limit sender_limit 
     sent_to_client e =
         record {
           stepped = record {
-            good = record { from = subst (IsFlow Any limit c.lost) (sym other) i.from; to = a.still; own = r.own; range = i.range; queued = i.queued; told = told_still rest (sym (first_sending c.down x rest f e).2) };
+            good = record { from = subst (IsFlow Any limit c.lost) (sym other) i.from; to = a.still; own = r.own; range = i.range; queued = i.queued; passed = i.passed; parts = i.parts; told = told_still rest (sym (first_sending c.down x rest f e).2) };
             grows = same _ _ refl;
             quiet = λ q. (about ∙ q, refl);
             tells = tells_same c taker (sending_same c.session x e) (sym (first_sending c.down x rest f e).2) about refl;
@@ -464,15 +483,15 @@ module _ (limit sender_limit : ℕ) (c : Client) (i : IsGood limit sender_limit 
       where
         r : Receives c.session (on_packet c.session x 0) (serve (as_receiver c.session) x)
         r =
-            let g = first_goes_up Plain plain_closed sender_limit c.lost (ends_to c) i.to x rest f e in
+            let g = first_goes_up Plain plain_closed sender_limit c.lost (ends_to c i.passed) i.to x rest f e in
             receives c.session x 0 i.own (plain_sent x g.1 g.0)
 
         about : others taker.up ≡ others c.up
         about = ap (λ y. others (c.up ++ reply_in y)) r.reply ∙ (behind_acks c.up (option_to_list (serve (as_receiver c.session) x).0) (serve_acks (as_receiver c.session) x)).2
 
-        a : Goes Plain sender_limit c.lost (flow_to c) (flow_to taker)
-        a = subst (Goes Plain sender_limit c.lost (flow_to c)) (λ n. flow c.sender (sym r.after n) rest (c.up ++ reply_in (sym r.reply n)) c.taken)
-            (serves Plain plain_closed sender_limit c.lost (ends_to c) i.to x rest f e)
+        a : Goes Plain sender_limit c.lost (flow_to c i.passed) (flow_to taker i.passed)
+        a = subst (Goes Plain sender_limit c.lost (flow_to c i.passed)) (λ n. flow c.sender (sym r.after n) rest (c.up ++ reply_in (sym r.reply n)) i.passed)
+            (serves Plain plain_closed sender_limit c.lost (ends_to c i.passed) i.to x rest f e)
 
         other : flow_from taker ≡ flow_from c
         other = same_flow c.session (on_packet c.session x 0).1 c.receiver c.receiver c.up taker.up c.down rest c.accepted (ap without_last r.part) refl
@@ -483,7 +502,7 @@ module _ (limit sender_limit : ℕ) (c : Client) (i : IsGood limit sender_limit 
     ack_to_client e h =
         record {
           stepped = record {
-            good = record { from = a.still; to = subst (IsFlow Plain sender_limit c.lost) (sym other) i.to; own = k.own ∙ i.own; range = i.range; queued = i.queued; told = told_still rest (sym (first_ack c.down x rest f e h).2) };
+            good = record { from = a.still; to = subst (IsFlow Plain sender_limit c.lost) (sym other) i.to; own = k.own ∙ i.own; range = i.range; queued = i.queued; passed = i.passed; parts = i.parts; told = told_still rest (sym (first_ack c.down x rest f e h).2) };
             grows = same _ _ refl;
             quiet = λ q. (about ∙ q, refl);
             tells = tells_same c taker (ack_same c.session x h) (sym (first_ack c.down x rest f e h).2) about refl;
@@ -508,8 +527,8 @@ module _ (limit sender_limit : ℕ) (c : Client) (i : IsGood limit sender_limit 
         a : Goes Any limit c.lost (flow_from c) (flow_from taker)
         a = comes_back Any any_closed limit c.lost (ends_from c) i.from x rest f e h
 
-        other : flow_to taker ≡ flow_to c
-        other = same_flow c.sender c.sender (as_receiver c.session) (as_receiver (on_packet c.session x 0).1) c.down rest c.up taker.up c.taken refl k.seen
+        other : flow_to taker i.passed ≡ flow_to c i.passed
+        other = same_flow c.sender c.sender (as_receiver c.session) (as_receiver (on_packet c.session x 0).1) c.down rest c.up taker.up i.passed refl k.seen
             (sym (first_ack c.down x rest f e h).1)
             (behind_sends c.up (reply_in (on_packet c.session x 0).0) (sends_back Any any_closed limit c.lost (ends_from c) i.from x rest f e h)).1
 
@@ -523,6 +542,8 @@ module _ (limit sender_limit : ℕ) (c : Client) (i : IsGood limit sender_limit 
               own = k.1.kept.own ∙ i.own;
               range = i.range;
               queued = i.queued;
+              passed = i.passed;
+              parts = i.parts;
               told = told.1;
             };
             grows = same _ _ refl;
@@ -559,8 +580,8 @@ module _ (limit sender_limit : ℕ) (c : Client) (i : IsGood limit sender_limit 
         own : flow_from taker ≡ flow_from c
         own = same_flow c.session (on_packet c.session x 0).1 c.receiver c.receiver c.up taker.up c.down rest c.accepted k.1.same refl (ap sent none) (sym front.2)
 
-        other : flow_to taker ≡ flow_to c
-        other = same_flow c.sender c.sender (as_receiver c.session) (as_receiver (on_packet c.session x 0).1) c.down rest c.up taker.up c.taken refl k.1.kept.seen (sym front.1) (ap acks none)
+        other : flow_to taker i.passed ≡ flow_to c i.passed
+        other = same_flow c.sender c.sender (as_receiver c.session) (as_receiver (on_packet c.session x 0).1) c.down rest c.up taker.up i.passed refl k.1.kept.seen (sym front.1) (ap acks none)
 
     to_client : (a b : Bool) → is_sending x ≡ a → is_an_ack x ≡ b → Step limit sender_limit c taker 1 0
     to_client true b e h = sent_to_client e
@@ -576,12 +597,25 @@ module _ (limit sender_limit : ℕ) (c : Client) (i : IsGood limit sender_limit 
     is : IsForwarded p × AllByRecursion IsForwarded rest
     is = subst (AllByRecursion IsForwarded) l i.queued
 
-    forwards : (r : Result (Option Packet) StateError) (t : Session) → Asked Plain plain_closed sender_limit c.lost (ends_to c) i.to p r t → Sends (reply_in r) → Costs c.sender (r, t) → (0 < sender_limit → InRange t.core)
+    forwards : (r : Result (Option Packet) StateError) (t : Session) → Asked Plain plain_closed sender_limit c.lost (ends_to c i.passed) i.to p r t → Sends (reply_in r) → Costs c.sender (r, t) → (0 < sender_limit → InRange t.core)
         → Step limit sender_limit c (taken_for c p rest r t) (length c.queue - length (taken_for c p rest r t).queue) 0
     forwards (Ok reply) t a k cost range =
         record {
           stepped = record {
-            good = record { from = subst (IsFlow Any limit c.lost) (sym other) i.from; to = a; own = i.own; range = range; queued = is.1; told = told_still (c.down ++ option_to_list reply) behind.2 };
+            good = record {
+              from = subst (IsFlow Any limit c.lost) (sym other) i.from;
+              to = a;
+              own = i.own;
+              range = range;
+              queued = is.1;
+              passed = i.passed ++ p ∷ [];
+              parts = λ test.
+                  let a = count_both test c.taken (p ∷ []) in
+                  let b = count_both test i.passed (p ∷ []) in
+                  let e = i.parts test in
+                  omega (arith, a, b, e);
+              told = told_still (c.down ++ option_to_list reply) behind.2;
+            };
             grows = same _ _ refl;
             quiet = λ q. (q, refl);
             tells = tells_same c d refl behind.2 refl refl;
@@ -609,14 +643,32 @@ module _ (limit sender_limit : ℕ) (c : Client) (i : IsGood limit sender_limit 
 
     passed : Step limit sender_limit c (passes_on c (p ∷ rest)) (length c.queue - length (passes_on c (p ∷ rest)).queue) 0
     passed = forwards (on_request c.sender (requests.Publish p) 0).0 (on_request c.sender (requests.Publish p) 0).1
-        (asks Plain plain_closed sender_limit c.lost (ends_to c) i.to p (λ k. numbered_plain p.qos p k is.0.plain))
-        (sends_out Plain plain_closed sender_limit c.lost (ends_to c) i.to p (λ k. numbered_plain p.qos p k is.0.plain))
+        (asks Plain plain_closed sender_limit c.lost (ends_to c i.passed) i.to p (λ k. numbered_plain p.qos p k is.0.plain))
+        (sends_out Plain plain_closed sender_limit c.lost (ends_to c i.passed) i.to p (λ k. numbered_plain p.qos p k is.0.plain))
         (out_apart c.sender p).cost
         (λ low. (out_apart c.sender p).range (i.range low))
 
   passed_stepped : (ps : List Publish) → c.queue ≡ ps → Step limit sender_limit c (passes_on c ps) (length c.queue - length (passes_on c ps).queue) 0
   passed_stepped [] l = record { stepped = nothing; less = record { s = 0; t = 0; from = omega arith; to = omega arith; few = none_new c.receiver.handed; found = omega arith; asked = omega arith } }
   passed_stepped (p ∷ rest) l = passed p rest l
+
+  -- the first of the queue has expired
+  expired_good : IsGood limit sender_limit (takes_out c)
+  expired_good =
+      record {
+        from = i.from;
+        to = i.to;
+        own = i.own;
+        range = i.range;
+        queued = all_dropped c.queue i.queued;
+        passed = i.passed;
+        parts = λ test.
+            let a = count_both test c.taken (take 1 c.queue) in
+            let b = count_both test c.expired (take 1 c.queue) in
+            let e = i.parts test in
+            omega (arith, a, b, e);
+        told = i.told;
+      }
 
   -- the connection is lost
   lost_stepped : (m n : Option ℕ) → Stepped limit sender_limit c (reconnects c (connected m c.session) (connected n c.sender))
@@ -628,11 +680,13 @@ module _ (limit sender_limit : ℕ) (c : Client) (i : IsGood limit sender_limit 
         tells = tells_lost c _ [] (back_same m c.session) down.rest up.rest refl;
         good = record {
           from = loses Any any_closed limit c.lost (ends_from c) i.from m (again_of k).0 down;
-          to = subst (λ b. IsFlow Plain sender_limit (c.lost + 1) (flow (again_of k).1 b (again_of k).0 (again_of h).0 c.taken)) (sym kept.seen)
-              (loses Plain plain_closed sender_limit c.lost (ends_to c) i.to n (again_of h).0 up);
+          to = subst (λ b. IsFlow Plain sender_limit (c.lost + 1) (flow (again_of k).1 b (again_of k).0 (again_of h).0 i.passed)) (sym kept.seen)
+              (loses Plain plain_closed sender_limit c.lost (ends_to c i.passed) i.to n (again_of h).0 up);
           own = kept.own ∙ i.own;
           range = λ l. back_range n c.sender (i.range l);
           queued = i.queued;
+          passed = i.passed;
+          parts = i.parts;
           told = subst (AllByRecursion IsAnswer) (sym down.rest) tt;
         };
       })
@@ -647,13 +701,13 @@ module _ (limit sender_limit : ℕ) (c : Client) (i : IsGood limit sender_limit 
       up = sends_on Any any_closed limit c.lost (ends_from c) i.from m
 
       down : Sends (again_of k).0
-      down = sends_on Plain plain_closed sender_limit c.lost (ends_to c) i.to n
+      down = sends_on Plain plain_closed sender_limit c.lost (ends_to c i.passed) i.to n
 
       e : resume_of h 0 ≡ Ok (again_of h)
       e = resumes_again Any any_closed limit c.lost (ends_from c) i.from m
 
       g : resume_of k 0 ≡ Ok (again_of k)
-      g = resumes_again Plain plain_closed sender_limit c.lost (ends_to c) i.to n
+      g = resumes_again Plain plain_closed sender_limit c.lost (ends_to c i.passed) i.to n
 
       kept : Kept c.session (again_of h).1
       kept = back_kept m c.session
@@ -664,7 +718,7 @@ module _ (limit sender_limit : ℕ) (c : Client) (i : IsGood limit sender_limit 
 
   -- and no answer to one
   pub back_answered : (m n : Option ℕ) → others (moved c (moves.Back m n)).down ≡ []
-  back_answered m n = ap (λ r. others (sent_in r)) (resumes_again Plain plain_closed sender_limit c.lost (ends_to c) i.to n) ∙ (sends_on Plain plain_closed sender_limit c.lost (ends_to c) i.to n).rest
+  back_answered m n = ap (λ r. others (sent_in r)) (resumes_again Plain plain_closed sender_limit c.lost (ends_to c i.passed) i.to n) ∙ (sends_on Plain plain_closed sender_limit c.lost (ends_to c i.passed) i.to n).rest
 
   pub back_told : (m n : Option ℕ) → Same c.session (moved c (moves.Back m n)).session
   back_told m n = ap (λ r. answers_told (kept_by (connected m c.session) r)) (resumes_again Any any_closed limit c.lost (ends_from c) i.from m) ∙ back_same m c.session
@@ -682,6 +736,7 @@ module _ (limit sender_limit : ℕ) (c : Client) (i : IsGood limit sender_limit 
   good_next moves.Up = (up_stepped c.up refl).stepped.good
   good_next moves.Down = (down_stepped c.down refl).stepped.good
   good_next moves.PassOn = (passed_stepped c.queue refl).stepped.good
+  good_next moves.Expire = expired_good
   good_next (moves.Back m n) = (lost_stepped m n).good
 
   pub client_grows : (e : Move) → Grows c.receiver.handed (moved c e).receiver.handed
@@ -691,6 +746,7 @@ module _ (limit sender_limit : ℕ) (c : Client) (i : IsGood limit sender_limit 
   client_grows moves.Up = (up_stepped c.up refl).stepped.grows
   client_grows moves.Down = (down_stepped c.down refl).stepped.grows
   client_grows moves.PassOn = (passed_stepped c.queue refl).stepped.grows
+  client_grows moves.Expire = same _ _ refl
   client_grows (moves.Back m n) = same _ _ refl
 
   -- where the client doesn't ask for subscriptions
@@ -701,6 +757,7 @@ module _ (limit sender_limit : ℕ) (c : Client) (i : IsGood limit sender_limit 
   client_quiet moves.Up k = (up_stepped c.up refl).stepped.quiet
   client_quiet moves.Down k = (down_stepped c.down refl).stepped.quiet
   client_quiet moves.PassOn k = (passed_stepped c.queue refl).stepped.quiet
+  client_quiet moves.Expire k = λ q. (q, refl)
   client_quiet (moves.Back m n) k = (lost_stepped m n).quiet
 
   -- of what it asks for about subscriptions
@@ -711,6 +768,7 @@ module _ (limit sender_limit : ℕ) (c : Client) (i : IsGood limit sender_limit 
   client_tells moves.Up = (up_stepped c.up refl).stepped.tells
   client_tells moves.Down = (down_stepped c.down refl).stepped.tells
   client_tells moves.PassOn = (passed_stepped c.queue refl).stepped.tells
+  client_tells moves.Expire = tells_same c (takes_out c) refl refl refl refl
   client_tells (moves.Back m n) = (lost_stepped m n).tells
 
   -- a step leaves less work
@@ -724,7 +782,7 @@ module _ (limit sender_limit : ℕ) (c : Client) (i : IsGood limit sender_limit 
   pass_less = (passed_stepped c.queue refl).less
 
 pub sender_limited : (limit sender_limit : ℕ) (c : Client) → IsGood limit sender_limit c → c.sender.core.limit ≡ sender_limit
-sender_limited limit sender_limit c i = (holds_core Plain plain_closed sender_limit c.lost (ends_to c) i.to).limited
+sender_limited limit sender_limit c i = (holds_core Plain plain_closed sender_limit c.lost (ends_to c i.passed) i.to).limited
 
 -- a new session has sent nothing
 pub good_start : (limit sender_limit : ℕ) (ss : List Subscription) → IsGood limit sender_limit (new_client limit sender_limit ss)
@@ -735,6 +793,8 @@ good_start limit sender_limit ss =
       own = refl;
       range = λ l. record { last = l; current = omega arith };
       queued = tt;
+      passed = [];
+      parts = λ test. refl;
       told = tt;
     }
 
@@ -747,6 +807,8 @@ good_queues own ps limit sender_limit c i =
       own = i.own;
       range = i.range;
       queued = all_both c.queue (filter_map (forwarded_to own c.subscriptions) ps) i.queued (all_forwarded own c.subscriptions ps);
+      passed = i.passed;
+      parts = i.parts;
       told = i.told;
     }
 
@@ -793,6 +855,7 @@ routed_same c moves.PassOn = by c.queue refl
     by : (ps : List Publish) → c.queue ≡ ps → routed (passes_on c ps) ≡ routed c
     by [] l = refl
     by (p ∷ rest) l = taken p rest l (on_request c.sender (requests.Publish p) 0).0 (on_request c.sender (requests.Publish p) 0).1
+routed_same c moves.Expire = append_assoc c.taken (take 1 c.queue) (drop 1 c.queue) ∙ ap (λ q. c.taken ++ q) (take-append-drop 1 c.queue)
 routed_same c (moves.Back m n) = refl
 
 -- publishes that go into it are added

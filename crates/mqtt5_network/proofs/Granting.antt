@@ -173,14 +173,14 @@ module _ (test : Publish → Bool) (es : List NetworkEvent) (n : Network) (i : �
     rest = all_at AtRest later.places i q (recursion_from_All AtRest later.places r) is
 
     -- what is shown in the end is what was put into the queue
-    shown_after : IsClass ExactlyOnce test → count_by test (shown q.client.session) ≡ count_by test (routed q.client)
+    shown_after : IsClass ExactlyOnce test → count_by test (shown q.client.session) + count_by test q.client.expired ≡ count_by test (routed q.client)
     shown_after k = shown_exactly later.handed q.client (here_of later.handed q after_place rest.here) test (rest_of q rest) k
 
     few_before : IsClass ExactlyOnce test → IsNew test → count_by test (routed p.client) ≤ count_by (published test) n.handed
     few_before k new = (hidden_of n.handed p before_place).client.few test k new
 
     -- a class of QoS 1, of which none was given before
-    least_shown : Throughout es (AtPlace i (Grants test)) n → IsClass AtLeastOnce test → given_in n (published test) ≡ 0 → given_in later (published test) ≤ count_by test (shown q.client.session) + unacked_in later (published test)
+    least_shown : Throughout es (AtPlace i (Grants test)) n → IsClass AtLeastOnce test → given_in n (published test) ≡ 0 → given_in later (published test) ≤ count_by test (shown q.client.session) + count_by test q.client.expired + unacked_in later (published test)
     least_shown t k none =
         let a = least_granted t in
         let b = shown_least later.handed q.client (here_of later.handed q after_place rest.here) test (rest_of q rest) k in
@@ -199,7 +199,7 @@ module _ (test : Publish → Bool) (es : List NetworkEvent) (n : Network) (i : �
       handed_after = handed_exactly later after (published test) r (published_class ExactlyOnce test k)
 
       -- none was given before
-      all_shown : given_in n (published test) ≡ 0 → count_by test (shown q.client.session) + lost_in later (published test) ≡ given_in later (published test)
+      all_shown : given_in n (published test) ≡ 0 → count_by test (shown q.client.session) + count_by test q.client.expired + lost_in later (published test) ≡ given_in later (published test)
       all_shown none =
           let a = exactly_granted in
           let b = shown_after k in
@@ -209,7 +209,7 @@ module _ (test : Publish → Bool) (es : List NetworkEvent) (n : Network) (i : �
           omega (arith, a, b, h, m, f)
 
       -- all was at rest before
-      pub shown_since : AllAtRest n → count_by test (shown q.client.session) + given_in n (published test) + lost_in later (published test) ≡ count_by test (shown p.client.session) + given_in later (published test) + lost_in n (published test)
+      pub shown_since : AllAtRest n → count_by test (shown q.client.session) + count_by test q.client.expired + given_in n (published test) + lost_in later (published test) ≡ count_by test (shown p.client.session) + count_by test p.client.expired + given_in later (published test) + lost_in n (published test)
       shown_since rested =
           let a = exactly_granted in
           let b = shown_after k in
@@ -233,7 +233,7 @@ module _ (test : Publish → Bool) (es : List NetworkEvent) (n : Network) (i : �
             let h = under_plain test new (holding false p.client.subscriptions x) q x e in
             ap (λ g. test (forwarded g x)) (sym (two_granted x.qos q (k.of_qos (forwarded q x) h))) ∙ h
 
-    kind_shown : given_in n (published test) ≡ 0 → count_by test (shown q.client.session) + lost_in later kind ≡ given_in later kind
+    kind_shown : given_in n (published test) ≡ 0 → count_by test (shown q.client.session) + count_by test q.client.expired + lost_in later kind ≡ given_in later kind
     kind_shown none =
         let l = least_added test kind (Reaches test kind) i (λ c g own xs. let e = forwarded_kind test own c.subscriptions kind (g own) xs in omega (arith, e)) es n p q was is on t in
         let m = most_added test kind (Reaches test kind) i (λ c g own xs. let e = forwarded_kind test own c.subscriptions kind (g own) xs in omega (arith, e)) es n p q (bare_new test new i es n) was is on t in
@@ -305,7 +305,7 @@ module _ (test : Publish → Bool) (k : IsClass ExactlyOnce test) (new : IsNew t
     abbrev last : Network
     last = run_network es n
 
-    others_shown : given_in n (published test) ≡ 0 → count_by test (shown q.client.session) + (count_by (published test) q.client.accepted + count_by (published test) q.willed) + lost_in last (published test) ≡ given_in last (published test)
+    others_shown : given_in n (published test) ≡ 0 → count_by test (shown q.client.session) + count_by test q.client.expired + (count_by (published test) q.client.accepted + count_by (published test) q.willed) + lost_in last (published test) ≡ given_in last (published test)
     others_shown none =
         let a = others_added es n p q j was is on t in
         let b = shown_after test es n i p q was is on j r k in
@@ -324,31 +324,31 @@ module _ (test : Publish → Bool) (n : Network) (es : List NetworkEvent) (i : �
   abbrev end : Network
   end = run_network es n
 
-  pub shown_exactly_once : IsClass ExactlyOnce test → IsNew test → Throughout es (AtPlace i (Grants test)) n → AtPlace i (λ (c : Client). count_by test (shown c.session) + lost_in end (published test) ≡ given_in end (published test)) end
+  pub shown_exactly_once : IsClass ExactlyOnce test → IsNew test → Throughout es (AtPlace i (Grants test)) n → AtPlace i (λ (c : Client). count_by test (shown c.session) + count_by test c.expired + lost_in end (published test) ≡ given_in end (published test)) end
   shown_exactly_once k new t = by (slice_get end.places i) refl
     where
-      by : (o : Option Place) → slice_get end.places i ≡ o → IfSome o (λ (p : Place). count_by test (shown p.client.session) + lost_in end (published test) ≡ given_in end (published test))
+      by : (o : Option Place) → slice_get end.places i ≡ o → IfSome o (λ (p : Place). count_by test (shown p.client.session) + count_by test p.client.expired + lost_in end (published test) ≡ given_in end (published test))
       by None e = tt
       by (Some q) e = let p = were_there es n i q e in all_shown test es n i p.0 q p.1 e on (joined n reached) r t k new none
 
-  pub shown_at_least_once : IsClass AtLeastOnce test → Throughout es (AtPlace i (Grants test)) n → AtPlace i (λ (c : Client). given_in end (published test) ≤ count_by test (shown c.session) + unacked_in end (published test)) end
+  pub shown_at_least_once : IsClass AtLeastOnce test → Throughout es (AtPlace i (Grants test)) n → AtPlace i (λ (c : Client). given_in end (published test) ≤ count_by test (shown c.session) + count_by test c.expired + unacked_in end (published test)) end
   shown_at_least_once k t = by (slice_get end.places i) refl
     where
-      by : (o : Option Place) → slice_get end.places i ≡ o → IfSome o (λ (p : Place). given_in end (published test) ≤ count_by test (shown p.client.session) + unacked_in end (published test))
+      by : (o : Option Place) → slice_get end.places i ≡ o → IfSome o (λ (p : Place). given_in end (published test) ≤ count_by test (shown p.client.session) + count_by test p.client.expired + unacked_in end (published test))
       by None e = tt
       by (Some q) e = let p = were_there es n i q e in least_shown test es n i p.0 q p.1 e on (joined n reached) r t k none
 
   pub shown_others : IsClass ExactlyOnce test → IsNew test → Throughout es (AtPlace i (GrantsOthers test)) n
-      → IfSome (slice_get end.places i) (λ (p : Place). count_by test (shown p.client.session) + (count_by (published test) p.client.accepted + count_by (published test) p.willed) + lost_in end (published test) ≡ given_in end (published test))
+      → IfSome (slice_get end.places i) (λ (p : Place). count_by test (shown p.client.session) + count_by test p.client.expired + (count_by (published test) p.client.accepted + count_by (published test) p.willed) + lost_in end (published test) ≡ given_in end (published test))
   shown_others k new t = by (slice_get end.places i) refl
     where
-      by : (o : Option Place) → slice_get end.places i ≡ o → IfSome o (λ (p : Place). count_by test (shown p.client.session) + (count_by (published test) p.client.accepted + count_by (published test) p.willed) + lost_in end (published test) ≡ given_in end (published test))
+      by : (o : Option Place) → slice_get end.places i ≡ o → IfSome o (λ (p : Place). count_by test (shown p.client.session) + count_by test p.client.expired + (count_by (published test) p.client.accepted + count_by (published test) p.willed) + lost_in end (published test) ≡ given_in end (published test))
       by None e = tt
       by (Some q) e = let p = were_there es n i q e in others_shown test k new i es n p.0 q p.1 e on (joined n reached) r t none
 
-  pub shown_kind : (kind : Publish → Bool) → IsClass ExactlyOnce test → IsNew test → IsClass ExactlyOnce kind → Throughout es (AtPlace i (Reaches test kind)) n → AtPlace i (λ (c : Client). count_by test (shown c.session) + lost_in end kind ≡ given_in end kind) end
+  pub shown_kind : (kind : Publish → Bool) → IsClass ExactlyOnce test → IsNew test → IsClass ExactlyOnce kind → Throughout es (AtPlace i (Reaches test kind)) n → AtPlace i (λ (c : Client). count_by test (shown c.session) + count_by test c.expired + lost_in end kind ≡ given_in end kind) end
   shown_kind kind k new kk t = by (slice_get end.places i) refl
     where
-      by : (o : Option Place) → slice_get end.places i ≡ o → IfSome o (λ (p : Place). count_by test (shown p.client.session) + lost_in end kind ≡ given_in end kind)
+      by : (o : Option Place) → slice_get end.places i ≡ o → IfSome o (λ (p : Place). count_by test (shown p.client.session) + count_by test p.client.expired + lost_in end kind ≡ given_in end kind)
       by None e = tt
       by (Some q) e = let p = were_there es n i q e in kind_shown test es n i p.0 q p.1 e on kind k new kk (joined n reached) r t none

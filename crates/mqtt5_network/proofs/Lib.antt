@@ -4,8 +4,8 @@ pub mod Taking
 pub mod Flow
 pub mod Telling
 pub mod Moves
-pub mod Good
 pub mod Forwarding
+pub mod Good
 pub mod Clients
 pub mod Counted
 pub mod Places

@@ -8,7 +8,7 @@ use Rattle.mqtt5_codec.specs.declared.packet.Packet.{Packet}
 use Rattle.mqtt5_session.specs.Session.{Session}
 use Rattle.mqtt5_session.specs.Requests.{on_request}
 use Rattle.mqtt5_network.specs.Connection.{connected, reply_in}
-use Rattle.mqtt5_network.specs.Client.{Client, asks_for, requests_for, goes_up, goes_down, passes_on, reconnects}
+use Rattle.mqtt5_network.specs.Client.{Client, asks_for, requests_for, goes_up, goes_down, passes_on, takes_out, reconnects}
 
 -- an event of a place that is here, and of one that comes
 pub data Move : Type 0 where
@@ -18,6 +18,7 @@ pub data Move : Type 0 where
   Up : Move
   Down : Move
   PassOn : Move
+  Expire : Move
   Back : Option ℕ → Option ℕ → Move
 
 abbrev pub moved : Client → Move → Client
@@ -27,6 +28,7 @@ moved c (Unsubscribing p) = requests_for c (requests.Unsubscribe p)
 moved c Up = goes_up c c.up
 moved c Down = goes_down c c.down
 moved c PassOn = passes_on c c.queue
+moved c Expire = takes_out c
 moved c (Back m n) = reconnects c (connected m c.session) (connected n c.sender)
 
 -- the client doesn't ask for subscriptions, or for some to be taken out

@@ -374,7 +374,7 @@ module _ (n : Network) (i : ℕ) (p : Place) (b : KeepsFirst n i p) (test : Publ
       let m = mul-le-mul_left p.client.lost g in
       omega (arith, a, g, m)
 
-  pub standing_ledger : IsClass ExactlyOnce test → count_by test (shown p.client.session) + kept_at p.client.session.core.incoming p.client.sender.core test + count_by test p.client.queue + kept_by n.places kind + lost_in n kind ≡ given_in n kind
+  pub standing_ledger : IsClass ExactlyOnce test → count_by test (shown p.client.session) + kept_at p.client.session.core.incoming p.client.sender.core test + count_by test p.client.queue + count_by test p.client.expired + kept_by n.places kind + lost_in n kind ≡ given_in n kind
   standing_ledger k =
       let a = shown_ledger n.handed _ (hidden_of n.handed p place).client test k in
       let r = routed_is in
@@ -395,14 +395,14 @@ module _ (n : Network) (i : ℕ) (p : Place) (b : KeepsFirst n i p) (test : Publ
     rest : AtRest p
     rest = all_at AtRest n.places i p (recursion_from_All AtRest n.places rests) b.is_at
 
-    pub standing_exactly : IsClass ExactlyOnce test → count_by test (shown p.client.session) + lost_in n kind ≡ given_in n kind
+    pub standing_exactly : IsClass ExactlyOnce test → count_by test (shown p.client.session) + count_by test p.client.expired + lost_in n kind ≡ given_in n kind
     standing_exactly k =
         let a = shown_exactly n.handed p.client (here_of n.handed p place rest.here) test (rest_of p rest) k in
         let r = routed_is in
         let l = handed_exactly n j kind rests (twice_class ss test k) in
         omega (arith, a, r, l)
 
-    pub standing_least : IsClass AtLeastOnce test → given_in n kind ≤ count_by test (shown p.client.session) + unacked_in n kind + lost_in n kind
+    pub standing_least : IsClass AtLeastOnce test → given_in n kind ≤ count_by test (shown p.client.session) + count_by test p.client.expired + unacked_in n kind + lost_in n kind
     standing_least k =
         let a = shown_least n.handed p.client (here_of n.handed p place rest.here) test (rest_of p rest) k in
         let r = routed_is in

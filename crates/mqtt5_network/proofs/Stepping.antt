@@ -69,6 +69,7 @@ step_on events.Lost s = tt
 step_on events.Left s = tt
 step_on (events.Turn f turn) s = tt
 step_on events.Due s = tt
+step_on events.Expire s = tt
 step_on (events.Back m n w) s = tt
 step_on events.Ends s = absurd s
 
@@ -115,6 +116,7 @@ module _ (p : Place) where
     here_step events.Left s h = absurd s
     here_step (events.Turn f turn) s h = absurd s
     here_step events.Due s h = absurd s
+    here_step events.Expire s h = absurd s
     here_step (events.Back m n w) s h = absurd s
     here_step events.Ends s h = absurd s
 
@@ -131,6 +133,7 @@ module _ (p : Place) where
     gone_step events.Left s h = absurd s
     gone_step (events.Turn f turn) s h = absurd s
     gone_step events.Due s h = absurd s
+    gone_step events.Expire s h = absurd s
     gone_step (events.Back m n w) s h = absurd s
     gone_step events.Ends s h = absurd s
 
@@ -305,6 +308,7 @@ copies_few handed p events.Lost = omega arith
 copies_few handed p events.Left = omega arith
 copies_few handed p (events.Turn f turn) = omega arith
 copies_few handed p events.Due = omega arith
+copies_few handed p events.Expire = omega arith
 copies_few handed p (events.Back m n w) = omega arith
 copies_few handed p events.Ends = omega arith
 
@@ -467,7 +471,7 @@ place_rest p f t h =
     let x : work_from p.client ≡ 0 = sym (ap (λ b. if_here b (work_from p.client)) h) ∙ f in
     let y : work_to p.client ≡ 0 = sym (ap (λ b. if_here b (work_to p.client)) h) ∙ t in
     let a = no_work (flow_from p.client) x in
-    let b = no_work (flow_to p.client) (omega (arith, y)) in
+    let b = no_work (flow_to p.client []) (omega (arith, y)) in
     record {
       here = h;
       up = none_at_all p.client.up a.0 b.1 (no_packets (others p.client.up) (omega (arith, y)));

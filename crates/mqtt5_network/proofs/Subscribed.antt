@@ -101,6 +101,7 @@ on_if_kept events.Lost k = tt
 on_if_kept events.Left k = tt
 on_if_kept (events.Turn f turn) k = absurd k
 on_if_kept events.Due k = tt
+on_if_kept events.Expire k = tt
 on_if_kept (events.Back m n w) k = tt
 on_if_kept events.Ends k = absurd k
 
@@ -151,7 +152,7 @@ grants_stay n es i test r u g = stays (GrantsBy test) i es n (joined n r) u g
 
 pub shown_by_one : (n : Network) (es : List NetworkEvent) (i : ℕ) (s : Subscription) (test : Publish → Bool) → IsReached n → IsClass ExactlyOnce test → IsNew test → Covers test s → given_in n (published test) ≡ 0
     → AtPlace i (λ (c : Client). IsHeard c × Contains c.subscriptions s) n → Unchanged i es → AllAtRest (run_network es n)
-    → AtPlace i (λ (c : Client). count_by test (shown c.session) + lost_in (run_network es n) (published test) ≡ given_in (run_network es n) (published test)) (run_network es n)
+    → AtPlace i (λ (c : Client). count_by test (shown c.session) + count_by test c.expired + lost_in (run_network es n) (published test) ≡ given_in (run_network es n) (published test)) (run_network es n)
 shown_by_one n es i s test reached k new covers none has u r = shown_exactly_once test n es i reached none (lives i es u) r k new (grants_stay n es i test reached u (by (slice_get n.places i) has))
   where
     by : (o : Option Place) → IfSome o (λ (p : Place). IsHeard p.client × Contains p.client.subscriptions s) → IfSome o (λ (p : Place). IsHeard p.client × Grants test p.client)

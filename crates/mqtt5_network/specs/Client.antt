@@ -1,7 +1,7 @@
 -- A client that publishes and subscribes over one connection, and what a broker keeps for it (MQTT
 -- 5.0 sections 3.3.4, 3.8 to 3.11, and 4.1 to 4.4).
 use Rattle.std.specs.Prelude.{ℕ, ◌+◌, Bool, true, false, List, [], ◌∷◌, ◌++◌, Option}
-use Rattle.std.specs.Prelude.{Result, Ok, Err}
+use Rattle.std.specs.Prelude.{Result, Ok, Err, take, drop}
 use Rattle.std.specs.Option.{option_to_list}
 use Rattle.std.specs.List.{filter_map}
 use Rattle.mqtt5_base.specs.Texts.{Utf8}
@@ -26,8 +26,9 @@ use Rattle.mqtt5_network.specs.Asking.{is_ack, subscriptions_after, answer_of}
 -- The client's session; the broker as the receiver of what the client sends, and the broker's
 -- session as the sender of what goes to the client (4.3); the packets on their way up to the broker
 -- and down to the client (4.2); the publishes that the client's session accepted; its subscriptions
--- (3.8); the publishes that the broker has still to send to it, as they are forwarded, and those
--- that the sender took on of them; and on how many new connections it came.
+-- (3.8); the publishes that the broker has still to send to it, as they are forwarded, those that
+-- left these, as the sender took them on or they had expired, and of those the ones that had expired
+-- (3.3.2.3.3); and on how many new connections it came.
 pub record Client : Type 0 where
   pub session : Session
   pub receiver : Broker
@@ -38,6 +39,7 @@ pub record Client : Type 0 where
   pub subscriptions : List Subscription
   pub queue : List Publish
   pub taken : List Publish
+  pub expired : List Publish
   pub lost : ℕ
 
 -- all that was ever put into its queue, in order
@@ -57,6 +59,7 @@ new_client limit sender_limit subscriptions = record {
   subscriptions = subscriptions;
   queue = [];
   taken = [];
+  expired = [];
   lost = 0;
 }
 
@@ -143,6 +146,14 @@ abbrev pub passes_on : Client → List Publish → Client
 passes_on c [] = c
 passes_on c (p ∷ rest) =
     let a = on_request c.sender (requests.Publish p) 0 in taken_for c p rest a.0 a.1
+
+-- the first of it is taken out, if there is one, since it has expired (3.3.2.3.3)
+abbrev pub takes_out : Client → Client
+takes_out c = record c {
+  queue = drop 1 c.queue;
+  taken = c.taken ++ take 1 c.queue;
+  expired = c.expired ++ take 1 c.queue;
+}
 
 -- ---- a shared subscription
 

@@ -9,7 +9,8 @@ use Rattle.mqtt5_network.specs.declared.event.ClientEvent.{ClientEvent}
 use Rattle.mqtt5_network.specs.declared.event.ClientEvent.TheVariants as events
 use Rattle.mqtt5_network.specs.declared.event.Will.{Will}
 use Rattle.mqtt5_network.specs.Client.{Client, new_client, asks_for, requests_for, goes_up}
-use Rattle.mqtt5_network.specs.Client.{goes_down, queues, passes_on, takes_turn, reconnects}
+use Rattle.mqtt5_network.specs.Client.{goes_down, queues, passes_on, takes_out, takes_turn}
+use Rattle.mqtt5_network.specs.Client.{reconnects}
 use Rattle.mqtt5_network.specs.Retained.{retained_of, copies_first}
 
 -- a client with what the broker keeps for it, whether it is connected, the will of its connection,
@@ -103,6 +104,7 @@ happens_at p (events.Unsubscribe x) =
 happens_at p events.Up = record p { client = goes_up p.client p.client.up }
 happens_at p events.Down = record p { client = goes_down p.client p.client.down }
 happens_at p events.PassOn = record p { client = passes p.here p.client }
+happens_at p events.Expire = record p { client = takes_out p.client }
 happens_at p (events.Turn topic_filter turn) =
     record p { client = takes_turn topic_filter turn p.client }
 happens_at p events.Lost = loses p

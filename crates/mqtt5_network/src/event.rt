@@ -20,6 +20,9 @@ pub enum ClientEvent {
     /// The broker passes the first publish of the client's queue to the client, if there is one and the client is here; where
     /// another one waits for its identifier it stays the first.
     PassOn,
+    /// The broker takes the first publish of the client's queue out, if there is one, since it has expired (3.3.2.3.3): it isn't
+    /// passed on any more.
+    Expire,
     /// The broker gives the client the turn in the shared subscription of a topic filter, or takes it (4.8.2).
     Turn(Text, bool),
     /// The connection is lost with all that was on its way: the broker publishes its will, or the will waits, where it has a delay.

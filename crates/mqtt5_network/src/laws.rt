@@ -35,15 +35,17 @@ ghost use Rattle.mqtt5_network.specs.Answered.{answers_told, asked_in, subscript
 /// client, of those that were put into its queue, however often its connection was lost and it was
 /// away (MQTT 5.0 sections 4.1, 4.3 and 4.4).
 pub fn shown_law()
-    // At rest a class of QoS 2 was shown exactly as often as it was put into the queue. That this
-    // one client is at rest is enough.
+    // At rest a class of QoS 2 was shown, or expired in the queue, exactly as often as it was put
+    // into it. That this one client is at rest is enough.
     ensures exactly_once { (n : Network) (p : Place) (test : Publish → Bool)
         → IsReached n → Contains n.places p → IsClass ExactlyOnce test → AtRest p
-        → count_by test (shown p.client.session) ≡ count_by test (routed p.client) }
+        → count_by test (shown p.client.session) + count_by test p.client.expired
+        ≡ count_by test (routed p.client) }
     // One of QoS 1 at least as often.
     ensures at_least_once { (n : Network) (p : Place) (test : Publish → Bool)
         → IsReached n → Contains n.places p → IsClass AtLeastOnce test → AtRest p
-        → count_by test (routed p.client) ≤ count_by test (shown p.client.session) }
+        → count_by test (routed p.client)
+        ≤ count_by test (shown p.client.session) + count_by test p.client.expired }
     // At any time, also while it is away, one of QoS 0 or 2 at most as often.
     ensures at_most_once { (n : Network) (p : Place) (qos : QoS) (test : Publish → Bool)
         → IsReached n → Contains n.places p → qos ≢ AtLeastOnce → IsClass qos test
@@ -53,12 +55,13 @@ pub fn shown_law()
         → IsReached n → Contains n.places p → IsClass qos test
         → count_by test (shown p.client.session)
         ≤ (p.client.lost + 1) * count_by test (routed p.client) }
-    // And one of QoS 2 was shown, is kept at the broker's sender, or is in the queue, for each time
-    // it was put into it.
+    // And one of QoS 2 was shown, is kept at the broker's sender, is in the queue, or expired there,
+    // for each time it was put into it.
     ensures ledger { (n : Network) (p : Place) (test : Publish → Bool)
         → IsReached n → Contains n.places p → IsClass ExactlyOnce test
         → count_by test (shown p.client.session)
         + kept_at p.client.session.core.incoming p.client.sender.core test
+        + count_by test p.client.expired
         + count_by test p.client.queue ≡ count_by test (routed p.client) }
 {}
 
@@ -102,7 +105,8 @@ pub fn routing_law()
 
 /// A law, which does nothing when it is called: how often the publishes of a class are shown to a
 /// client, of those that the sessions of all clients accepted, and of their wills, by what its
-/// subscriptions grant while the network runs (MQTT 5.0 sections 3.3.4 and 3.8.4).
+/// subscriptions grant while the network runs (MQTT 5.0 sections 3.3.4 and 3.8.4). What expired in
+/// its queue counts as if it was shown (3.3.2.3.3).
 pub fn granted_law()
     // Where from some moment on the client at a place was granted QoS 2 for each of a class of new
     // messages of QoS 2, and its session went on, and none of it was given before: once all are here
@@ -113,7 +117,8 @@ pub fn granted_law()
         → given_in n (published test) ≡ 0 → Lives i es
         → Throughout es (AtPlace i (Grants test)) n → AllAtRest (run_network es n)
         → AtPlace i (λ (c : Client).
-        count_by test (shown c.session) + lost_in (run_network es n) (published test)
+        count_by test (shown c.session) + count_by test c.expired
+        + lost_in (run_network es n) (published test)
         ≡ given_in (run_network es n) (published test)) (run_network es n) }
     // So at least once each of a class of QoS 1, where it was granted QoS 1 or 2, but for what other
     // sessions had no ack for when they ended.
@@ -121,7 +126,8 @@ pub fn granted_law()
         → IsReached n → IsClass AtLeastOnce test → given_in n (published test) ≡ 0 → Lives i es
         → Throughout es (AtPlace i (Grants test)) n → AllAtRest (run_network es n)
         → AtPlace i (λ (c : Client). given_in (run_network es n) (published test)
-        ≤ count_by test (shown c.session) + unacked_in (run_network es n) (published test))
+        ≤ count_by test (shown c.session) + count_by test c.expired
+        + unacked_in (run_network es n) (published test))
         (run_network es n) }
     // Where that was granted for the others' alone, as with No Local, it was shown each but its own
     // (3.8.3.1), but for what other sessions took along.
@@ -130,7 +136,7 @@ pub fn granted_law()
         → given_in n (published test) ≡ 0 → Lives i es
         → Throughout es (AtPlace i (GrantsOthers test)) n → AllAtRest (run_network es n)
         → IfSome (slice_get (run_network es n).places i) (λ (p : Place).
-        count_by test (shown p.client.session)
+        count_by test (shown p.client.session) + count_by test p.client.expired
         + (count_by (published test) p.client.accepted + count_by (published test) p.willed)
         + lost_in (run_network es n) (published test)
         ≡ given_in (run_network es n) (published test)) }
@@ -143,7 +149,8 @@ pub fn granted_law()
         → given_in n (published test) ≡ 0 → Lives i es
         → Throughout es (AtPlace i (Reaches test kind)) n → AllAtRest (run_network es n)
         → AtPlace i (λ (c : Client).
-        count_by test (shown c.session) + lost_in (run_network es n) kind
+        count_by test (shown c.session) + count_by test c.expired
+        + lost_in (run_network es n) kind
         ≡ given_in (run_network es n) kind) (run_network es n) }
     // And where all was at rest at that moment, it was shown as many more of QoS 2 as were given
     // since, but for what was taken along since.
@@ -152,10 +159,10 @@ pub fn granted_law()
         → IsReached n → IsClass ExactlyOnce test → IsNew test → AllAtRest n → Lives i more
         → slice_get n.places i ≡ Some p → slice_get (run_network more n).places i ≡ Some q
         → Throughout more (AtPlace i (Grants test)) n → AllAtRest (run_network more n)
-        → count_by test (shown q.client.session) + given_in n (published test)
-        + lost_in (run_network more n) (published test)
-        ≡ count_by test (shown p.client.session) + given_in (run_network more n) (published test)
-        + lost_in n (published test) }
+        → count_by test (shown q.client.session) + count_by test q.client.expired
+        + given_in n (published test) + lost_in (run_network more n) (published test)
+        ≡ count_by test (shown p.client.session) + count_by test p.client.expired
+        + given_in (run_network more n) (published test) + lost_in n (published test) }
     // Where it was granted nothing for any of a class of new ones of QoS 2, none was put into its
     // queue (that what was in it is still shown, 3.10.4, is `shown_law`).
     ensures for_none { (n : Network) (es : List NetworkEvent) (i : ℕ) (p q : Place)
@@ -188,7 +195,8 @@ pub fn subscribing_law()
         → Throughout es (AtPlace i (Grants test)) n }
     // So where the client at a place has a subscription then that grants QoS 2 for a class of new
     // messages of QoS 2, of which none was given before: once all are here and at rest it was shown
-    // each that was given, exactly once, but for what other sessions took along when they ended.
+    // each that was given, exactly once, but for what expired in its queue, and for what other
+    // sessions took along when they ended.
     ensures exactly_once { (n : Network) (es : List NetworkEvent) (i : ℕ) (s : Subscription)
         (test : Publish → Bool)
         → IsReached n → IsClass ExactlyOnce test → IsNew test → Covers test s
@@ -196,7 +204,8 @@ pub fn subscribing_law()
         → AtPlace i (λ (c : Client). IsHeard c × Contains c.subscriptions s) n → Unchanged i es
         → AllAtRest (run_network es n)
         → AtPlace i (λ (c : Client).
-        count_by test (shown c.session) + lost_in (run_network es n) (published test)
+        count_by test (shown c.session) + count_by test c.expired
+        + lost_in (run_network es n) (published test)
         ≡ given_in (run_network es n) (published test)) (run_network es n) }
 {}
 
@@ -232,7 +241,7 @@ pub fn answered_law()
     // So where it was told of as many, what it asked for leaves a subscription that grants QoS 2
     // for a class of new messages of QoS 2, of which none was given before, and it asks for nothing
     // more: once all are here and at rest it was shown each that was given, exactly once, but for
-    // what other sessions took along when they ended.
+    // what expired in its queue, and for what other sessions took along when they ended.
     ensures exactly_once { (n m : Network) (since more : List NetworkEvent) (i : ℕ) (p q : Place)
         (s : Subscription) (test : Publish → Bool)
         → IsReached n → Lives i since → m ≡ run_network since n
@@ -243,7 +252,8 @@ pub fn answered_law()
         → IsClass ExactlyOnce test → IsNew test → given_in m (published test) ≡ 0
         → Unchanged i more → AllAtRest (run_network more m)
         → AtPlace i (λ (c : Client).
-        count_by test (shown c.session) + lost_in (run_network more m) (published test)
+        count_by test (shown c.session) + count_by test c.expired
+        + lost_in (run_network more m) (published test)
         ≡ given_in (run_network more m) (published test)) (run_network more m) }
     // And in some network a client asked once, and was told of the answer, so the promises aren't
     // empty.
@@ -259,17 +269,18 @@ pub fn answered_law()
 /// 3.3.4).
 pub fn standing_law()
     // Once all are here and at rest a class of QoS 2 was shown exactly as often as it was given, but
-    // for what sessions that ended took along.
+    // for what expired in its queue, and for what sessions that ended took along.
     ensures exactly_once { (n : Network) (i : ℕ) (p : Place) (test : Publish → Bool)
         → KeepsFirst n i p → IsClass ExactlyOnce test → AllAtRest n
-        → count_by test (shown p.client.session)
+        → count_by test (shown p.client.session) + count_by test p.client.expired
         + lost_in n (reaching p.client.subscriptions test)
         ≡ given_in n (reaching p.client.subscriptions test) }
-    // One of QoS 1 at least as often, but for what these took along, or had no ack for.
+    // One of QoS 1 at least as often, but for what expired, and for what these took along, or had no
+    // ack for.
     ensures at_least_once { (n : Network) (i : ℕ) (p : Place) (test : Publish → Bool)
         → KeepsFirst n i p → IsClass AtLeastOnce test → AllAtRest n
         → given_in n (reaching p.client.subscriptions test)
-        ≤ count_by test (shown p.client.session)
+        ≤ count_by test (shown p.client.session) + count_by test p.client.expired
         + unacked_in n (reaching p.client.subscriptions test)
         + lost_in n (reaching p.client.subscriptions test) }
     // At any time one of QoS 2 at most as often.
@@ -288,13 +299,13 @@ pub fn standing_law()
         → KeepsFirst n i p → IsClass qos test
         → count_by test (shown p.client.session)
         ≤ (p.client.lost + 1) * most_in n (reaching p.client.subscriptions test) }
-    // One of QoS 2 was shown, is kept at the broker's sender, is in the queue, is on its way to the
-    // broker, or was taken along, for each time it was given.
+    // One of QoS 2 was shown, is kept at the broker's sender, is in the queue, expired there, is on
+    // its way to the broker, or was taken along, for each time it was given.
     ensures ledger { (n : Network) (i : ℕ) (p : Place) (test : Publish → Bool)
         → KeepsFirst n i p → IsClass ExactlyOnce test
         → count_by test (shown p.client.session)
         + kept_at p.client.session.core.incoming p.client.sender.core test
-        + count_by test p.client.queue
+        + count_by test p.client.queue + count_by test p.client.expired
         + kept_by n.places (reaching p.client.subscriptions test)
         + lost_in n (reaching p.client.subscriptions test)
         ≡ given_in n (reaching p.client.subscriptions test) }
@@ -318,7 +329,7 @@ pub fn copies_law()
     // Where a packet of the client at a place arrives, and then none about subscriptions is on its
     // way, no subscription of it has Retain As Published, it asks for none and its session goes on:
     // once it is here and at rest it was shown, of a class of copies of QoS 2, what had been put into
-    // its queue before, and exactly once each that the packet brought.
+    // its queue before, and exactly once each that the packet brought, but for what expired in it.
     ensures exactly_once { (n : Network) (es : List NetworkEvent) (i : ℕ) (p q : Place)
         (test : Publish → Bool)
         → IsReached n → IsClass ExactlyOnce test → IsCopy test
@@ -328,7 +339,7 @@ pub fn copies_law()
         → AtPlace i (λ (c : Client). IsHeard c × NoneKeepRetain c.subscriptions)
         (happens_in n (record { client = i; what = events.Up }))
         → Unchanged i es → AtRest q
-        → count_by test (shown q.client.session)
+        → count_by test (shown q.client.session) + count_by test q.client.expired
         ≡ count_by test (routed p.client) + count_by test (copies_in n.handed p events.Up) }
 {}
 

@@ -1,5 +1,5 @@
 -- What a client is after its session was asked for something, after a packet arrived, and after one of its queue was passed.
-use Rattle.std.proofs.Common.{◌≡◌, ℕ, ◌+◌, ◌<◌, ◌==◌, true, false, cond, List, [], ◌∷◌, ◌++◌, take, length, append-nil, Option, Some, None, Result, Ok, Err, refl, sym, ap, ◌∙◌, slice_index_or}
+use Rattle.std.proofs.Common.{◌≡◌, ℕ, ◌+◌, ◌<◌, ◌==◌, true, false, cond, List, [], ◌∷◌, ◌++◌, take, drop, length, append-nil, Option, Some, None, Result, Ok, Err, refl, sym, ap, ◌∙◌, slice_index_or}
 use Rattle.std.specs.Prelude.{Bool, is_ok}
 use Rattle.std.specs.List.{filter_map}
 use Rattle.std.specs.Option.{option_to_list}
@@ -25,7 +25,7 @@ use Rattle.mqtt5_network.specs.Connection.{reply_in, is_sending}
 use Rattle.mqtt5_network.specs.declared.subscription.Subscription.{Subscription}
 use Rattle.mqtt5_network.specs.Asking.{is_ack}
 use Rattle.mqtt5_network.specs.Retained.{copies_for, copies_first}
-use Rattle.mqtt5_network.specs.Client.{Client, asked_of, asks_for, sends_of, requests_for, comes_to, taken_for, passes_on}
+use Rattle.mqtt5_network.specs.Client.{Client, asked_of, asks_for, sends_of, requests_for, comes_to, taken_for, passes_on, takes_out}
 use Rattle.mqtt5_router.specs.Kept.{Kept, kept_of, after_packet, after_pass}
 use Rattle.mqtt5_router.proofs.Alone.{packet_kept, packet_reply, packet_handed, pass_kept, pass_sent, pass_taken}
 use Rattle.mqtt5_router.proofs.Refused.{IsKept, refused_kept}
@@ -140,6 +140,26 @@ module _ (c : Client) where
       let h : c.receiver.handed ≡ passed.receiver.handed = sym (ap (λ (b : Broker). b.handed) (passes_receiver c.queue)) in
       (λ j. record c { receiver = record { ids = (e j).ids; handed = h j }; sender = (e j).sender; down = d j; subscriptions = (e j).subscriptions; queue = (e j).queue; taken = t j })
       ∙ sym (passes_whole c.queue)
+
+-- ---- after the first of its queue has expired
+
+none_left : (ps : List Publish) → (length ps == 0) ≡ true → ps ≡ drop 1 ps
+none_left ps h = let e = nil_from_length ps (eqb-true (length ps) 0 h) in e ∙ sym (ap (drop 1) e)
+
+none_more : (ps qs : List Publish) → (length ps == 0) ≡ true → qs ≡ qs ++ take 1 ps
+none_more ps qs h = sym (ap (λ xs. qs ++ take 1 xs) (nil_from_length ps (eqb-true (length ps) 0 h)) ∙ append-nil qs)
+
+module _ (c : Client) where
+  pub none_expires : (length c.queue == 0) ≡ true → c ≡ takes_out c
+  none_expires h = λ j. record c { queue = none_left c.queue h j; taken = none_more c.queue c.taken h j; expired = none_more c.queue c.expired h j }
+
+  pub first_expires : (p : Publish) → (length c.queue == 0) ≡ false → p ≡ slice_index_or c.queue 0 p
+      → record c { queue = drop 1 c.queue; taken = c.taken ++ p ∷ []; expired = c.expired ++ p ∷ [] } ≡ takes_out c
+  first_expires p h is = ap (λ xs. record c { queue = drop 1 c.queue; taken = c.taken ++ xs; expired = c.expired ++ xs }) (by c.queue h is)
+    where
+      by : (ps : List Publish) → (length ps == 0) ≡ false → p ≡ slice_index_or ps 0 p → p ∷ [] ≡ take 1 ps
+      by [] h is = absurd cc
+      by (q ∷ ps) h is = ap (λ x. x ∷ []) is
 
 -- ---- copies for the first packet on its way up
 

@@ -104,6 +104,7 @@ goes_on events.PassOn h = (λ p. refl, λ p. refl)
 goes_on events.Lost h = (λ p. refl, λ p. refl)
 goes_on events.Left h = (λ p. refl, λ p. refl)
 goes_on (events.Turn f turn) h = (λ p. refl, λ p. refl)
+goes_on events.Expire h = (λ p. refl, λ p. refl)
 goes_on events.Due h = (λ p. refl, λ p. refl)
 goes_on (events.Back m k w) h = (λ p. refl, λ p. refl)
 

@@ -87,30 +87,30 @@ module _ (n : Network) (reached : IsReached n) (r : NetworkReport) (is : r ≡ a
   report_losses = each_told (λ c. (k : Publish) → times k c.shown ≤ (c.lost + 1) * times k c.routed)
       (λ p has k. shown_losses n.handed _ (hidden_of n.handed p (place_of n p (joined n reached) has)).client (has_content k) k.qos (content_class k))
 
-  exactly_at : (p : Place) → Contains n.places p → AtRest p → (k : Publish) → k.qos ≡ ExactlyOnce → times k (told p).shown ≡ times k (told p).routed
+  exactly_at : (p : Place) → Contains n.places p → AtRest p → (k : Publish) → k.qos ≡ ExactlyOnce → times k (told p).shown + times k (told p).expired ≡ times k (told p).routed
   exactly_at p has rest k q = shown_exactly n.handed p.client (here_of n.handed p (place_of n p (joined n reached) has) rest.here) (has_content k) (rest_of p rest) (class_of k ExactlyOnce q)
 
-  least_at : (p : Place) → Contains n.places p → AtRest p → (k : Publish) → k.qos ≡ AtLeastOnce → times k (told p).routed ≤ times k (told p).shown
+  least_at : (p : Place) → Contains n.places p → AtRest p → (k : Publish) → k.qos ≡ AtLeastOnce → times k (told p).routed ≤ times k (told p).shown + times k (told p).expired
   least_at p has rest k q = shown_least n.handed p.client (here_of n.handed p (place_of n p (joined n reached) has) rest.here) (has_content k) (rest_of p rest) (class_of k AtLeastOnce q)
 
-  pub report_exactly : All (λ (c : ClientReport). (k : Publish) → ClientRests c → k.qos ≡ ExactlyOnce → times k c.shown ≡ times k c.routed) r.clients
-  report_exactly = each_told (λ c. (k : Publish) → ClientRests c → k.qos ≡ ExactlyOnce → times k c.shown ≡ times k c.routed)
+  pub report_exactly : All (λ (c : ClientReport). (k : Publish) → ClientRests c → k.qos ≡ ExactlyOnce → times k c.shown + times k c.expired ≡ times k c.routed) r.clients
+  report_exactly = each_told (λ c. (k : Publish) → ClientRests c → k.qos ≡ ExactlyOnce → times k c.shown + times k c.expired ≡ times k c.routed)
       (λ p has k rest q. exactly_at p has (rests_client p rest) k q)
 
-  pub report_least : All (λ (c : ClientReport). (k : Publish) → ClientRests c → k.qos ≡ AtLeastOnce → times k c.routed ≤ times k c.shown) r.clients
-  report_least = each_told (λ c. (k : Publish) → ClientRests c → k.qos ≡ AtLeastOnce → times k c.routed ≤ times k c.shown)
+  pub report_least : All (λ (c : ClientReport). (k : Publish) → ClientRests c → k.qos ≡ AtLeastOnce → times k c.routed ≤ times k c.shown + times k c.expired) r.clients
+  report_least = each_told (λ c. (k : Publish) → ClientRests c → k.qos ≡ AtLeastOnce → times k c.routed ≤ times k c.shown + times k c.expired)
       (λ p has k rest q. least_at p has (rests_client p rest) k q)
 
   module _ (rest : HereAtRest n) where
     at_rest : (p : Place) → Contains n.places p → p.here ≡ true → AtRest p
     at_rest p has here = subst (λ p. p.here ≡ true → AtRest p) has.2 (rest has.0 _ has.1) here
 
-    pub here_exactly : All (λ (c : ClientReport). (k : Publish) → c.here ≡ true → k.qos ≡ ExactlyOnce → times k c.shown ≡ times k c.routed) r.clients
-    here_exactly = each_told (λ c. (k : Publish) → c.here ≡ true → k.qos ≡ ExactlyOnce → times k c.shown ≡ times k c.routed)
+    pub here_exactly : All (λ (c : ClientReport). (k : Publish) → c.here ≡ true → k.qos ≡ ExactlyOnce → times k c.shown + times k c.expired ≡ times k c.routed) r.clients
+    here_exactly = each_told (λ c. (k : Publish) → c.here ≡ true → k.qos ≡ ExactlyOnce → times k c.shown + times k c.expired ≡ times k c.routed)
         (λ p has k here q. exactly_at p has (at_rest p has here) k q)
 
-    pub here_least : All (λ (c : ClientReport). (k : Publish) → c.here ≡ true → k.qos ≡ AtLeastOnce → times k c.routed ≤ times k c.shown) r.clients
-    here_least = each_told (λ c. (k : Publish) → c.here ≡ true → k.qos ≡ AtLeastOnce → times k c.routed ≤ times k c.shown)
+    pub here_least : All (λ (c : ClientReport). (k : Publish) → c.here ≡ true → k.qos ≡ AtLeastOnce → times k c.routed ≤ times k c.shown + times k c.expired) r.clients
+    here_least = each_told (λ c. (k : Publish) → c.here ≡ true → k.qos ≡ AtLeastOnce → times k c.routed ≤ times k c.shown + times k c.expired)
         (λ p has k here q. least_at p has (at_rest p has here) k q)
 
     pub report_rests : HereRest r
@@ -194,15 +194,15 @@ module _ (ps : List Profile) (es : List NetworkEvent) (n : Network) (same : n �
         omega (arith, g, a))
 
     module _ (rest : AllAtRest n) where
-      pub kept_exactly : k.qos ≡ ExactlyOnce → times k c.shown ≡ given_times k c r.clients
-      kept_exactly q = to (λ c. times k c.shown ≡ given_times k c r.clients)
+      pub kept_exactly : k.qos ≡ ExactlyOnce → times k c.shown + times k c.expired ≡ given_times k c r.clients
+      kept_exactly q = to (λ c. times k c.shown + times k c.expired ≡ given_times k c r.clients)
           (let g = given_told k f.place f.none in
           let a = standing_exactly n i f.place f.first (has_content k) rest (class_of k ExactlyOnce q) in
           let l = none_lost k f.place f.none in
           omega (arith, g, a, l))
 
-      pub kept_least : k.qos ≡ AtLeastOnce → given_times k c r.clients ≤ times k c.shown
-      kept_least q = to (λ c. given_times k c r.clients ≤ times k c.shown)
+      pub kept_least : k.qos ≡ AtLeastOnce → given_times k c r.clients ≤ times k c.shown + times k c.expired
+      kept_least q = to (λ c. given_times k c r.clients ≤ times k c.shown + times k c.expired)
           (let g = given_told k f.place f.none in
           let a = standing_least n i f.place f.first (has_content k) rest (class_of k AtLeastOnce q) in
           let l = none_lost k f.place f.none in
@@ -239,10 +239,10 @@ module _ (ps : List Profile) (es : List NetworkEvent) (r : NetworkReport) where
     pub played_losses : All (λ (c : ClientReport). (k : Publish) → times k c.shown ≤ (c.lost + 1) * times k c.routed) r.clients
     played_losses = report_losses ended reached r is
 
-    pub played_exactly : All (λ (c : ClientReport). (k : Publish) → ClientRests c → k.qos ≡ ExactlyOnce → times k c.shown ≡ times k c.routed) r.clients
+    pub played_exactly : All (λ (c : ClientReport). (k : Publish) → ClientRests c → k.qos ≡ ExactlyOnce → times k c.shown + times k c.expired ≡ times k c.routed) r.clients
     played_exactly = report_exactly ended reached r is
 
-    pub played_least : All (λ (c : ClientReport). (k : Publish) → ClientRests c → k.qos ≡ AtLeastOnce → times k c.routed ≤ times k c.shown) r.clients
+    pub played_least : All (λ (c : ClientReport). (k : Publish) → ClientRests c → k.qos ≡ AtLeastOnce → times k c.routed ≤ times k c.shown + times k c.expired) r.clients
     played_least = report_least ended reached r is
 
     resting : Rests r → AllAtRest ended
@@ -257,10 +257,10 @@ module _ (ps : List Profile) (es : List NetworkEvent) (r : NetworkReport) where
     pub standing_played_losses : (i : ℕ) (c : ClientReport) (k : Publish) → KeepsAll es r i c → times k c.shown ≤ most_times k c r.clients
     standing_played_losses i c k keeps = kept_losses ps es ended refl r is i c k keeps
 
-    pub standing_played_exactly : (i : ℕ) (c : ClientReport) (k : Publish) → KeepsAll es r i c → Rests r → k.qos ≡ ExactlyOnce → times k c.shown ≡ given_times k c r.clients
+    pub standing_played_exactly : (i : ℕ) (c : ClientReport) (k : Publish) → KeepsAll es r i c → Rests r → k.qos ≡ ExactlyOnce → times k c.shown + times k c.expired ≡ given_times k c r.clients
     standing_played_exactly i c k keeps rests = kept_exactly ps es ended refl r is i c k keeps (resting rests)
 
-    pub standing_played_least : (i : ℕ) (c : ClientReport) (k : Publish) → KeepsAll es r i c → Rests r → k.qos ≡ AtLeastOnce → given_times k c r.clients ≤ times k c.shown
+    pub standing_played_least : (i : ℕ) (c : ClientReport) (k : Publish) → KeepsAll es r i c → Rests r → k.qos ≡ AtLeastOnce → given_times k c r.clients ≤ times k c.shown + times k c.expired
     standing_played_least i c k keeps rests = kept_least ps es ended refl r is i c k keeps (resting rests)
 
   module _ (s : SettlesTo ended r) where
@@ -276,10 +276,10 @@ module _ (ps : List Profile) (es : List NetworkEvent) (r : NetworkReport) where
     pub settled_rests : HereRest r
     settled_rests = report_rests s.settled reached_then r s.report s.rest
 
-    pub settled_exactly : All (λ (c : ClientReport). (k : Publish) → c.here ≡ true → k.qos ≡ ExactlyOnce → times k c.shown ≡ times k c.routed) r.clients
+    pub settled_exactly : All (λ (c : ClientReport). (k : Publish) → c.here ≡ true → k.qos ≡ ExactlyOnce → times k c.shown + times k c.expired ≡ times k c.routed) r.clients
     settled_exactly = here_exactly s.settled reached_then r s.report s.rest
 
-    pub settled_least : All (λ (c : ClientReport). (k : Publish) → c.here ≡ true → k.qos ≡ AtLeastOnce → times k c.routed ≤ times k c.shown) r.clients
+    pub settled_least : All (λ (c : ClientReport). (k : Publish) → c.here ≡ true → k.qos ≡ AtLeastOnce → times k c.routed ≤ times k c.shown + times k c.expired) r.clients
     settled_least = here_least s.settled reached_then r s.report s.rest
 
     pub settled_losses : All (λ (c : ClientReport). (k : Publish) → times k c.shown ≤ (c.lost + 1) * times k c.routed) r.clients
@@ -291,10 +291,10 @@ module _ (ps : List Profile) (es : List NetworkEvent) (r : NetworkReport) where
     resting_then : All (λ (c : ClientReport). c.here ≡ true) r.clients → AllAtRest s.settled
     resting_then here = all_rest s.settled s.rest (subst (λ (r : NetworkReport). All (λ (c : ClientReport). c.here ≡ true) r.clients) s.report here)
 
-    pub standing_settled_exactly : (i : ℕ) (c : ClientReport) (k : Publish) → KeepsAll es r i c → All (λ (d : ClientReport). d.here ≡ true) r.clients → k.qos ≡ ExactlyOnce → times k c.shown ≡ given_times k c r.clients
+    pub standing_settled_exactly : (i : ℕ) (c : ClientReport) (k : Publish) → KeepsAll es r i c → All (λ (d : ClientReport). d.here ≡ true) r.clients → k.qos ≡ ExactlyOnce → times k c.shown + times k c.expired ≡ given_times k c r.clients
     standing_settled_exactly i c k keeps here = kept_exactly ps all_events s.settled run_is r s.report i c k (keeps_on i c keeps) (resting_then here)
 
-    pub standing_settled_least : (i : ℕ) (c : ClientReport) (k : Publish) → KeepsAll es r i c → All (λ (d : ClientReport). d.here ≡ true) r.clients → k.qos ≡ AtLeastOnce → given_times k c r.clients ≤ times k c.shown
+    pub standing_settled_least : (i : ℕ) (c : ClientReport) (k : Publish) → KeepsAll es r i c → All (λ (d : ClientReport). d.here ≡ true) r.clients → k.qos ≡ AtLeastOnce → given_times k c r.clients ≤ times k c.shown + times k c.expired
     standing_settled_least i c k keeps here = kept_least ps all_events s.settled run_is r s.report i c k (keeps_on i c keeps) (resting_then here)
 
     pub standing_settled_losses : (i : ℕ) (c : ClientReport) (k : Publish) → KeepsAll es r i c → times k c.shown ≤ most_times k c r.clients

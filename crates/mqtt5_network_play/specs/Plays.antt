@@ -27,6 +27,7 @@ client_of session kept = record {
   subscriptions = kept.subscriptions;
   queue = kept.queue;
   taken = [];
+  expired = [];
   lost = 0;
 }
 

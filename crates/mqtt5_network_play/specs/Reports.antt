@@ -21,6 +21,7 @@ abbrev pub told : Place → ClientReport
 told p = record {
   shown = shown p.client.session;
   routed = routed p.client;
+  expired = p.client.expired;
   accepted = p.client.accepted;
   willed = p.willed;
   subscriptions = p.client.subscriptions;

@@ -7,7 +7,8 @@ ghost use Rattle.mqtt5_network.specs.Connection.{is_sending, connected};
 ghost use Rattle.mqtt5_network.specs.Asking.{is_ack};
 ghost use Rattle.mqtt5_network.specs.Retained.{retained_of, copies_for, copies_first};
 ghost use Rattle.mqtt5_network.specs.Client.{routed, new_client, asks_for, requests_for, comes_to};
-ghost use Rattle.mqtt5_network.specs.Client.{goes_up, goes_down, queues, passes_on, takes_turn, reconnects};
+ghost use Rattle.mqtt5_network.specs.Client.{goes_up, goes_down, queues, passes_on, takes_out, takes_turn};
+ghost use Rattle.mqtt5_network.specs.Client.{reconnects};
 ghost use Rattle.mqtt5_network.specs.Place.{cut_off};
 ghost use Rattle.mqtt5_network_play.specs.Plays.{client_of, IsAbout, next_for};
 
@@ -25,7 +26,7 @@ use std::marker::Model;
 use std::num::NonZeroU16;
 
 /// A client's session; what the broker keeps for it; the packets on their way up and down; what the session accepted; what the
-/// broker handed on of it, and took on for it; and on how many new connections it came.
+/// broker handed on of it; what left its queue, and what of that had expired; and on how many new connections it came.
 #[derive(Debug, Drop)]
 pub struct Client {
     session: MqttState,
@@ -35,6 +36,7 @@ pub struct Client {
     accepted: Vec<Publish>,
     handed: Vec<Publish>,
     taken: Vec<Publish>,
+    expired: Vec<Publish>,
     lost: usize,
 }
 
@@ -63,6 +65,7 @@ impl Model for Client {
       subscriptions = a.kept.subscriptions;
       queue = a.kept.queue;
       taken = a.taken.items;
+      expired = a.expired.items;
       lost = a.lost;
     } };
 }
@@ -110,6 +113,7 @@ impl Client {
             accepted: Vec::new(alloc),
             handed: Vec::new(alloc),
             taken: Vec::new(alloc),
+            expired: Vec::new(alloc),
             lost: 0,
         }
     }
@@ -133,6 +137,13 @@ impl Client {
             all.push(copied(&queue[i])?)?;
         }
         Ok(all)
+    }
+
+    /// The publishes that expired in its queue, in order (3.3.2.3.3).
+    pub fn expired(&self) -> &[Publish]
+        ensures { result.now ≡ self.now.expired }
+    {
+        self.expired.as_slice()
     }
 
     /// The publishes that its session accepted, in order.
@@ -325,6 +336,21 @@ impl Client {
         let passed = self.kept.pass()?;
         push_some(passed.taken, &mut self.taken)?;
         send(&mut self.down, passed.sent)?;
+        Ok(())
+    }
+
+    /// The first of its queue is taken out, if there is one, since it has expired (3.3.2.3.3).
+    #[tactic(auto, using(crate::proofs::Asked::none_expires, crate::proofs::Asked::first_expires))]
+    pub(super) fn expire(&mut self) -> Result<(), AllocError>
+        ensures { OnOk result (self.new ≡ takes_out self.old) }
+    {
+        if self.kept.queue().is_empty() {
+            return Ok(());
+        }
+        let first = copied(&self.kept.queue()[0])?;
+        self.taken.push(copied(&first)?)?;
+        self.expired.push(first)?;
+        self.kept.expire();
         Ok(())
     }
 

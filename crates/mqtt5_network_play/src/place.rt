@@ -94,12 +94,15 @@ impl Place {
         let routed = client.routed(alloc)?;
         let mut accepted = Vec::new(alloc);
         push_all(client.accepted(), &mut accepted)?;
+        let mut expired = Vec::new(alloc);
+        push_all(client.expired(), &mut expired)?;
         let mut willed = Vec::new(alloc);
         push_all(self.willed.as_slice(), &mut willed)?;
         let subscriptions = subscriptions_of(alloc, client.subscriptions())?;
         Ok(ClientReport {
             shown: Sequence::from(shown),
             routed: Sequence::from(routed),
+            expired: Sequence::from(expired),
             accepted: Sequence::from(accepted),
             willed: Sequence::from(willed),
             subscriptions: Sequence::from(subscriptions),
@@ -195,6 +198,7 @@ impl Place {
             ClientEvent::Up => self.client.go_up(alloc),
             ClientEvent::Down => self.client.go_down(),
             ClientEvent::PassOn => self.pass_on(),
+            ClientEvent::Expire => Ok(self.client.expire()?),
             ClientEvent::Turn(topic_filter, turn) => {
                 self.client.take_turn(topic_filter, *turn);
                 Ok(())

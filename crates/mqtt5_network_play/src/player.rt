@@ -35,12 +35,14 @@ pub fn play_network(
     // One of any QoS at most once, and once more for each new connection.
     ensures for_each_loss { IfOk result (λ r. All (λ c. (k : Publish)
         → times k c.shown ≤ (c.lost + 1) * times k c.routed) r.clients) }
-    // Of a client at rest one of QoS 2 was shown exactly as often.
+    // Of a client at rest one of QoS 2 was shown, or expired in its queue, exactly as often.
     ensures exactly_once { IfOk result (λ r. All (λ c. (k : Publish) → ClientRests c
-        → k.qos ≡ ExactlyOnce → times k c.shown ≡ times k c.routed) r.clients) }
+        → k.qos ≡ ExactlyOnce
+        → times k c.shown + times k c.expired ≡ times k c.routed) r.clients) }
     // And one of QoS 1 at least as often.
     ensures at_least_once { IfOk result (λ r. All (λ c. (k : Publish) → ClientRests c
-        → k.qos ≡ AtLeastOnce → times k c.routed ≤ times k c.shown) r.clients) }
+        → k.qos ≡ AtLeastOnce
+        → times k c.routed ≤ times k c.shown + times k c.expired) r.clients) }
     // Of a client that keeps its subscriptions, where no session ended: at any time one of QoS 2 was
     // shown at most as often as publishes that reach the client with it were given.
     ensures standing_at_most_once { IfOk result (λ r. (i : ℕ) (c : ClientReport) (k : Publish)
@@ -54,14 +56,14 @@ pub fn play_network(
     // One of any QoS at most once, and once more for each new connection of either client.
     ensures standing_for_each_loss { IfOk result (λ r. (i : ℕ) (c : ClientReport) (k : Publish)
         → KeepsAll events.now r i c → times k c.shown ≤ most_times k c r.clients) }
-    // Where all are here and at rest one of QoS 2 was shown exactly as often.
+    // Where all are here and at rest one of QoS 2 was shown, or expired, exactly as often.
     ensures standing_exactly_once { IfOk result (λ r. (i : ℕ) (c : ClientReport) (k : Publish)
         → KeepsAll events.now r i c → Rests r → k.qos ≡ ExactlyOnce
-        → times k c.shown ≡ given_times k c r.clients) }
+        → times k c.shown + times k c.expired ≡ given_times k c r.clients) }
     // And one of QoS 1 at least as often.
     ensures standing_at_least_once { IfOk result (λ r. (i : ℕ) (c : ClientReport) (k : Publish)
         → KeepsAll events.now r i c → Rests r → k.qos ≡ AtLeastOnce
-        → given_times k c r.clients ≤ times k c.shown) }
+        → given_times k c r.clients ≤ times k c.shown + times k c.expired) }
 {
     told_of(alloc, profiles, events)
 }
@@ -112,24 +114,27 @@ pub fn play_network_out(
     ensures memory { IfErr result (λ e. e ≡ StateError.OutOfMemory) }
     // Each client that is here is at rest.
     ensures rests { IfOk result (λ r. HereRest r) }
-    // To each of these a content of QoS 2 was shown exactly as often as it was put into its queue.
+    // To each of these a content of QoS 2 was shown, or expired in its queue, exactly as often as it was
+    // put into that.
     ensures exactly_once { IfOk result (λ r. All (λ c. (k : Publish) → c.here ≡ true
-        → k.qos ≡ ExactlyOnce → times k c.shown ≡ times k c.routed) r.clients) }
+        → k.qos ≡ ExactlyOnce
+        → times k c.shown + times k c.expired ≡ times k c.routed) r.clients) }
     // One of QoS 1 at least as often.
     ensures at_least_once { IfOk result (λ r. All (λ c. (k : Publish) → c.here ≡ true
-        → k.qos ≡ AtLeastOnce → times k c.routed ≤ times k c.shown) r.clients) }
+        → k.qos ≡ AtLeastOnce
+        → times k c.routed ≤ times k c.shown + times k c.expired) r.clients) }
     // One of any QoS at most once, and once more for each new connection; so it is of who is away.
     ensures for_each_loss { IfOk result (λ r. All (λ c. (k : Publish)
         → times k c.shown ≤ (c.lost + 1) * times k c.routed) r.clients) }
     // Of a client that keeps its subscriptions, where no session ended and all are here: one of QoS 2
-    // was shown exactly as often as publishes that reach the client with it were given.
+    // was shown, or expired, exactly as often as publishes that reach the client with it were given.
     ensures standing_exactly_once { IfOk result (λ r. (i : ℕ) (c : ClientReport) (k : Publish)
         → KeepsAll events.now r i c → All (λ d. d.here ≡ true) r.clients → k.qos ≡ ExactlyOnce
-        → times k c.shown ≡ given_times k c r.clients) }
+        → times k c.shown + times k c.expired ≡ given_times k c r.clients) }
     // One of QoS 1 at least as often.
     ensures standing_at_least_once { IfOk result (λ r. (i : ℕ) (c : ClientReport) (k : Publish)
         → KeepsAll events.now r i c → All (λ d. d.here ≡ true) r.clients → k.qos ≡ AtLeastOnce
-        → given_times k c r.clients ≤ times k c.shown) }
+        → given_times k c r.clients ≤ times k c.shown + times k c.expired) }
     // One of any QoS at most once, and once more for each new connection of either client.
     ensures standing_for_each_loss { IfOk result (λ r. (i : ℕ) (c : ClientReport) (k : Publish)
         → KeepsAll events.now r i c → times k c.shown ≤ most_times k c r.clients) }

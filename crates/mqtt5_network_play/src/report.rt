@@ -11,6 +11,8 @@ pub struct ClientReport {
     pub shown: Sequence<Publish>,
     /// The publishes that were put into its queue, in order, as they are forwarded to it.
     pub routed: Sequence<Publish>,
+    /// Of these the ones that expired in it, in order.
+    pub expired: Sequence<Publish>,
     /// The publishes that its session accepted, in order, as they were asked for.
     pub accepted: Sequence<Publish>,
     /// The wills that the broker published for it, in order.

@@ -1,6 +1,6 @@
 -- What a broker keeps for a client, by itself (MQTT 5.0 sections 3.8, 3.10, 4.1 and 4.3): each call
 -- does what happens to a client of a network of which no more is known than that.
-use Rattle.std.specs.Prelude.{ℕ, false, List, []}
+use Rattle.std.specs.Prelude.{ℕ, false, List, [], drop}
 use Rattle.std.specs.Ordering.{nat_cmp}
 use Rattle.std.specs.FinSet as set
 use Rattle.mqtt5_publish.specs.declared.publish.Publish.{Publish}
@@ -33,6 +33,10 @@ new_kept limit subscriptions = record {
 abbrev pub without_events : Kept → Kept
 without_events k = record k { sender = record k.sender { events = [] } }
 
+-- without the first of its queue
+abbrev pub without_first : Kept → Kept
+without_first k = record k { queue = drop 1 k.queue }
+
 -- of a client of a network
 abbrev pub kept_of : Client → Kept
 kept_of c = record {
@@ -55,6 +59,7 @@ alone k = record {
   subscriptions = k.subscriptions;
   queue = k.queue;
   taken = [];
+  expired = [];
   lost = 0;
 }
 

@@ -16,7 +16,7 @@ ghost use Rattle.mqtt5_network.specs.Subscriptions.{turned, forwarded_to};
 ghost use Rattle.mqtt5_network.specs.Asking.{is_ack, identifier_of, subscribed_all, unsubscribed_all, answer_of};
 ghost use Rattle.mqtt5_network.specs.Retained.{copies_for};
 ghost use Rattle.mqtt5_network.specs.Client.{comes_to};
-ghost use Rattle.mqtt5_router.specs.Kept.{new_kept, without_events, kept_of, alone};
+ghost use Rattle.mqtt5_router.specs.Kept.{new_kept, without_events, without_first, kept_of, alone};
 ghost use Rattle.mqtt5_router.specs.Kept.{after_packet, after_pass};
 
 use crate::asking::{identifier_of, subscribe_all, unsubscribe_all};
@@ -413,6 +413,13 @@ impl Kept {
             sent,
             taken: self.queue.pop_front(),
         })
+    }
+
+    /// The first of the queue is taken out, if there is one, since it has expired (3.3.2.3.3). Takes no memory.
+    pub fn expire(&mut self)
+        ensures { self.new ≡ without_first self.old }
+    {
+        drop(self.queue.pop_front());
     }
 
     /// What the sender sends again on a new connection, where the client says this receive maximum, if it says one (3.1.2.11.3

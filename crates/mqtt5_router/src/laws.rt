@@ -4,8 +4,8 @@ ghost use Rattle.std.specs.Prelude.{◌≡◌, ◌++◌};
 ghost use Rattle.mqtt5_codec.specs.declared.packet.Packet.{Packet};
 ghost use Rattle.mqtt5_network.specs.Connection.{is_sending};
 ghost use Rattle.mqtt5_network.specs.Asking.{is_ack};
-ghost use Rattle.mqtt5_network.specs.Client.{Client, comes_to, passes_on};
-ghost use Rattle.mqtt5_router.specs.Kept.{kept_of, after_packet, after_pass};
+ghost use Rattle.mqtt5_network.specs.Client.{Client, comes_to, passes_on, takes_out};
+ghost use Rattle.mqtt5_router.specs.Kept.{kept_of, without_first, after_packet, after_pass};
 
 /// A law, which does nothing when it is called: the calls of `Kept` do what happens to each client of a network, whatever is on
 /// its way, was handed on of it and was sent to it before (MQTT 5.0 sections 3.8, 3.10 and 4.3).
@@ -29,4 +29,6 @@ pub fn kept_law()
     // And the publish that the sender took on goes behind those before it.
     ensures taken { (c : Client)
         → (passes_on c c.queue).taken ≡ c.taken ++ (after_pass (kept_of c)).taken }
+    // After the first of its queue has expired the same is kept.
+    ensures expire { (c : Client) → kept_of (takes_out c) ≡ without_first (kept_of c) }
 {}

@@ -6,7 +6,8 @@ use Rattle.std.specs.Option.{option_to_list}
 use Rattle.std.proofs.Math.ListN.{set}
 use Rattle.std.proofs.Math.Dec.{eqb-suc-suc, eqb-suc-zero, eqb-zero-suc}
 use Rattle.std.proofs.Math.Seq.{drop-cons}
-use Rattle.std.proofs.lemmas.List.{drop_all}
+use Rattle.std.proofs.lemmas.Bool.{eqb-true}
+use Rattle.std.proofs.lemmas.List.{drop_all, nil_from_length}
 use Rattle.mqtt5_base.specs.declared.quality.QoS.{QoS}
 use Rattle.mqtt5_base.specs.declared.quality.QoS.TheVariants.{AtMostOnce, AtLeastOnce, ExactlyOnce}
 use Rattle.mqtt5_base.specs.Texts.{Utf8}
@@ -22,6 +23,7 @@ use Rattle.mqtt5_router.specs.Kept.{Kept, without_events, kept_of, alone, after_
 use Rattle.mqtt5_sessions.specs.declared.coming.Coming.{Coming}
 use Rattle.mqtt5_sessions.specs.Sessions.{ClientState, Sessions, gets, queues, queues_all, with_client, of_client, to_client, changes, here_in, with_turn_of, turns, arrives}
 use Rattle.mqtt5_sessions.specs.Coming.{delivered, coming_to, coming_from, coming_of, coming_of_will, is_publish, coming_for, chosen}
+use Rattle.mqtt5_sessions.specs.Expiry.{expiry_of, first_expiry}
 
 -- ---- the client at a place
 
@@ -497,3 +499,12 @@ pub seen_unturned : (i : ℕ) (f : Utf8) (on : Bool) (es : List Coming) (cs : Li
     → record { clients = delivered es cs; retained = kept } ≡ s → s ≡ turns i f on s
 seen_unturned i f on es cs kept s past seen =
     sym seen ∙ seen_past_all i (with_turn_of f on) (λ c. []) cs kept es past ∙ ap (turns i f on) seen
+
+-- ---- the first of a queue
+
+pub expiry_of_none : (ps : List Publish) → (length ps == 0) ≡ true → None ≡ first_expiry ps
+expiry_of_none ps h = sym (ap first_expiry (nil_from_length ps (eqb-true (length ps) 0 h)))
+
+pub expiry_of_first : (ps : List Publish) (x : Publish) → (length ps == 0) ≡ false → x ≡ slice_index_or ps 0 x → first_expiry ps ≡ expiry_of x
+expiry_of_first [] x h is = absurd cc
+expiry_of_first (p ∷ ps) x h is = ap expiry_of (sym is)

@@ -19,10 +19,10 @@ use Rattle.mqtt5_network.specs.Retained.{retains, retained_after, retained_of, c
 use Rattle.mqtt5_network.specs.Client.{Client, comes_to, goes_up, taken_for, passes_on}
 use Rattle.mqtt5_network.specs.Place.{Place, passes as passes_at, lost_message, waiting, replaced_message, due_message, not_due, left_will, message_of, happens_at, becomes, becomes_with, queues_at, gets_at}
 use Rattle.mqtt5_network.specs.Network.{Network, changed, new_of, newly, routes, happens_in}
-use Rattle.mqtt5_router.specs.Kept.{Kept, new_kept, without_events, kept_of, after_packet}
+use Rattle.mqtt5_router.specs.Kept.{Kept, new_kept, without_events, without_first, kept_of, after_packet}
 use Rattle.mqtt5_router.proofs.Alone.{packet_kept, packet_handed, pass_kept}
 use Rattle.mqtt5_sessions.proofs.Quiet.{heard_kept, heard_handed, passed_kept, taken_kept}
-use Rattle.mqtt5_sessions.specs.Sessions.{ClientState, state_of, sessions_of, gets, queues, queues_all, with_client, of_client, changes, arrives, passes_here, passes, loses, is_due, with_turn_of, turns, leaves, taken_up, comes, ends}
+use Rattle.mqtt5_sessions.specs.Sessions.{ClientState, state_of, sessions_of, gets, queues, queues_all, with_client, of_client, changes, arrives, passes_here, passes, takes_out, loses, is_due, with_turn_of, turns, leaves, taken_up, comes, ends}
 
 -- ---- the clients
 
@@ -141,6 +141,13 @@ follows_pass n i =
       state = none (state_of (record p { client = passes_at p.here p.client })) ∙ ap (λ (k : Kept). record { kept = k; here = p.here; will = p.will }) (here_kept p.here p.client);
       new = nothing_new p (record p { client = passes_at p.here p.client }) (ap (λ (b : Broker). b.handed) (here_receiver p.here p.client)) refl;
     })
+
+-- ---- it has expired
+
+pub follows_expire : (n : Network) (i : ℕ) → sessions_of (happens_in n (record { client = i; what = events.Expire })) ≡ takes_out i (sessions_of n)
+follows_expire n i =
+    follows n i events.Expire (λ (c : ClientState). record c { kept = without_first c.kept }) (λ c. [])
+    (λ p h. record { state = none (state_of (happens_at p events.Expire)); new = nothing_new p (happens_at p events.Expire) refl refl })
 
 -- ---- its will
 

@@ -21,13 +21,13 @@ use Rattle.mqtt5_network.specs.Subscriptions.{forwarded_to}
 use Rattle.mqtt5_network.specs.Client.{Client, asked_of, asks_for, sends_of, requests_for, goes_up, goes_down}
 use Rattle.mqtt5_network.specs.Place.{Place, sent_from, passes as passes_at, lost_message, waiting, replaced_message, due_message, not_due, left_will, message_of, becomes, becomes_with, queues_at, gets_at}
 use Rattle.mqtt5_network.specs.Network.{Network, Profile, begins, start_network, changed, new_of, routes, handed_by, happens_in, run_network, IsReached}
-use Rattle.mqtt5_router.specs.Kept.{Kept, new_kept, without_events, kept_of, after_packet}
+use Rattle.mqtt5_router.specs.Kept.{Kept, new_kept, without_events, without_first, kept_of, after_packet}
 use Rattle.mqtt5_router.proofs.Alone.{packet_reply, pass_sent}
 use Rattle.mqtt5_sessions.proofs.Delivered.{with_past, with_same, of_client_past, none_queued}
 use Rattle.mqtt5_sessions.proofs.Quiet.{heard_reply, passed_sent, sent_same}
-use Rattle.mqtt5_sessions.proofs.Following.{follows, none, nothing_new, follows_up, follows_pass, follows_lost, follows_due, follows_turn, follows_left, follows_back, follows_ends}
-use Rattle.mqtt5_sessions.specs.Sessions.{ClientState, new_state, state_of, Sessions, sessions_of, gets, queues, queues_all, with_client, of_client, to_client, changes, joins, arrives, replies, passes_here, sent_here, passed, passes, loses, is_due, with_turn_of, turns, leaves, taken_up, comes, sent_again, ends}
-use Rattle.mqtt5_sessions.specs.Runs.{SessionEvent, Joins, Arrives, Passes, Loses, IsDue, Turns, Leaves, Comes, Ends, after_event, after_events, no_sessions, RunEvent, AtBroker, AtClient, IsOfClient, at_broker, limit_of, limits_in, with_new, all_lost, before, HaveNone, within, in_network, all_in_network, IsFirst, IsRun}
+use Rattle.mqtt5_sessions.proofs.Following.{follows, none, nothing_new, follows_up, follows_pass, follows_expire, follows_lost, follows_due, follows_turn, follows_left, follows_back, follows_ends}
+use Rattle.mqtt5_sessions.specs.Sessions.{ClientState, new_state, state_of, Sessions, sessions_of, gets, queues, queues_all, with_client, of_client, to_client, changes, joins, arrives, replies, passes_here, sent_here, passed, passes, takes_out, loses, is_due, with_turn_of, turns, leaves, taken_up, comes, sent_again, ends}
+use Rattle.mqtt5_sessions.specs.Runs.{SessionEvent, Joins, Arrives, Passes, TakesOut, Loses, IsDue, Turns, Leaves, Comes, Ends, after_event, after_events, no_sessions, RunEvent, AtBroker, AtClient, IsOfClient, at_broker, limit_of, limits_in, with_new, all_lost, before, HaveNone, within, in_network, all_in_network, IsFirst, IsRun}
 
 -- ---- lists of events
 
@@ -152,6 +152,8 @@ one_event (Arrives i x) n s limits is first =
     (follows_up n i first.0 x first.1 first.2 first.3 ∙ ap (arrives i x) is)
 one_event (Passes i) n s limits is first =
     known n s limits is i events.PassOn (λ (c : ClientState). record c { kept = passes_here c.here c.kept }) (λ (c : ClientState). []) (follows_pass n i ∙ ap (passes i) is)
+one_event (TakesOut i) n s limits is first =
+    known n s limits is i events.Expire (λ (c : ClientState). record c { kept = without_first c.kept }) (λ (c : ClientState). []) (follows_expire n i ∙ ap (takes_out i) is)
 one_event (Loses i) n s limits is first =
     known n s limits is i events.Lost (λ (c : ClientState). record c { here = false; will = waiting c.will }) (λ (c : ClientState). lost_message c.will) (follows_lost n i ∙ ap (loses i) is)
 one_event (IsDue i) n s limits is first =
@@ -243,6 +245,7 @@ of_client_alone n i events.Down is =
 of_client_alone n i events.Up is = absurd is
 of_client_alone n i events.PassOn is = absurd is
 of_client_alone n i events.Lost is = absurd is
+of_client_alone n i events.Expire is = absurd is
 of_client_alone n i events.Due is = absurd is
 of_client_alone n i (events.Turn f turn) is = absurd is
 of_client_alone n i events.Left is = absurd is

@@ -10,19 +10,20 @@ use Rattle.mqtt5_network.specs.declared.event.NetworkEvent.{NetworkEvent}
 use Rattle.mqtt5_network.specs.declared.event.Will.{Will}
 use Rattle.mqtt5_network.specs.Place.{Place}
 use Rattle.mqtt5_network.specs.Network.{Network, Profile, start_network, happens_in, run_network}
-use Rattle.mqtt5_sessions.specs.Sessions.{Sessions, new_state, joins, arrives, passes, loses}
+use Rattle.mqtt5_sessions.specs.Sessions.{Sessions, new_state, joins, arrives, passes, takes_out, loses}
 use Rattle.mqtt5_sessions.specs.Sessions.{is_due, turns, leaves, comes, ends}
 
 -- ---- at the broker
 
 -- what happens to the sessions, each to a client by its number: one more comes to be known, with the
--- greatest identifier to it; a packet of it arrives; the first of its queue is passed on; its
--- connection is lost; the delay of its will has passed; it is given the turn in a shared subscription,
--- or that is taken from it; it leaves; it comes on a new connection; its session ends
+-- greatest identifier to it; a packet of it arrives; the first of its queue is passed on, or has
+-- expired; its connection is lost; the delay of its will has passed; it is given the turn in a shared
+-- subscription, or that is taken from it; it leaves; it comes on a new connection; its session ends
 pub data SessionEvent : Type 0 where
   Joins : (limit : ℕ) → SessionEvent
   Arrives : (client : ℕ) (packet : Packet) → SessionEvent
   Passes : (client : ℕ) → SessionEvent
+  TakesOut : (client : ℕ) → SessionEvent
   Loses : (client : ℕ) → SessionEvent
   IsDue : (client : ℕ) → SessionEvent
   Turns : (client : ℕ) (topic_filter : Utf8) (turn : Bool) → SessionEvent
@@ -35,6 +36,7 @@ abbrev pub after_event : SessionEvent → Sessions → Sessions
 after_event (Joins limit) s = joins limit s
 after_event (Arrives i x) s = arrives i x s
 after_event (Passes i) s = passes i s
+after_event (TakesOut i) s = takes_out i s
 after_event (Loses i) s = loses i s
 after_event (IsDue i) s = is_due i s
 after_event (Turns i f turn) s = turns i f turn s
@@ -113,6 +115,7 @@ abbrev pub in_network : ℕ → SessionEvent → List NetworkEvent
 in_network count (Joins limit) = []
 in_network count (Arrives i x) = to_client_in count i events.Up
 in_network count (Passes i) = to_client_in count i events.PassOn
+in_network count (TakesOut i) = to_client_in count i events.Expire
 in_network count (Loses i) = to_client_in count i events.Lost
 in_network count (IsDue i) = to_client_in count i events.Due
 in_network count (Turns i f turn) = to_client_in count i (events.Turn f turn)

@@ -15,7 +15,7 @@ use Rattle.mqtt5_network.specs.Retained.{retained_after, retained_of, copies_for
 use Rattle.mqtt5_network.specs.Place.{Place, lost_message, waiting, replaced_message, due_message}
 use Rattle.mqtt5_network.specs.Place.{not_due, left_will, message_of}
 use Rattle.mqtt5_network.specs.Network.{Network}
-use Rattle.mqtt5_router.specs.Kept.{Kept, new_kept, without_events, kept_of}
+use Rattle.mqtt5_router.specs.Kept.{Kept, new_kept, without_events, without_first, kept_of}
 use Rattle.mqtt5_router.specs.Kept.{after_packet, after_pass}
 
 -- of one client: what is kept for it, with no events at its sender, since a broker takes them out
@@ -118,6 +118,10 @@ passed i s = to_client i (λ (c : ClientState). sent_here c.here c.kept) s.clien
 
 abbrev pub passes : ℕ → Sessions → Sessions
 passes i s = changes i (λ (c : ClientState). record c { kept = passes_here c.here c.kept }) (λ c. []) s
+
+-- the first of its queue has expired (3.3.2.3.3)
+abbrev pub takes_out : ℕ → Sessions → Sessions
+takes_out i s = changes i (λ (c : ClientState). record c { kept = without_first c.kept }) (λ c. []) s
 
 -- its connection is lost (3.1.2.5)
 abbrev pub loses : ℕ → Sessions → Sessions

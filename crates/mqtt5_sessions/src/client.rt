@@ -9,9 +9,10 @@ ghost use Rattle.mqtt5_network.specs.Subscriptions.{forwarded_to};
 ghost use Rattle.mqtt5_network.specs.Retained.{copies_for};
 ghost use Rattle.mqtt5_network.specs.Place.{lost_message, waiting, replaced_message, due_message};
 ghost use Rattle.mqtt5_network.specs.Place.{not_due, left_will, message_of};
-ghost use Rattle.mqtt5_router.specs.Kept.{new_kept, without_events, kept_of, after_packet};
+ghost use Rattle.mqtt5_router.specs.Kept.{new_kept, without_events, without_first, kept_of, after_packet};
 ghost use Rattle.mqtt5_sessions.specs.Sessions.{new_state, gets, passes_here, sent_here, with_turn_of, taken_up};
 ghost use Rattle.mqtt5_sessions.specs.Counts.{counts_of};
+ghost use Rattle.mqtt5_sessions.specs.Expiry.{expiry_of, first_expiry};
 
 use crate::counts::{Counts, sizes};
 use mqtt5_base::Text;
@@ -153,6 +154,24 @@ impl ClientState {
         Ok(passed.sent)
     }
 
+    /// The first of its queue is taken out, since it has expired.
+    pub(super) fn expire(&mut self)
+        ensures { self.new ≡ record self.old { kept = without_first self.old.kept } }
+    {
+        self.kept.expire();
+    }
+
+    /// The Message Expiry Interval of the first of its queue, if there is one and it has one.
+    #[tactic(auto, using(crate::proofs::Delivered::expiry_of_none, crate::proofs::Delivered::expiry_of_first))]
+    pub(super) fn message_expiry(&self) -> Option<u32>
+        ensures { result ≡ first_expiry self.now.kept.queue }
+    {
+        if self.kept.queue().is_empty() {
+            return None;
+        }
+        expiry_of(&self.kept.queue()[0])
+    }
+
     /// The message of its will, if there is one.
     pub(super) fn will(&self) -> Option<&Publish>
         ensures { MatchOption result (message_of self.now.will ≡ [])
@@ -266,5 +285,15 @@ impl ClientState {
             Some(will) => Some(will.publish),
             None => None,
         }
+    }
+}
+
+/// The Message Expiry Interval of a publish, if it has one (3.3.2.3.3).
+fn expiry_of(publish: &Publish) -> Option<u32>
+    ensures { result ≡ expiry_of publish.now }
+{
+    match &publish.properties {
+        Some(set) => set.message_expiry_interval,
+        None => None,
     }
 }

@@ -12,7 +12,7 @@ ghost use Rattle.mqtt5_network.specs.Connection.{connected, sent_in};
 ghost use Rattle.mqtt5_network.specs.Place.{Place};
 ghost use Rattle.mqtt5_network.specs.Network.{Network, Profile, happens_in, run_network, IsReached};
 ghost use Rattle.mqtt5_router.specs.Kept.{Kept, without_events, kept_of, after_packet, after_pass};
-ghost use Rattle.mqtt5_sessions.specs.Sessions.{sessions_of, arrives, passes, loses, is_due};
+ghost use Rattle.mqtt5_sessions.specs.Sessions.{sessions_of, arrives, passes, takes_out, loses, is_due};
 ghost use Rattle.mqtt5_sessions.specs.Sessions.{turns, leaves, taken_up, comes, ends};
 ghost use Rattle.mqtt5_sessions.specs.Sessions.{Sessions, replies, passed, sent_again};
 ghost use Rattle.mqtt5_sessions.specs.Runs.{after_events, no_sessions, RunEvent, IsOfClient, at_broker};
@@ -30,6 +30,10 @@ pub fn sessions_law()
     ensures pass { (n : Network) (i : ℕ)
         → sessions_of (happens_in n (record { client = i; what = events.PassOn }))
         ≡ passes i (sessions_of n) }
+    // The first of its queue has expired.
+    ensures expire { (n : Network) (i : ℕ)
+        → sessions_of (happens_in n (record { client = i; what = events.Expire }))
+        ≡ takes_out i (sessions_of n) }
     // Its connection is lost.
     ensures lost { (n : Network) (i : ℕ)
         → sessions_of (happens_in n (record { client = i; what = events.Lost }))

@@ -3,9 +3,10 @@
 ghost use Rattle.std.specs.Prelude.{◌≡◌, [], IfOk, IfErr, OnOk, OnErr, length};
 ghost use Rattle.std.specs.Option.{option_to_list};
 ghost use Rattle.std.specs.NonZero.{non_zero_u16_get};
-ghost use Rattle.mqtt5_sessions.specs.Sessions.{joins, arrives, replies, passes, passed, loses};
+ghost use Rattle.mqtt5_sessions.specs.Sessions.{joins, arrives, replies, passes, passed, takes_out, loses};
 ghost use Rattle.mqtt5_sessions.specs.Sessions.{is_due, is_here, turns, leaves, comes, sent_again, ends};
 ghost use Rattle.mqtt5_sessions.specs.Counts.{counts};
+ghost use Rattle.mqtt5_sessions.specs.Expiry.{message_expiry};
 
 use crate::client::ClientState;
 use crate::coming::{Coming, deliver_all, hand_on, is_publish, of_packet, of_will};
@@ -155,6 +156,40 @@ impl Sessions {
         }
         let sent = self.clients[client].pass()?;
         Ok(sent)
+    }
+
+    /// The Message Expiry Interval of the first publish of a client's queue, as it came, if there is one and it has one
+    /// (3.3.2.3.3). S12.
+    pub fn message_expiry(
+        &mut self,
+        alloc: Global,
+        client: usize,
+    ) -> Result<Option<u32>, StateError>
+        ensures ok { IfOk result (λ n. n ≡ message_expiry client self.old) }
+        ensures memory { IfErr result (λ e. e ≡ StateError.OutOfMemory) }
+        // In each case nothing changes.
+        ensures same { self.new ≡ self.old }
+    {
+        deliver_all(alloc, &mut self.coming, &mut self.clients)?;
+        if client >= self.clients.len() {
+            return Ok(None);
+        }
+        Ok(self.clients[client].message_expiry())
+    }
+
+    /// The first publish of a client's queue is taken out, if there is one, since it has expired (3.3.2.3.3). S12, which leaves
+    /// all as it was.
+    pub fn expire(&mut self, alloc: Global, client: usize) -> Result<(), StateError>
+        ensures ok { OnOk result (self.new ≡ takes_out client self.old) }
+        ensures memory { IfErr result (λ e. e ≡ StateError.OutOfMemory) }
+        ensures left { OnErr result (self.new ≡ self.old) }
+    {
+        deliver_all(alloc, &mut self.coming, &mut self.clients)?;
+        if client >= self.clients.len() {
+            return Ok(());
+        }
+        self.clients[client].expire();
+        Ok(())
     }
 
     /// A client's connection is lost: its will is published, or waits, if it has a delay (3.1.2.5, 3.1.3.2.2). S12, which leaves

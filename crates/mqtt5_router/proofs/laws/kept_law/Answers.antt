@@ -1,3 +1,4 @@
+use Rattle.std.proofs.Common.{refl}
 use Rattle.mqtt5_router.proofs.Alone.{packet_kept, packet_reply, packet_handed, pass_kept, pass_sent, pass_taken}
 use Rattle.mqtt5_router.proofs.laws.kept_law.Goals as goal
 
@@ -18,3 +19,6 @@ returns-clause-sent c = pass_sent
 
 pub returns-clause-taken : goal.returns-clause-taken
 returns-clause-taken c = pass_taken
+
+pub returns-clause-expire : goal.returns-clause-expire
+returns-clause-expire c = λ d. refl

@@ -1,4 +1,4 @@
-use Rattle.mqtt5_sessions.proofs.Following.{follows_up, follows_pass, follows_lost, follows_due, follows_turn, follows_left, follows_back, follows_ends}
+use Rattle.mqtt5_sessions.proofs.Following.{follows_up, follows_pass, follows_expire, follows_lost, follows_due, follows_turn, follows_left, follows_back, follows_ends}
 use Rattle.mqtt5_sessions.proofs.laws.sessions_law.Goals as goal
 
 pub returns-clause-up : goal.returns-clause-up
@@ -6,6 +6,9 @@ returns-clause-up c = follows_up
 
 pub returns-clause-pass : goal.returns-clause-pass
 returns-clause-pass c = follows_pass
+
+pub returns-clause-expire : goal.returns-clause-expire
+returns-clause-expire c = follows_expire
 
 pub returns-clause-lost : goal.returns-clause-lost
 returns-clause-lost c = follows_lost

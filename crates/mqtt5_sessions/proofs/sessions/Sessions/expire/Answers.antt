@@ -1,0 +1,29 @@
+use Rattle.std.proofs.Common.{List, [], false, refl, ap, ◌∙◌, arith}
+use Rattle.mqtt5_publish.specs.declared.publish.Publish.{Publish}
+use Rattle.mqtt5_router.specs.Kept.{without_first}
+use Rattle.mqtt5_sessions.specs.Sessions.{ClientState, takes_out}
+use Rattle.mqtt5_sessions.proofs.Delivered.{settled, seen_past, seen_none}
+use Rattle.mqtt5_sessions.proofs.sessions.Sessions.expire.Goals as goal
+
+abbrev changed : ClientState → ClientState
+changed x = record x { kept = without_first x.kept }
+
+pub returns-then-client-len-clause-ok : goal.returns-then-client-len-clause-ok
+returns-then-client-len-clause-ok c =
+    let i = c.args.client in
+    let cs : List ClientState = c.deliver_all.new.clients.items in
+    let kept : List Publish = c.self.inside.retained.items in
+    let none = c.in_ok-deliver_all.ensures.none in
+    let seen = settled c.self.inside.coming.items c.deliver_all.new.coming.items c.self.inside.clients.items cs kept c.args.self.now none c.in_ok-deliver_all.ensures.same c.self.view_is in
+    seen_past i changed (λ x. []) cs kept c.deliver_all.new.coming.items none (omega (arith, c.if-client-len.true, c.len.ensures)) ∙ ap (λ s. takes_out i s) seen
+
+pub returns-clause-ok : goal.returns-clause-ok
+returns-clause-ok c =
+    let i = c.args.client in
+    let cs : List ClientState = c.deliver_all.new.clients.items in
+    let kept : List Publish = c.self.inside.retained.items in
+    let none = c.in_ok-deliver_all.ensures.none in
+    let seen = settled c.self.inside.coming.items c.deliver_all.new.coming.items c.self.inside.clients.items cs kept c.args.self.now none c.in_ok-deliver_all.ensures.same c.self.view_is in
+    seen_none i changed (λ x. []) cs kept c.index_mut.result.now c.expire.new.self c.deliver_all.new.coming.items none
+    (omega (arith, c.if-client-len.false, c.len.ensures)) c.index_mut.ensures.value c.expire.ensures refl
+    ∙ ap (λ s. takes_out i s) seen
