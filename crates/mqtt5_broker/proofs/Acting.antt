@@ -1,6 +1,6 @@
 -- What a broker makes of bytes is a list of steps.
 use Rattle.std.proofs.Common.{◌≡◌, ℕ, zero, suc, Bool, true, false, List, [], ◌∷◌, ◌++◌, Option, Some, None, refl, sym, ap, ◌∙◌, get_or, set, slice_set, if◌then◌else◌, not, length, ◌==◌, max}
-use Rattle.std.specs.Prelude.{option_map}
+use Rattle.std.specs.Prelude.{option_map, map}
 use Rattle.std.specs.Option.{option_to_list}
 use Rattle.std.proofs.lemmas.List.{set-get_or}
 use Rattle.mqtt5_codec.specs.declared.packet.Packet.{Packet}
@@ -13,7 +13,7 @@ use Rattle.mqtt5_control.specs.declared.disconnect.DisconnectReasonCode.{Disconn
 use Rattle.mqtt5_control.specs.declared.disconnect.DisconnectReasonCode.TheVariants as reasons
 use Rattle.mqtt5_sessions.specs.Sessions.{replies, passed, ends}
 use Rattle.mqtt5_sessions.specs.Runs as runs
-use Rattle.mqtt5_sessions.specs.Runs.{Joins, Passes, Loses, IsDue}
+use Rattle.mqtt5_sessions.specs.Runs.{Joins, Passes, TakesOut, Loses, IsDue}
 use Rattle.mqtt5_broker.specs.declared.member.Member.{Member}
 use Rattle.mqtt5_broker.specs.declared.serving.Kind.{Kind}
 use Rattle.mqtt5_broker.specs.declared.serving.Kind.TheVariants as kinds
@@ -25,8 +25,9 @@ use Rattle.mqtt5_broker.specs.Wills.{will_of}
 use Rattle.mqtt5_broker.specs.Rights.{may_do, denial, suback_for, part_of}
 use Rattle.mqtt5_broker.specs.Groups.{sessions_before, groups_without, sessions_without}
 use Rattle.mqtt5_sessions.specs.Counts.{counts}
-use Rattle.mqtt5_broker.specs.Serving.{kind_of, comes_to_session, arrives_from, denies, brings, goes, disconnects, serves_as, serves_by, fault_of, serves, refusal, receive_max_of, longest_of, silence_of, member_of, welcome, comes_in, displaced, displaces, starts_anew, begins, enters, turns_away, enters_if_room, assigns_by, assigns, is_its, admits_as, admits, entry_fault, connects_by, connects, begins_with, takes_under, takes_by, takes_of, takes, passes_of, passes_on}
+use Rattle.mqtt5_broker.specs.Serving.{kind_of, comes_to_session, arrives_from, denies, brings, goes, disconnects, serves_as, serves_by, fault_of, serves, refusal, receive_max_of, longest_of, silence_of, member_of, welcome, comes_in, displaced, displaces, starts_anew, begins, enters, turns_away, enters_if_room, assigns_by, assigns, is_its, admits_as, admits, entry_fault, connects_by, connects, begins_with, takes_under, takes_by, takes_of, takes, first_is_over, passes_of, passes_on, passes_at}
 use Rattle.mqtt5_broker.specs.Aliases.{alias_used, unaliased, named}
+use Rattle.mqtt5_broker.specs.Expiry.{dated, counted}
 use Rattle.mqtt5_broker.specs.Receiving.{takes_all, reason_for, ends_with, comes_of, receives_now, receives}
 use Rattle.mqtt5_broker.specs.Bounds.{has_room, exceeds, ends_of, trims, trims_all}
 use Rattle.mqtt5_broker.specs.Clock.{for_each, silences, silences_all, expires, ticks, ends_now, shuts_down}
@@ -122,7 +123,7 @@ comes_session_done i x b = (Comes i x ∷ [], refl)
 
 arrives_done : (d i : ℕ) (x : Packet) (b : Broker) → Done b (arrives_from d i x b)
 unfolding arrives_from
-arrives_done d i x b = done_more b (comes_to_session i x b) _ (comes_session_done i x b) (all_done (replies i x (sessions_before x b.groups b.sessions)) d (comes_to_session i x b))
+arrives_done d i x b = done_more b (comes_to_session i x b) _ (comes_session_done i x b) (all_done (map (counted b.moment) (replies i x (sessions_before x b.groups b.sessions))) d (comes_to_session i x b))
 
 denies_done : (user : Option ℕ) (d i : ℕ) (x : Packet) (b : Broker) → Done b (denies user d i x b)
 unfolding denies
@@ -254,7 +255,7 @@ alias_done (Some a) d i x b = under_done a d i x b
 
 of_done : (o : Option ℕ) (d : ℕ) (x : Packet) (b : Broker) → Done b (takes_of o d x b)
 of_done None d x b = begins_with_done d x b
-of_done (Some i) d x b = alias_done (alias_used b.alias_max x) d i x b
+of_done (Some i) d x b = alias_done (alias_used b.alias_max x) d i (dated b.moment x) b
 
 takes_done : (d : ℕ) (x : Packet) (b : Broker) → Done b (takes d x b)
 unfolding takes
@@ -288,11 +289,16 @@ receives_done at d bytes b = done_more b (at_moment at b) _ (moment_done at b) (
 
 passes_of_done : (o : Option ℕ) (d : ℕ) (b : Broker) → Done b (passes_of o d b)
 passes_of_done None d b = done_none b
-passes_of_done (Some i) d b = done_more b (act (Session (Passes i)) b) _ (done_one (Session (Passes i)) tt b) (all_done (passed i b.sessions) d (act (Session (Passes i)) b))
+passes_of_done (Some i) d b =
+    done_if (first_is_over i b) b _ _ (done_one (Session (TakesOut i)) tt b)
+    (done_more b (act (Session (Passes i)) b) _ (done_one (Session (Passes i)) tt b) (all_done (map (counted b.moment) (passed i b.sessions)) d (act (Session (Passes i)) b)))
 
-pub passes_done : (d : ℕ) (b : Broker) → Done b (passes_on d b)
+passes_on_done : (d : ℕ) (b : Broker) → Done b (passes_on d b)
 unfolding passes_on
-passes_done d b = passes_of_done (connection_at d b.connections).client d b
+passes_on_done d b = passes_of_done (connection_at d b.connections).client d b
+
+pub passes_done : (at d : ℕ) (b : Broker) → Done b (passes_at at d b)
+passes_done at d b = done_more b (at_moment at b) _ (moment_done at b) (passes_on_done d (at_moment at b))
 
 -- ---- what is due
 

@@ -9,8 +9,8 @@ use Rattle.mqtt5_network.specs.declared.subscription.Subscription.{Subscription}
 use Rattle.mqtt5_network.specs.Client.{Client, taken_for}
 use Rattle.mqtt5_network.specs.Client as network_client
 use Rattle.mqtt5_network.specs.Place.{lost_message, waiting, replaced_message, due_message, not_due, left_will, message_of}
-use Rattle.mqtt5_router.specs.Kept.{Kept, new_kept, alone}
-use Rattle.mqtt5_sessions.specs.Sessions.{Sessions, ClientState, new_state, queues, queues_all, with_client, of_client, changes, passes_here, passes, loses, is_due, leaves, taken_up, comes, ends}
+use Rattle.mqtt5_router.specs.Kept.{Kept, new_kept, without_first, alone}
+use Rattle.mqtt5_sessions.specs.Sessions.{Sessions, ClientState, new_state, queues, queues_all, with_client, of_client, changes, passes_here, passes, takes_out, loses, is_due, leaves, taken_up, comes, ends}
 use Rattle.mqtt5_broker.specs.Within.{subscriptions_in, subscriptions_at}
 
 abbrev pub subscriptions_of : ClientState → List Subscription
@@ -115,6 +115,9 @@ changes_same i f new s h j = by (changed f i j s.clients)
     by (inl e) = changes_subscriptions i f new s j ∙ e
     by (inr e) = changes_subscriptions i f new s j ∙ e.3 ∙ h e.1 ∙ sym e.2
 
+pub out_same : (i : ℕ) (s : Sessions) → Same s (takes_out i s)
+out_same i s = changes_same i (λ (c : ClientState). record c { kept = without_first c.kept }) (λ c. []) s (λ c. refl)
+
 pub loses_same : (i : ℕ) (s : Sessions) → Same s (loses i s)
 loses_same i s = changes_same i (λ (c : ClientState). record c { here = false; will = waiting c.will }) (λ (c : ClientState). lost_message c.will) s (λ c. refl)
 
@@ -128,6 +131,9 @@ pub comes_same : (i : ℕ) (m : Option ℕ) (will : Option Will) (s : Sessions) 
 comes_same i m will s = changes_same i (λ (c : ClientState). record { kept = taken_up m c.kept; here = true; will = will }) (λ (c : ClientState). replaced_message c.here c.will) s (λ c. refl)
 
 -- ---- and so no more
+
+pub out_fewer : (i : ℕ) (s : Sessions) → Fewer s (takes_out i s)
+out_fewer i s = changes_fewer i (λ (c : ClientState). record c { kept = without_first c.kept }) (λ c. []) s (λ c. inr refl)
 
 pub loses_fewer : (i : ℕ) (s : Sessions) → Fewer s (loses i s)
 loses_fewer i s = changes_fewer i (λ (c : ClientState). record c { here = false; will = waiting c.will }) (λ (c : ClientState). lost_message c.will) s (λ c. inr refl)

@@ -1,5 +1,6 @@
 -- What packets leave as it is: the limit, the moment, and that no bytes are held on a connection of which none are.
 use Rattle.std.proofs.Common.{◌≡◌, ℕ, zero, suc, Bool, true, false, List, [], ◌∷◌, Option, Some, None, refl, subst, ap, ◌∙◌, get_or, set, if◌then◌else◌, not, length, ◌==◌, Result, Ok, Err}
+use Rattle.std.specs.Prelude.{map}
 use Rattle.std.specs.Option.{option_to_list}
 use Rattle.mqtt5_base.specs.declared.error.Error.{Error}
 use Rattle.mqtt5_codec.specs.declared.packet.Packet.{Packet}
@@ -21,6 +22,7 @@ use Rattle.mqtt5_broker.specs.Rights.{may_do, denial, suback_for}
 use Rattle.mqtt5_broker.specs.Groups.{sessions_before}
 use Rattle.mqtt5_broker.specs.Bounds.{has_room}
 use Rattle.mqtt5_broker.specs.Aliases.{alias_used, unaliased, named}
+use Rattle.mqtt5_broker.specs.Expiry.{dated, counted}
 use Rattle.mqtt5_broker.specs.Serving.{kind_of, arrives_from, denies, brings, goes, disconnects, serves_as, serves_by, fault_of, serves, refusal, longest_of, silence_of, member_of, welcome, comes_in, displaced, displaces, starts_anew, begins, enters, turns_away, enters_if_room, assigns_by, assigns, is_its, admits_as, admits, entry_fault, connects_by, connects, begins_with, takes_under, takes_by, takes_of, takes}
 use Rattle.mqtt5_broker.specs.Receiving.{takes_all}
 
@@ -95,7 +97,7 @@ module _ (c n at : ℕ) where
 
   arrives_keeps : (d i : ℕ) (x : Packet) (b : Broker) → Keeps c n at b → Keeps c n at (arrives_from d i x b)
   unfolding arrives_from
-  arrives_keeps d i x b k = on_keeps d (written_all (replies i x (sessions_before x b.groups b.sessions))) _ (λ l h. all_held (replies i x (sessions_before x b.groups b.sessions)) l ∙ h) (record { held = k.held; longest = k.longest; moment = k.moment })
+  arrives_keeps d i x b k = on_keeps d (written_all (map (counted b.moment) (replies i x (sessions_before x b.groups b.sessions)))) _ (λ l h. all_held (map (counted b.moment) (replies i x (sessions_before x b.groups b.sessions))) l ∙ h) (record { held = k.held; longest = k.longest; moment = k.moment })
 
   denies_keeps : (user : Option ℕ) (d i : ℕ) (x : Packet) (b : Broker) → Keeps c n at b → Keeps c n at (denies user d i x b)
   unfolding denies
@@ -208,7 +210,7 @@ module _ (c n at : ℕ) where
 
   of_keeps : (o : Option ℕ) (d : ℕ) (x : Packet) (b : Broker) → Keeps c n at b → Keeps c n at (takes_of o d x b)
   of_keeps None d x b k = begins_with_keeps d x b k
-  of_keeps (Some i) d x b k = alias_keeps (alias_used b.alias_max x) d i x b k
+  of_keeps (Some i) d x b k = alias_keeps (alias_used b.alias_max x) d i (dated b.moment x) b k
 
   pub takes_keeps : (d : ℕ) (x : Packet) (b : Broker) → Keeps c n at b → Keeps c n at (takes d x b)
   unfolding takes

@@ -21,7 +21,7 @@ use Rattle.mqtt5_network.specs.Asking.{is_ack, identifier_of, share_of, subscrib
 use Rattle.mqtt5_network.specs.Client.{Client, comes_to}
 use Rattle.mqtt5_network.specs.Place.{message_of}
 use Rattle.mqtt5_router.specs.Kept.{alone, after_packet}
-use Rattle.mqtt5_sessions.specs.Sessions.{Sessions, ClientState, with_client, to_client, turns, arrives, replies, passes, loses, is_due, leaves, comes, ends}
+use Rattle.mqtt5_sessions.specs.Sessions.{Sessions, ClientState, with_client, to_client, turns, arrives, replies, passes, takes_out, loses, is_due, leaves, comes, ends}
 use Rattle.mqtt5_sessions.specs.Runs as runs
 use Rattle.mqtt5_sessions.specs.Runs.{SessionEvent, after_event}
 use Rattle.mqtt5_broker.specs.Connection.{Connection, opened, of_user, connection_at}
@@ -35,7 +35,7 @@ use Rattle.mqtt5_broker.specs.Calls as calls
 use Rattle.mqtt5_broker.specs.Calls.{Call, Open, Identify, Reject, Receive, Sent, Pass, Close, Tick, SetBounds, Trim, ShutDown, AddUser, AllowPublish, AllowSubscribe, after_call, after_calls}
 use Rattle.mqtt5_broker.specs.Within.{subscriptions_in, subscriptions_at}
 use Rattle.mqtt5_broker.specs.Sharing.{turn_in, shares, has_turn_of, takes_part, first_of, AreDistinct, MayTurn, IsShared}
-use Rattle.mqtt5_broker.proofs.Clients.{loses_same, due_same, leaves_same, comes_same, passes_same, changes_subscriptions, ended_state, pushed_subscriptions}
+use Rattle.mqtt5_broker.proofs.Clients.{out_same, loses_same, due_same, leaves_same, comes_same, passes_same, changes_subscriptions, ended_state, pushed_subscriptions}
 use Rattle.mqtt5_broker.proofs.Turned.{all_kept, met_kept}
 use Rattle.mqtt5_broker.proofs.Steps.{IsOther, IsPlain, Step, Do, Comes, Leaves, step, steps}
 use Rattle.mqtt5_broker.proofs.Acting.{Done, loses_done, receives_done, passes_done, ticks_done, trims_all_done, shuts_down_done}
@@ -337,6 +337,7 @@ leaves_whole i gs s d w = given_whole t (groups_without i gs) (distinct_filter h
 other_whole : (e : SessionEvent) → IsOther e → (gs : List Group) (s : Sessions) → Whole s gs → Whole (after_event e s) gs
 other_whole (runs.Joins limit) h gs s w = whole_same s (after_event (runs.Joins limit) s) gs (λ j. pushed_subscriptions limit j s.clients) w
 other_whole (runs.Passes i) h gs s w = whole_same s (passes i s) gs (passes_same i s) w
+other_whole (runs.TakesOut i) h gs s w = whole_same s (takes_out i s) gs (out_same i s) w
 other_whole (runs.Loses i) h gs s w = whole_same s (loses i s) gs (loses_same i s) w
 other_whole (runs.IsDue i) h gs s w = whole_same s (is_due i s) gs (due_same i s) w
 other_whole (runs.Leaves i) h gs s w = whole_same s (leaves i s) gs (leaves_same i s) w
@@ -397,7 +398,7 @@ call_shared (Identify c u) b q = if_shared (is_new (connection_at c b.connection
 call_shared (Reject c code) b q = if_shared (is_new (connection_at c b.connections)) (turns_away c code b) b q q
 call_shared (Receive at c bytes) b q = done_shared b _ (receives_done at c bytes b) q
 call_shared (Sent c count) b q = q
-call_shared (Pass c) b q = done_shared b _ (passes_done c b) q
+call_shared (Pass at c) b q = done_shared b _ (passes_done at c b) q
 call_shared (Close at c) b q = now_shared c (at_moment at b) q
 call_shared (Tick at) b q = done_shared b _ (ticks_done at b) q
 call_shared (SetBounds bounds) b q = q

@@ -108,7 +108,7 @@ one_within (Identify c u) b s w = choice_within (is_new (connection_at c b.conne
 one_within (Reject c code) b s w = choice_within (is_new (connection_at c b.connections)) (turns_away c code b) b (on_within c (λ (l : Connection). shut (written (refusal code) l)) b w) w
 one_within (Receive at c bytes) b s w = receives_within at c bytes b s w
 one_within (Sent c count) b s w = on_within c (with_sent count) b w
-one_within (Pass c) b s w = passes_within c b w
+one_within (Pass at c) b s w = passes_within at c b w
 one_within (Close at c) b s w = closes_within at c b w
 one_within (Tick at) b s w = ticks_within at b w
 one_within (SetBounds bounds) b s w = record { numbers = w.numbers; none = w.none; within = w.within }

@@ -1,7 +1,7 @@
 -- A client has one connection at most, whatever is called.
 use Rattle.std.proofs.Common.{◌≡◌, ◌≢◌, ◌<◌, ℕ, zero, suc, ◌+◌, Bool, true, false, List, [], ◌∷◌, ◌++◌, Option, Some, None, refl, sym, subst, ap, ◌∙◌, get_or, set, slice_set, if◌then◌else◌, not, length, replicate, ◌==◌, cond, nat_lt, Result, Ok, Err, ◌⊎◌, inl, inr, get_or-set_same, arith}
 use lib.Dec.{T}
-use Rattle.std.specs.Prelude.{option_map, is_none, unwrap_or}
+use Rattle.std.specs.Prelude.{option_map, is_none, unwrap_or, map}
 use Rattle.std.specs.List.{position_or_len}
 use Rattle.std.specs.Option.{option_to_list}
 use Rattle.std.proofs.lemmas.Bool.{eqb-true, eq-eqb, leb-false, lt-leb}
@@ -32,7 +32,8 @@ use Rattle.mqtt5_broker.specs.Rights.{may_do, denial, suback_for, part_of}
 use Rattle.mqtt5_broker.specs.Groups.{sessions_before}
 use Rattle.mqtt5_broker.specs.Bounds.{has_room, exceeds, ends_of, trims, trims_all}
 use Rattle.mqtt5_broker.specs.Aliases.{alias_used, unaliased, named}
-use Rattle.mqtt5_broker.specs.Serving.{kind_of, comes_to_session, arrives_from, denies, brings, goes, disconnects, serves_as, serves_by, fault_of, serves, refusal, longest_of, silence_of, member_of, welcome, comes_in, displaced, displaces, starts_anew, begins, returns, enters, turns_away, enters_if_room, assigns_by, assigns, is_its, admits_as, admits, entry_fault, connects_by, connects, begins_with, takes_under, takes_by, takes_of, takes, passes_of, passes_on}
+use Rattle.mqtt5_broker.specs.Serving.{kind_of, comes_to_session, arrives_from, denies, brings, goes, disconnects, serves_as, serves_by, fault_of, serves, refusal, longest_of, silence_of, member_of, welcome, comes_in, displaced, displaces, starts_anew, begins, returns, enters, turns_away, enters_if_room, assigns_by, assigns, is_its, admits_as, admits, entry_fault, connects_by, connects, begins_with, takes_under, takes_by, takes_of, takes, first_is_over, passes_of, passes_on, passes_at}
+use Rattle.mqtt5_broker.specs.Expiry.{dated, counted}
 use Rattle.mqtt5_broker.specs.Receiving.{takes_all, reason_for, ends_with, receives_now, receives, opens_now, opens, closes_of, closes_now, closes}
 use Rattle.mqtt5_broker.specs.Clock.{for_each, silences, silences_all, expires, ticks, ends_now, shuts_down}
 use Rattle.mqtt5_broker.specs.Standing.{client_at, IsHere, Stands, IsStanding}
@@ -197,7 +198,7 @@ dismisses_standing d reason b s = if_standing (connection_at d b.connections).is
 
 arrives_standing : (d i : ℕ) (x : Packet) (b : Broker) → IsStanding b → IsStanding (arrives_from d i x b)
 unfolding arrives_from
-arrives_standing d i x b s = on_less d (written_all (replies i x (sessions_before x b.groups b.sessions))) (comes_to_session i x b) (all_lets (replies i x (sessions_before x b.groups b.sessions))) (record { one = s.one; here = s.here })
+arrives_standing d i x b s = on_less d (written_all (map (counted b.moment) (replies i x (sessions_before x b.groups b.sessions)))) (comes_to_session i x b) (all_lets (map (counted b.moment) (replies i x (sessions_before x b.groups b.sessions)))) (record { one = s.one; here = s.here })
 
 denies_standing : (user : Option ℕ) (d i : ℕ) (x : Packet) (b : Broker) → IsStanding b → IsStanding (denies user d i x b)
 unfolding denies
@@ -435,7 +436,7 @@ alias_standing (Some a) d i x b e s = under_standing a d i x b e s
 
 of_standing : (o : Option ℕ) (d : ℕ) (x : Packet) (b : Broker) → client_at d b.connections ≡ o → IsStanding b → IsStanding (takes_of o d x b)
 of_standing None d x b e s = begins_with_standing d x b s
-of_standing (Some i) d x b e s = alias_standing (alias_used b.alias_max x) d i x b e s
+of_standing (Some i) d x b e s = alias_standing (alias_used b.alias_max x) d i (dated b.moment x) b e s
 
 pub takes_standing : (d : ℕ) (x : Packet) (b : Broker) → IsStanding b → IsStanding (takes d x b)
 unfolding takes
@@ -467,11 +468,16 @@ receives_standing at d bytes b s = now_standing d bytes (at_moment at b) (moment
 
 passes_of_standing : (o : Option ℕ) (d : ℕ) (b : Broker) → IsStanding b → IsStanding (passes_of o d b)
 passes_of_standing None d b s = s
-passes_of_standing (Some i) d b s = on_less d (written_all (passed i b.sessions)) (record b { sessions = passes i b.sessions }) (all_lets (passed i b.sessions)) (record { one = s.one; here = s.here })
+passes_of_standing (Some i) d b s =
+    if_standing (first_is_over i b) _ _ (record { one = s.one; here = s.here })
+    (on_less d (written_all (map (counted b.moment) (passed i b.sessions))) (record b { sessions = passes i b.sessions }) (all_lets (map (counted b.moment) (passed i b.sessions))) (record { one = s.one; here = s.here }))
 
-pub passes_standing : (d : ℕ) (b : Broker) → IsStanding b → IsStanding (passes_on d b)
+passes_on_standing : (d : ℕ) (b : Broker) → IsStanding b → IsStanding (passes_on d b)
 unfolding passes_on
-passes_standing d b s = passes_of_standing (connection_at d b.connections).client d b s
+passes_on_standing d b s = passes_of_standing (connection_at d b.connections).client d b s
+
+pub passes_standing : (at d : ℕ) (b : Broker) → IsStanding b → IsStanding (passes_at at d b)
+passes_standing at d b s = passes_on_standing d (at_moment at b) (moment_standing at b s)
 
 -- ---- connections
 

@@ -1,6 +1,6 @@
 -- A client that connected as a user has subscriptions within what that user may subscribe to, whatever is called.
 use Rattle.std.proofs.Common.{◌≡◌, ◌≢◌, ℕ, zero, suc, Bool, true, false, List, [], ◌∷◌, ◌++◌, Option, Some, None, refl, sym, subst, ap, ◌∙◌, set, slice_set, if◌then◌else◌, cond, not, length, ◌==◌, ◌⊎◌, inl, inr, arith}
-use Rattle.std.specs.Prelude.{option_map, filter, is_none}
+use Rattle.std.specs.Prelude.{option_map, filter, is_none, map}
 use Rattle.std.specs.List.{list_all}
 use Rattle.std.specs.Option.{option_to_list}
 use Rattle.std.proofs.lemmas.Bool.{and_parts, and_from}
@@ -27,7 +27,7 @@ use Rattle.mqtt5_network.specs.Retained.{copies_for}
 use Rattle.mqtt5_network.specs.Place.{message_of}
 use Rattle.mqtt5_network.specs.declared.event.Will.{Will}
 use Rattle.mqtt5_router.specs.Kept.{without_events, kept_of, alone, after_packet}
-use Rattle.mqtt5_sessions.specs.Sessions.{Sessions, ClientState, new_state, gets, with_client, arrives, replies, passed, passes, loses, is_due, leaves, comes, ends}
+use Rattle.mqtt5_sessions.specs.Sessions.{Sessions, ClientState, new_state, gets, with_client, arrives, replies, passed, passes, takes_out, loses, is_due, leaves, comes, ends}
 use Rattle.mqtt5_sessions.specs.Counts.{counts}
 use Rattle.mqtt5_broker.specs.declared.member.Member.{Member}
 use Rattle.mqtt5_broker.specs.declared.serving.Kind.{Kind}
@@ -41,13 +41,14 @@ use Rattle.mqtt5_broker.specs.Broker.{Broker, at_moment, on_connection, on_membe
 use Rattle.mqtt5_broker.specs.Wills.{will_of}
 use Rattle.mqtt5_broker.specs.Bounds.{has_room, exceeds, ends_of, trims, trims_all}
 use Rattle.mqtt5_broker.specs.Aliases.{alias_used, unaliased, named}
-use Rattle.mqtt5_broker.specs.Serving.{answers, kind_of, comes_to_session, arrives_from, denies, brings, goes, disconnects, serves_as, serves_by, fault_of, serves, refusal, receive_max_of, longest_of, silence_of, member_of, welcome, comes_in, displaced, displaces, starts_anew, begins, returns, enters, turns_away, enters_if_room, assigns_by, assigns, is_its, admits_as, admits, entry_fault, connects_by, connects, begins_with, takes_under, takes_by, takes_of, takes, passes_of, passes_on}
+use Rattle.mqtt5_broker.specs.Serving.{answers, kind_of, comes_to_session, arrives_from, denies, brings, goes, disconnects, serves_as, serves_by, fault_of, serves, refusal, receive_max_of, longest_of, silence_of, member_of, welcome, comes_in, displaced, displaces, starts_anew, begins, returns, enters, turns_away, enters_if_room, assigns_by, assigns, is_its, admits_as, admits, entry_fault, connects_by, connects, begins_with, takes_under, takes_by, takes_of, takes, first_is_over, passes_of, passes_on, passes_at}
+use Rattle.mqtt5_broker.specs.Expiry.{dated, counted}
 use Rattle.mqtt5_broker.specs.Receiving.{takes_all, reason_for, ends_with, receives_now, receives, opens, closes_of, closes_now, closes}
 use Rattle.mqtt5_broker.specs.Clock.{for_each, silences, silences_all, expires, ticks, ends_now, shuts_down}
 use Rattle.mqtt5_broker.specs.Standing.{client_at, IsHere, IsStanding}
 use Rattle.mqtt5_broker.specs.Within.{subscriptions_in, subscriptions_at, AreWithin, IsWithin}
 use Rattle.mqtt5_broker.proofs.Standing.{nobody, heard_client, on_less, takes_standing}
-use Rattle.mqtt5_broker.proofs.Clients.{Changed, changed, emptied_or, changes_count, changes_subscriptions, Fewer, loses_fewer, due_fewer, leaves_fewer, comes_fewer, ended_state, ends_fewer, passes_fewer, pushed_subscriptions}
+use Rattle.mqtt5_broker.proofs.Clients.{Changed, changed, emptied_or, changes_count, changes_subscriptions, Fewer, out_fewer, loses_fewer, due_fewer, leaves_fewer, comes_fewer, ended_state, ends_fewer, passes_fewer, pushed_subscriptions}
 use Rattle.mqtt5_broker.proofs.Turned.{Like, like_same, like_turn, before_kept, after_kept, without_kept}
 
 abbrev In : List Utf8 → Subscription → Type 0
@@ -326,7 +327,7 @@ module _ (d i : ℕ) (b : Broker) (known : member_at i b.members ≡ None → �
   brings_by : (v : Bool) (x : Packet) → may_do (owner_at i b.members) b.rights x ≡ v → IsWithin (if v then arrives_from d i x b else denies (owner_at i b.members) d i x b)
   unfolding arrives_from
   brings_by true x e =
-      connected_within d (written_all (replies i x (sessions_before x b.groups b.sessions))) (comes_to_session i x b)
+      connected_within d (written_all (map (counted b.moment) (replies i x (sessions_before x b.groups b.sessions)))) (comes_to_session i x b)
       (comes_session_within i x b known (λ u q. ap (λ (o : Option ℕ). may_do o b.rights x) (sym q) ∙ e) w)
   brings_by false x e = denies_within x
 
@@ -511,7 +512,7 @@ alias_within (Some a) d i x b known w = under_within a d i x b known w
 
 of_within : (o : Option ℕ) (d : ℕ) (x : Packet) (b : Broker) → client_at d b.connections ≡ o → IsStanding b → IsWithin b → IsWithin (takes_of o d x b)
 of_within None d x b e s w = begins_with_within d x b w
-of_within (Some i) d x b e s w = alias_within (alias_used b.alias_max x) d i x b (is_known (member_at i b.members) (s.here d i e)) w
+of_within (Some i) d x b e s w = alias_within (alias_used b.alias_max x) d i (dated b.moment x) b (is_known (member_at i b.members) (s.here d i e)) w
 
 takes_within : (d : ℕ) (x : Packet) (b : Broker) → IsStanding b → IsWithin b → IsWithin (takes d x b)
 unfolding takes
@@ -544,11 +545,16 @@ receives_within at d bytes b s w = now_within d bytes (at_moment at b) (record {
 
 passes_of_within : (o : Option ℕ) (d : ℕ) (b : Broker) → IsWithin b → IsWithin (passes_of o d b)
 passes_of_within None d b w = w
-passes_of_within (Some i) d b w = connected_within d (written_all (passed i b.sessions)) (record b { sessions = passes i b.sessions }) (fewer_within b (passes i b.sessions) (passes_fewer i b.sessions) w)
+passes_of_within (Some i) d b w =
+    if_within (first_is_over i b) _ _ (fewer_within b (takes_out i b.sessions) (out_fewer i b.sessions) w)
+    (connected_within d (written_all (map (counted b.moment) (passed i b.sessions))) (record b { sessions = passes i b.sessions }) (fewer_within b (passes i b.sessions) (passes_fewer i b.sessions) w))
 
-pub passes_within : (d : ℕ) (b : Broker) → IsWithin b → IsWithin (passes_on d b)
+passes_on_within : (d : ℕ) (b : Broker) → IsWithin b → IsWithin (passes_on d b)
 unfolding passes_on
-passes_within d b w = passes_of_within (connection_at d b.connections).client d b w
+passes_on_within d b w = passes_of_within (connection_at d b.connections).client d b w
+
+pub passes_within : (at d : ℕ) (b : Broker) → IsWithin b → IsWithin (passes_at at d b)
+passes_within at d b w = passes_on_within d (at_moment at b) (moment_within at b w)
 
 -- ---- connections
 

@@ -7,13 +7,13 @@ use Rattle.mqtt5_broker.specs.Broker.{Broker, on_connection, knows_user, lets}
 use Rattle.mqtt5_broker.specs.Rights.{publishing, subscribing}
 use Rattle.mqtt5_broker.specs.Clock.{ticks, shuts_down}
 use Rattle.mqtt5_broker.specs.Bounds.{bounded, trims_all}
-use Rattle.mqtt5_broker.specs.Serving.{passes_on}
+use Rattle.mqtt5_broker.specs.Serving.{passes_at}
 use Rattle.mqtt5_broker.specs.Receiving.{receives, opens, closes}
 use Rattle.mqtt5_broker.specs.Asking.{holds, identifies, rejects}
 
 -- a connection begins; bytes of it come, and are only held, or it is of a user, or its client is turned
--- away, or they are taken; so many of those to be sent were sent; the first of its client's queue is
--- passed on; it ends; a moment comes; bounds are set; what exceeds them ends; the broker does; there is
+-- away, or they are taken; so many of those to be sent were sent; a moment comes at which the first of
+-- its client's queue is passed on, or has expired; it ends; a moment comes; bounds are set; what exceeds them ends; the broker does; there is
 -- one user more; and one may publish or subscribe within one filter more
 pub data Call : Type 0 where
   Open : (at connection : ℕ) → Call
@@ -22,7 +22,7 @@ pub data Call : Type 0 where
   Reject : (connection : ℕ) (code : ConnectReturnCode) → Call
   Receive : (at connection : ℕ) (bytes : List ℕ) → Call
   Sent : (connection count : ℕ) → Call
-  Pass : (connection : ℕ) → Call
+  Pass : (at connection : ℕ) → Call
   Close : (at connection : ℕ) → Call
   Tick : (at : ℕ) → Call
   SetBounds : (bounds : Bounds) → Call
@@ -40,7 +40,7 @@ after_call (Identify c u) b = identifies c u b
 after_call (Reject c code) b = rejects c code b
 after_call (Receive at c bytes) b = receives at c bytes b
 after_call (Sent c count) b = on_connection c (with_sent count) b
-after_call (Pass c) b = passes_on c b
+after_call (Pass at c) b = passes_at at c b
 after_call (Close at c) b = closes at c b
 after_call (Tick at) b = ticks at b
 after_call (SetBounds bounds) b = bounded bounds b

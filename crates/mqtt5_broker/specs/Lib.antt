@@ -3,6 +3,7 @@ pub mod Moments
 pub mod Rights
 pub mod Groups
 pub mod Aliases
+pub mod Expiry
 pub mod Connection
 pub mod Broker
 pub mod Wills

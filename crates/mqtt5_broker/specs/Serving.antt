@@ -1,7 +1,7 @@
--- What a broker makes of the packets of its clients (MQTT 5.0 sections 3.1.2.10, 3.1.4, 3.2, 3.3.2.3.4,
--- 3.12, 3.14, 4.8.2, 4.13 and 5.4.2).
+-- What a broker makes of the packets of its clients (MQTT 5.0 sections 3.1.2.10, 3.1.4, 3.2, 3.3.2.3.3,
+-- 3.3.2.3.4, 3.12, 3.14, 4.8.2, 4.13 and 5.4.2).
 use Rattle.std.specs.Prelude.{ℕ, ◌*◌, ◌==◌, nat_lt, Bool, true, false, not, ◌||◌, List, [], ◌∷◌}
-use Rattle.std.specs.Prelude.{Option, Some, None, option_map, if◌then◌else◌, slice_set, length}
+use Rattle.std.specs.Prelude.{Option, Some, None, option_map, if◌then◌else◌, slice_set, length, map}
 use Rattle.std.specs.Option.{option_to_list}
 use Rattle.mqtt5_base.specs.Texts.{Utf8}
 use Rattle.mqtt5_connect.specs.declared.connect.Connect.{Connect}
@@ -16,7 +16,8 @@ use Rattle.mqtt5_control.specs.declared.disconnect.DisconnectReasonCode.TheVaria
 use Rattle.mqtt5_codec.specs.declared.packet.Packet.{Packet}
 use Rattle.mqtt5_codec.specs.declared.packet.Packet.TheVariants as packets
 use Rattle.mqtt5_sessions.specs.Sessions.{arrives, replies, comes, sent_again, ends}
-use Rattle.mqtt5_sessions.specs.Sessions.{passes, passed}
+use Rattle.mqtt5_sessions.specs.Sessions.{passes, passed, takes_out}
+use Rattle.mqtt5_sessions.specs.Expiry.{message_expiry}
 use Rattle.mqtt5_broker.specs.declared.member.Member.{Member}
 use Rattle.mqtt5_broker.specs.declared.serving.Kind.{Kind}
 use Rattle.mqtt5_broker.specs.declared.serving.Kind.TheVariants as kinds
@@ -24,7 +25,9 @@ use Rattle.mqtt5_broker.specs.Connection.{Connection, written, written_all, shut
 use Rattle.mqtt5_broker.specs.Connection.{connection_at, connection_of, heard, taken_by}
 use Rattle.mqtt5_broker.specs.Connection.{learned, learned_topic}
 use Rattle.mqtt5_broker.specs.Aliases.{alias_used, unaliased, named}
-use Rattle.mqtt5_broker.specs.Broker.{Broker, number_of, free_number, on_connection, on_member}
+use Rattle.mqtt5_broker.specs.Expiry.{is_over, dated, counted}
+use Rattle.mqtt5_broker.specs.Broker.{Broker, at_moment, number_of, free_number, on_connection}
+use Rattle.mqtt5_broker.specs.Broker.{on_member}
 use Rattle.mqtt5_broker.specs.Broker.{loses_client, leaves_client, refuses, stays_at, expiring}
 use Rattle.mqtt5_broker.specs.Broker.{member_at, has_ended, numbers, number_in}
 use Rattle.mqtt5_broker.specs.Broker.{assigned_name, number_after, user_at, owner_at, is_same}
@@ -60,7 +63,8 @@ comes_to_session i x b = record b {
 -- and what is sent back is written
 unfoldable pub arrives_from : ℕ → ℕ → Packet → Broker → Broker
 arrives_from c i x b =
-    on_connection c (written_all (replies i x (sessions_before x b.groups b.sessions)))
+    on_connection c
+    (written_all (map (counted b.moment) (replies i x (sessions_before x b.groups b.sessions))))
     (comes_to_session i x b)
 
 -- it asks for more than its user may do: a publish comes to no session, and of a Subscribe what the user
@@ -193,7 +197,7 @@ refusal code =
 abbrev pub welcome : ℕ → Bool → Bool → Connect → Broker → List Packet
 welcome i present given k b =
     connack present given k b
-    ∷ sent_again i (Some (receive_max_of k.properties)) b.sessions
+    ∷ map (counted b.moment) (sent_again i (Some (receive_max_of k.properties)) b.sessions)
 
 -- it is taken, and sent these
 unfoldable pub comes_in : ℕ → ℕ → Bool → Bool → Connect → Option LastWill → Broker → Broker
@@ -317,7 +321,7 @@ takes_by (Some a) c i x b = takes_under a c i x b
 
 abbrev pub takes_of : Option ℕ → ℕ → Packet → Broker → Broker
 takes_of None c x b = begins_with c x b
-takes_of (Some i) c x b = takes_by (alias_used b.alias_max x) c i x b
+takes_of (Some i) c x b = takes_by (alias_used b.alias_max x) c i (dated b.moment x) b
 
 -- on a connection that takes none it does nothing; and otherwise that is heard
 abbrev pub takes_at : Connection → ℕ → Packet → Broker → Broker
@@ -329,17 +333,29 @@ takes c x b = takes_at (connection_at c b.connections) c x b
 
 -- ---- what is sent
 
--- what a client's session sends of the first of its queue, if there is one (3.3.4)
-abbrev pub sent_of : Option ℕ → Broker → List Packet
-sent_of None b = []
-sent_of (Some i) b = passed i b.sessions
+-- whether the first of a client's queue has expired (3.3.2.3.3)
+abbrev pub first_is_over : ℕ → Broker → Bool
+first_is_over i b = is_over b.moment (message_expiry i b.sessions)
 
--- it is passed on
+-- then it is taken out; otherwise it is passed on, and what its session sends of it is written (3.3.4)
 abbrev pub passes_of : Option ℕ → ℕ → Broker → Broker
 passes_of None c b = b
 passes_of (Some i) c b =
-    on_connection c (written_all (passed i b.sessions))
+    if first_is_over i b then record b { sessions = takes_out i b.sessions }
+    else on_connection c (written_all (map (counted b.moment) (passed i b.sessions)))
     (record b { sessions = passes i b.sessions })
 
 unfoldable pub passes_on : ℕ → Broker → Broker
 passes_on c b = passes_of (connection_at c b.connections).client c b
+
+-- at a moment
+abbrev pub passes_at : ℕ → ℕ → Broker → Broker
+passes_at at c b = passes_on c (at_moment at b)
+
+-- whether there is a first one that has expired, or of which something is sent
+abbrev pub has_passed_of : Option ℕ → Broker → Bool
+has_passed_of None b = false
+has_passed_of (Some i) b = first_is_over i b || has_any (passed i b.sessions)
+
+abbrev pub has_passed : ℕ → Broker → Bool
+has_passed c b = has_passed_of (connection_at c b.connections).client b

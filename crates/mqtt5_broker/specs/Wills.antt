@@ -7,12 +7,13 @@ use Rattle.mqtt5_publish.specs.Publishes.{no_publish_properties}
 use Rattle.mqtt5_connect.specs.declared.will.LastWill.{LastWill}
 use Rattle.mqtt5_connect.specs.declared.will.LastWillProperties.{LastWillProperties}
 use Rattle.mqtt5_network.specs.declared.event.Will.{Will}
+use Rattle.mqtt5_broker.specs.Expiry.{uncounted}
 
 -- its properties, but for the delay
 abbrev pub published_properties : LastWillProperties → PublishProperties
 published_properties set = record no_publish_properties {
   payload_format_indicator = set.payload_format_indicator;
-  message_expiry_interval = set.message_expiry_interval;
+  message_expiry_interval = option_map uncounted set.message_expiry_interval;
   content_type = set.content_type;
   response_topic = set.response_topic;
   correlation_data = set.correlation_data;

@@ -5,12 +5,13 @@ ghost use Rattle.std.specs.NonZero.{non_zero_u16_get};
 ghost use Rattle.mqtt5_broker.specs.Cut.{cut_up, Holds, Breaks};
 ghost use Rattle.mqtt5_broker.specs.Connection.{closed, with_sent, connection_at};
 ghost use Rattle.mqtt5_broker.specs.Broker.{no_bounds, at_moment, on_connection, name_at};
-ghost use Rattle.mqtt5_broker.specs.Serving.{passes_on, sent_of, has_any};
+ghost use Rattle.mqtt5_broker.specs.Serving.{passes_of, passes_on, passes_at, has_passed_of, has_passed};
 ghost use Rattle.mqtt5_broker.specs.Receiving.{comes_of, receives_now, receives, opens_now, opens, closes_now, closes, ends_with, reason_for};
 
 use crate::bounds::{Bounds, no_bounds};
 use crate::connection::Connection;
 use crate::connections::{client_at, hold_at, is_open_at, write_some_at};
+use crate::expiry::{counted_some, is_over};
 use crate::groups::Group;
 use crate::member::{Member, name_in};
 use crate::rights::Rights;
@@ -242,21 +243,51 @@ impl Broker {
         Ok(())
     }
 
-    /// The first publish of the queue of a connection's client is passed on, if there is one and it may be sent: whether its
-    /// session sends a packet of it, which is written, unless it is longer than the client takes (3.3.4, 3.1.2.11.4). S12: the
-    /// connection is to be closed then.
-    #[tactic(auto, using(crate::proofs::Passed::some_of), unfolding(crate::specs::Serving::passes_on))]
-    pub fn pass(&mut self, alloc: Global, connection: usize) -> Result<bool, StateError>
-        ensures ok { OnOk result (self.new ≡ passes_on connection self.old) }
-        ensures passed { IfOk result (λ some. some
-            ≡ has_any (sent_of (connection_at connection self.old.connections).client self.old)) }
+    /// The first publish of the queue of a connection's client is passed on at a moment, if there is one and it may be sent, and
+    /// what its session sends of it is written, unless it is longer than the client takes; or it is taken out, where it has expired
+    /// (3.3.4, 3.1.2.11.4, 3.3.2.3.3). Whether either was done. S12: the connection is to be closed then.
+    pub fn pass(&mut self, alloc: Global, connection: usize, at: u64) -> Result<bool, StateError>
+        ensures ok { OnOk result (self.new ≡ passes_at at connection self.old) }
+        ensures passed { IfOk result (λ some. some ≡ has_passed connection (at_moment at self.old)) }
         ensures memory { IfErr result (λ e. e ≡ StateError.OutOfMemory) }
     {
-        let Some(client) = client_at(self.connections.as_slice(), connection) else {
-            return Ok(false);
-        };
+        self.set_moment(at);
+        self.pass_now(alloc, connection)
+    }
+
+    /// It is passed on now. S12.
+    #[tactic(auto, unfolding(crate::specs::Serving::passes_on))]
+    fn pass_now(&mut self, alloc: Global, connection: usize) -> Result<bool, StateError>
+        ensures ok { OnOk result (self.new ≡ passes_on connection self.old) }
+        ensures passed { IfOk result (λ some. some ≡ has_passed connection self.old) }
+        ensures memory { IfErr result (λ e. e ≡ StateError.OutOfMemory) }
+    {
+        match client_at(self.connections.as_slice(), connection) {
+            Some(client) => self.pass_of(alloc, connection, client),
+            None => Ok(false),
+        }
+    }
+
+    /// So is the first of a client's queue. S12.
+    #[tactic(auto, using(crate::proofs::Passed::some_of))]
+    fn pass_of(
+        &mut self,
+        alloc: Global,
+        connection: usize,
+        client: usize,
+    ) -> Result<bool, StateError>
+        ensures ok { OnOk result (self.new ≡ passes_of (Some client) connection self.old) }
+        ensures passed { IfOk result (λ some. some ≡ has_passed_of (Some client) self.old) }
+        ensures memory { IfErr result (λ e. e ≡ StateError.OutOfMemory) }
+    {
+        let second = self.sessions.message_expiry(alloc, client)?;
+        if is_over(self.moment, second) {
+            self.sessions.expire(alloc, client)?;
+            return Ok(true);
+        }
         let sent = self.sessions.pass(alloc, client)?;
         let some = sent.is_some();
+        let sent = counted_some(self.moment, sent);
         let written = write_some_at(&mut self.connections, connection, &sent);
         drop(sent);
         written?;

@@ -1,12 +1,13 @@
 //! What a broker makes of the first packet of a connection.
 
-ghost use Rattle.std.specs.Prelude.{◌≡◌, ◌∷◌, Some, None, OnOk, OnErr, IfOk, IfErr, Bool, false, not, length, ◌==◌, if◌then◌else◌};
+ghost use Rattle.std.specs.Prelude.{◌≡◌, ◌∷◌, Some, None, OnOk, OnErr, IfOk, IfErr, Bool, false, not, length, map, ◌==◌, if◌then◌else◌};
 ghost use Rattle.mqtt5_control.specs.declared.disconnect.DisconnectReasonCode.TheVariants as reasons;
 ghost use Rattle.mqtt5_codec.specs.declared.packet.Packet.TheVariants as packets;
 ghost use Rattle.mqtt5_broker.specs.declared.member.Member.{Member};
 ghost use Rattle.mqtt5_broker.specs.Connection.{Connection, shut, written, written_all, heard, taken_by};
 ghost use Rattle.mqtt5_broker.specs.Broker.{on_connection, numbers, number_in, number_of, free_number, assigned_name, number_after};
 ghost use Rattle.mqtt5_broker.specs.Aliases.{alias_used};
+ghost use Rattle.mqtt5_broker.specs.Expiry.{dated, counted};
 ghost use Rattle.mqtt5_broker.specs.Serving.{longest_of, silence_of, told_keep_alive, if_any, given_name, offers, connack, refusal, welcome, comes_in, displaced, displaces, begins, returns, enters, turns_away, enters_if_room, assigns_by, assigns, returns_to_its, admits_as, admits, entry_fault, connects, begins_with, takes, takes_by, takes_of};
 
 use crate::aliases::alias_used;
@@ -15,6 +16,7 @@ use crate::connections::{
     Terms, client_at, connection_of, hear_at, is_open_at, own_at, refuse_at, shut_at, tell_at,
     user_of, welcome_at,
 };
+use crate::expiry::dated;
 use crate::groups::{give_all, leave_all};
 use crate::judging::connect_fault;
 use crate::member::{
@@ -123,9 +125,7 @@ impl Broker {
         let max = receive_max_of(&connect.properties);
         let will = will_of(alloc, will)?;
         let packets = self.sessions.come(alloc, client, Some(max), will)?;
-        let welcomed = self.welcome(alloc, connection, client, present, given, connect, &packets);
-        drop(packets);
-        welcomed?;
+        self.welcome(alloc, connection, client, present, given, connect, packets)?;
         Ok(())
     }
 
@@ -162,11 +162,12 @@ impl Broker {
         present: bool,
         given: bool,
         connect: &Connect,
-        packets: &VecDeque<Packet>,
+        packets: VecDeque<Packet>,
     ) -> Result<(), AllocError>
         ensures { OnOk result (self.new ≡ on_connection connection (λ (l : Connection).
             written_all
-            (connack present given connect.now self.old ∷ packets.now.items)
+            (connack present given connect.now self.old
+            ∷ map (counted self.old.moment) packets.items)
             (taken_by client (longest_of connect.now.properties)
             (silence_of self.old.keep_alive_max connect.now) self.old.moment l)) self.old) }
     {
@@ -530,13 +531,13 @@ impl Broker {
         alloc: Global,
         connection: usize,
         client: usize,
+        alias: Option<u16>,
         packet: Packet,
     ) -> Result<(), StateError>
-        ensures ok { OnOk result (self.new
-            ≡ takes_by (alias_used self.old.alias_max packet) connection client packet self.old) }
+        ensures ok { OnOk result (self.new ≡ takes_by alias connection client packet self.old) }
         ensures memory { IfErr result (λ e. e ≡ StateError.OutOfMemory) }
     {
-        match alias_used(self.alias_max, &packet) {
+        match alias {
             Some(alias) => self.take_under(alloc, connection, client, alias, packet),
             None => self.serve(alloc, connection, client, packet),
         }
@@ -554,7 +555,11 @@ impl Broker {
         ensures memory { IfErr result (λ e. e ≡ StateError.OutOfMemory) }
     {
         match client {
-            Some(client) => self.take_from(alloc, connection, client, packet),
+            Some(client) => {
+                let alias = alias_used(self.alias_max, &packet);
+                let packet = dated(self.moment, packet);
+                self.take_from(alloc, connection, client, alias, packet)
+            }
             None => {
                 let begun = self.begin_with(alloc, connection, &packet);
                 drop(packet);

@@ -1,10 +1,12 @@
 //! What a broker keeps of a connection.
 
-ghost use Rattle.std.specs.Prelude.{◌≡◌, ◌≢◌, ◌∷◌, ◌++◌, Some, OnOk, OnErr, IfOk};
+ghost use Rattle.std.specs.Prelude.{◌≡◌, ◌≢◌, ◌∷◌, ◌++◌, Some, OnOk, OnErr, IfOk, map};
 ghost use Rattle.std.specs.Option.{option_to_list};
 ghost use Rattle.mqtt5_broker.specs.Connection.{closed, opened, heard, learned, learned_topic, taken_by, shut, written, written_all, told, of_user, emptied, holding, with_sent};
 ghost use Rattle.mqtt5_broker.specs.Asking.{kept_on};
+ghost use Rattle.mqtt5_broker.specs.Expiry.{counted};
 
+use crate::expiry::counted;
 use crate::moments::unless_zero;
 use bytes::{Bytes, BytesMut};
 use mqtt5_base::{Error, copied};
@@ -259,12 +261,18 @@ impl Connection {
         }
     }
 
-    /// So are packets, in order. Err where memory is refused: the first of them may be written.
-    pub(super) fn write_all(&mut self, packets: &VecDeque<Packet>) -> Result<(), AllocError>
-        ensures { OnOk result (self.new ≡ written_all packets.now.items self.old) }
+    /// So are packets of a session, in order, as they are sent at a moment. Err where memory is refused: the first of them may be
+    /// written.
+    pub(super) fn write_all(&mut self, at: u64, packets: VecDeque<Packet>) -> Result<(), AllocError>
+        ensures { OnOk result
+            (self.new ≡ written_all (map (counted at) packets.items) self.old) }
     {
-        for i in 0..packets.len() {
-            self.write(&packets[i])?;
+        let mut packets = packets;
+        while let Some(packet) = packets.pop_front() {
+            let packet = counted(at, packet);
+            let written = self.write(&packet);
+            drop(packet);
+            written?;
         }
         Ok(())
     }
@@ -300,14 +308,15 @@ impl Connection {
         silence: u32,
         at: u64,
         welcome: &Packet,
-        packets: &VecDeque<Packet>,
+        packets: VecDeque<Packet>,
     ) -> Result<(), AllocError>
-        ensures { OnOk result (self.new ≡ written_all (welcome.now ∷ packets.now.items)
+        ensures { OnOk result
+            (self.new ≡ written_all (welcome.now ∷ map (counted at) packets.items)
             (taken_by client longest silence at self.old)) }
     {
         self.take(client, longest, silence, at);
         self.write(welcome)?;
-        self.write_all(packets)?;
+        self.write_all(at, packets)?;
         Ok(())
     }
 }

@@ -1,7 +1,8 @@
 //! The connections of a broker, by their numbers.
 
-ghost use Rattle.std.specs.Prelude.{◌≡◌, ◌∷◌, OnOk, OnErr, IfOk, Some, None};
+ghost use Rattle.std.specs.Prelude.{◌≡◌, ◌∷◌, OnOk, OnErr, IfOk, Some, None, map};
 ghost use Rattle.std.specs.Option.{option_to_list};
+ghost use Rattle.mqtt5_broker.specs.Expiry.{counted};
 ghost use Rattle.mqtt5_broker.specs.Connection.{Connection, heard, learned, learned_topic, taken_by, shut, written, written_all, told, holding, connection_at, with_connection, is_of, connection_of};
 
 use crate::connection::Connection;
@@ -197,10 +198,10 @@ pub(super) fn welcome_at(
     terms: Terms,
     at: u64,
     welcome: &Packet,
-    packets: &VecDeque<Packet>,
+    packets: VecDeque<Packet>,
 ) -> Result<(), AllocError>
     ensures { OnOk result (connections.new ≡ with_connection connection (λ (l : Connection).
-        written_all (welcome.now ∷ packets.now.items)
+        written_all (welcome.now ∷ map (counted at) packets.items)
         (taken_by client terms.longest terms.silence at l)) connections.old) }
 {
     if connection < connections.len() {

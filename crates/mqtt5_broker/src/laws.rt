@@ -25,7 +25,7 @@ ghost use Rattle.mqtt5_broker.specs.Connection.{closed, with_sent, connection_at
 ghost use Rattle.mqtt5_broker.specs.Moments.{has_come};
 ghost use Rattle.mqtt5_broker.specs.Rights.{Rights, rights_at, is_within, may_publish, may_do, part_of};
 ghost use Rattle.mqtt5_broker.specs.Broker.{Broker, at_moment, on_connection, number_of, user_at, owner_at, is_same, refuses};
-ghost use Rattle.mqtt5_broker.specs.Serving.{fault_of, serves, turns_away, admits, connects, passes_on};
+ghost use Rattle.mqtt5_broker.specs.Serving.{fault_of, serves, turns_away, admits, connects, passes_at};
 ghost use Rattle.mqtt5_broker.specs.Receiving.{receives, ends_with, opens, closes};
 ghost use Rattle.mqtt5_broker.specs.Clock.{ticks, next_moment, shuts_down};
 ghost use Rattle.mqtt5_broker.specs.Bounds.{trims_all};
@@ -68,7 +68,8 @@ pub fn acts_law()
     // end of the broker.
     ensures receive { (at c : ℕ) (bytes : List ℕ) (b : Broker)
         → (done : List Act) × (receives at c bytes b ≡ acts done b) }
-    ensures pass { (c : ℕ) (b : Broker) → (done : List Act) × (passes_on c b ≡ acts done b) }
+    ensures pass { (at c : ℕ) (b : Broker)
+        → (done : List Act) × (passes_at at c b ≡ acts done b) }
     ensures tick { (at : ℕ) (b : Broker) → (done : List Act) × (ticks at b ≡ acts done b) }
     ensures trim { (b : Broker) → (done : List Act) × (trims_all b ≡ acts done b) }
     ensures shut_down { (at : ℕ) (b : Broker)
@@ -98,7 +99,7 @@ pub fn connections_law()
     ensures open { (at c : ℕ) (b : Broker) → IsStanding b → IsStanding (opens at c b) }
     ensures receive { (at c : ℕ) (bytes : List ℕ) (b : Broker)
         → IsStanding b → IsStanding (receives at c bytes b) }
-    ensures pass { (c : ℕ) (b : Broker) → IsStanding b → IsStanding (passes_on c b) }
+    ensures pass { (at c : ℕ) (b : Broker) → IsStanding b → IsStanding (passes_at at c b) }
     ensures sent { (c count : ℕ) (b : Broker)
         → IsStanding b → IsStanding (on_connection c (with_sent count) b) }
     ensures close { (at c : ℕ) (b : Broker) → IsStanding b → IsStanding (closes at c b) }

@@ -10,6 +10,7 @@ mod clock;
 mod connecting;
 mod connection;
 mod connections;
+mod expiry;
 mod groups;
 mod judging;
 mod laws;

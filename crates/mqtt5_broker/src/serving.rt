@@ -12,6 +12,7 @@ ghost use Rattle.mqtt5_broker.specs.Serving.{has_any, kind_of, comes_to_session,
 
 use crate::broker::Broker;
 use crate::connections::{client_at, is_open_at, shut_at, tell_at, write_at, write_some_at};
+use crate::expiry::counted_some;
 use crate::groups::{Group, give_all, leave_all, regrouped, turn_to};
 use crate::judging::{client_fault, new_expiry};
 use crate::member::{away_at, expiring_at, gone_at, owner_at, stays_at, undue_at};
@@ -264,6 +265,7 @@ impl Broker {
         ensures memory { IfErr result (λ e. e ≡ StateError.OutOfMemory) }
     {
         let reply = self.come_to_session(alloc, client, packet)?;
+        let reply = counted_some(self.moment, reply);
         let written = write_some_at(&mut self.connections, connection, &reply);
         drop(reply);
         written?;

@@ -1,13 +1,25 @@
 //! What a broker publishes in a client's name once its connection is lost.
 
 ghost use Rattle.std.specs.Prelude.{◌≡◌, option_map, IfOk};
+ghost use Rattle.mqtt5_broker.specs.Expiry.{uncounted};
 ghost use Rattle.mqtt5_broker.specs.Wills.{published_properties, published_by, or_zero, delay_of, delay_in, will_of};
 
+use crate::expiry::uncounted;
 use mqtt5_base::copied;
 use mqtt5_connect::{LastWill, LastWillProperties};
 use mqtt5_network::Will;
 use mqtt5_publish::{Publish, PublishProperties};
 use std::alloc::{AllocError, Global};
+
+/// The Message Expiry Interval of a will, if it has one: it isn't counted, since it begins once the will is published (3.1.3.2.4).
+fn uncounted_in(interval: Option<u32>) -> Option<u32>
+    ensures { result ≡ option_map uncounted interval }
+{
+    match interval {
+        Some(interval) => Some(uncounted(interval)),
+        None => None,
+    }
+}
 
 /// The properties of a will, but for its delay.
 fn published_properties(
@@ -19,7 +31,7 @@ fn published_properties(
     let copy = copied(set)?;
     let mut properties = PublishProperties::new(alloc);
     properties.payload_format_indicator = copy.payload_format_indicator;
-    properties.message_expiry_interval = copy.message_expiry_interval;
+    properties.message_expiry_interval = uncounted_in(copy.message_expiry_interval);
     properties.content_type = copy.content_type;
     properties.response_topic = copy.response_topic;
     properties.correlation_data = copy.correlation_data;

@@ -7,7 +7,7 @@ pub returns-clause-receive : goal.returns-clause-receive
 returns-clause-receive c = λ at d bytes b. done_made b _ (receives_done at d bytes b)
 
 pub returns-clause-pass : goal.returns-clause-pass
-returns-clause-pass c = λ d b. done_made b _ (passes_done d b)
+returns-clause-pass c = λ at d b. done_made b _ (passes_done at d b)
 
 pub returns-clause-close : goal.returns-clause-close
 returns-clause-close c = λ at d b. closes_lost at d b

@@ -14,7 +14,7 @@ pub returns-clause-receive : goal.returns-clause-receive
 returns-clause-receive c = λ at d bytes b s. receives_standing at d bytes b s
 
 pub returns-clause-pass : goal.returns-clause-pass
-returns-clause-pass c = λ d b s. passes_standing d b s
+returns-clause-pass c = λ at d b s. passes_standing at d b s
 
 pub returns-clause-sent : goal.returns-clause-sent
 returns-clause-sent c = λ d n b s. sent_standing d n b s
