@@ -218,7 +218,7 @@ static bool fill(size_t c, size_t *waiting) {
     mqtt5_broker_output(&broker, c, out, sizeof out, waiting);
     for (int batch = 1; some && *waiting < sizeof out; batch = batch < PASSES ? 2 * batch : batch) {
         for (int i = 0; some && i < batch; i++) {
-            if (mqtt5_broker_pass(&broker, c, &some) == MQTT5_BROKER_DONE) continue;
+            if (mqtt5_broker_pass(&broker, c, now, &some) == MQTT5_BROKER_DONE) continue;
             drop(c);
             return false;
         }
@@ -463,7 +463,7 @@ static void pass_all(void) {
         if (k->state != OPEN) continue;
         if (others && has_ended(c)) serve(c);
         if (k->state != OPEN || k->waits || !k->is_client) continue;
-        if (mqtt5_broker_pass(&broker, c, &some) != MQTT5_BROKER_DONE) drop(c);
+        if (mqtt5_broker_pass(&broker, c, now, &some) != MQTT5_BROKER_DONE) drop(c);
         else if (some) serve(c);
     }
 }

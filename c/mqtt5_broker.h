@@ -103,10 +103,10 @@ uint32_t mqtt5_broker_is_open(mqtt5_broker *b, size_t connection, bool *is_open)
 uint32_t mqtt5_broker_output(mqtt5_broker *b, size_t connection, uint8_t *buffer, size_t buffer_len, size_t *count);
 uint32_t mqtt5_broker_sent(mqtt5_broker *b, size_t connection, size_t count);
 
-/* The first publish of the queue of its client is taken out and goes into its output, if there is one and it may be sent:
-   `some` tells whether there is. One that is longer than the client takes isn't written. Where memory is refused the
-   connection is to be closed. */
-uint32_t mqtt5_broker_pass(mqtt5_broker *b, size_t connection, bool *some);
+/* The first publish of the queue of its client is taken out and goes into its output, if there is one and it may be sent; or it
+   is only taken out, where it has expired at this moment (3.3.2.3.3). `some` tells whether either was done. One that is longer
+   than the client takes isn't written. Where memory is refused the connection is to be closed. */
+uint32_t mqtt5_broker_pass(mqtt5_broker *b, size_t connection, uint64_t at, bool *some);
 
 /* Ends the sessions of all clients for which more is kept than may be: those that are connected are told Quota exceeded
    (0x97), and no more bytes of them are taken. It looks at all that waits. Where memory is refused some may not have ended:

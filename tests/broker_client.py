@@ -52,6 +52,11 @@ def longest_packet(n):
     return b"\x27" + struct.pack(">I", n)
 
 
+def message_expiry(seconds):
+    """A Message Expiry Interval (3.3.2.3.3, 3.1.3.2.4)."""
+    return b"\x02" + struct.pack(">I", seconds)
+
+
 def topic_alias(n):
     """A Topic Alias (3.3.2.3.4)."""
     return b"\x23" + struct.pack(">H", n)

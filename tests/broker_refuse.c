@@ -174,7 +174,7 @@ static void as_user(mqtt5_broker *b, size_t connection, told *t) {
 }
 
 static void passes(mqtt5_broker *b, size_t connection, bool *some, told *t) {
-    uint32_t code = mqtt5_broker_pass(b, connection, some);
+    uint32_t code = mqtt5_broker_pass(b, connection, 0, some);
     if (code == MQTT5_BROKER_OUT_OF_MEMORY) lose(b, connection, t);
     else EXPECT(code, MQTT5_BROKER_DONE);
 }
@@ -196,7 +196,7 @@ static void begins(mqtt5_broker *b, told *t) {
     uint32_t code = mqtt5_broker_new(b, 3, 64, 10, 0, 2, 0, 0);
     if (code == MQTT5_BROKER_OUT_OF_MEMORY) {
         t->refusals++;
-        EXPECT(mqtt5_broker_pass(b, 0, &some), MQTT5_BROKER_NONE);
+        EXPECT(mqtt5_broker_pass(b, 0, 0, &some), MQTT5_BROKER_NONE);
         code = mqtt5_broker_new(b, 3, 64, 10, 0, 2, 0, 0);
     }
     EXPECT(code, MQTT5_BROKER_DONE);

@@ -15,8 +15,8 @@ from contextlib import asynccontextmanager
 
 from broker_client import (
     PINGRESP, PUBACK, PUBCOMP, PUBLISH, PUBREC, PUBREL, SUBACK, Client, Ended, Will, ack_frame, connect_frame,
-    disconnect_frame, expiry, frame, identifier, longest_packet, message_of, number, properties_of, publish_frame, receive_maximum,
-    subscribe_frame, text, topic_alias)
+    disconnect_frame, expiry, frame, identifier, longest_packet, message_expiry, message_of, number, properties_of, publish_frame,
+    receive_maximum, subscribe_frame, text, topic_alias)
 
 FOLDER, BROKER = sys.argv[1], sys.argv[2]
 WANTED = sys.argv[3:]
@@ -607,6 +607,95 @@ async def retain_of_several(b):
                 [messages] = await shown(pub, topic, b"x", [sub], 2, retain=retain)
                 assert [(m.qos, m.retain) for m in messages] == [(qos, retain and keeps)], messages
             await shown(pub, topic, b"", [sub], 1, retain=1)
+
+
+# ---- Messages that expire. ----
+
+
+def seconds_left(message):
+    return dict(properties_of(message.properties)).get(2)
+
+
+@row()
+async def messages_expire(b):
+    """What waits for longer than its Message Expiry Interval isn't sent any more; before that it comes with what is left of it, less
+    than a second more or less than it waited (3.3.2.3.3). One without comes at any time, and a copy of a retained one in its."""
+    sub = b.client("lapse-sub")
+    await sub.connect(**KEPT)
+    await sub.subscribe("lapse/#")
+    await sub.disconnect()
+    async with b.connected("lapse-pub") as pub, b.connected("lapse-here") as here:
+        await here.subscribe("lapse/#")
+        begun = time.monotonic()
+        sent = [(qos, seconds, 0) for qos in (1, 2) for seconds in (1, 100, None)] + [(1, 1, 1), (1, 100, 1)]
+        for qos, seconds, retain in sent:
+            topic = f"lapse/{seconds}{'/kept' if retain else ''}"
+            await pub.publish(topic, b"x", qos, retain=retain, properties=b"" if seconds is None else message_expiry(seconds))
+            got = await here.take()
+            assert (got.topic, got.qos) == (topic, qos)
+            # (it may have come at the end of a second)
+            assert seconds_left(got) == seconds or seconds is not None and 0 <= seconds_left(got) >= seconds - 2, got
+        published = time.monotonic()
+        await asyncio.sleep(3.2)
+        waited = time.monotonic()
+
+        def is_left(message, seconds):
+            left, most, least = seconds_left(message), 100 - (waited - published), 100 - (time.monotonic() - begun)
+            assert left is None if seconds is None else least - 1 < left < most + 1, (message, most, least)
+
+        assert await sub.connect(**KEPT) == 1
+        for qos, seconds, retain in sent:
+            if seconds == 1:
+                continue
+            got = await sub.take()
+            assert (got.topic, got.qos, got.retain) == (f"lapse/{seconds}{'/kept' if retain else ''}", qos, 0), got
+            is_left(got, seconds)
+        async with b.connected("lapse-late") as late:
+            await late.subscribe("lapse/#", "lapse-end")
+            got = await late.take()
+            assert (got.topic, got.retain) == ("lapse/100/kept", 1), got
+            is_left(got, 100)
+            await pub.publish("lapse-end", b"end", 1)
+            assert (await late.take()).payload == b"end"
+        for seconds in (1, 100):
+            await pub.publish(f"lapse/{seconds}/kept", b"", 1, retain=1)
+    await sub.connect(clean=True)
+    await sub.disconnect()
+
+
+@row(mosquitto=False)  # (mosquitto 2.0.11 counts it, and sends what is left)
+async def wills_expire(b):
+    """The Message Expiry Interval of a will is passed on as it is (3.1.3.2.4)."""
+    async with b.connected("lapse-wills") as sub:
+        await sub.subscribe("lapse-will")
+        for seconds in (0, 1, 100, 0x7FFFFFFF):
+            await cut_with(b, "lapse-will", Will("lapse-will", b"gone", 1, properties=message_expiry(seconds)))
+            got = await sub.take()
+            assert seconds_left(got) == seconds, got
+
+
+@row(mosquitto=False)  # (its order is another one)
+async def expires_behind(b):
+    """A message that has expired stands in the way of none behind it, also where it waits for an identifier."""
+    async with b.connected("behind-pub") as pub:
+        sub = b.client("behind-sub")
+        sub.manual = True
+        await sub.connect(properties=receive_maximum(1))
+        await sub.subscribe("behind")
+        for payload, seconds in ((b"one", None), (b"two", 1), (b"three", 1), (b"four", 60)):
+            await pub.publish("behind", payload, 1, properties=b"" if seconds is None else message_expiry(seconds))
+        one = await sub.take()
+        assert one.payload == b"one"
+        await asyncio.sleep(2.5)
+        sub.send(ack_frame(PUBACK, one.id))
+        # (the second one was taken on already, and waits at the session for the identifier: so it doesn't expire)
+        two = await sub.take()
+        assert (two.payload, seconds_left(two)) == (b"two", 0), two
+        sub.send(ack_frame(PUBACK, two.id))
+        four = await sub.take()
+        assert four.payload == b"four" and 55 < seconds_left(four) < 60, four
+        sub.send(ack_frame(PUBACK, four.id))
+        await sub.disconnect()
 
 
 # ---- Shared subscriptions. ----
@@ -1692,9 +1781,9 @@ async def own(b):
 
     at = ("127.0.0.1", str(b.port), "one", "right")
     python = [("python3", "tests/live_clients.py", kind, name, *at) for kind, names in
-              (("asyncio", "will goodbye response filters cuts thirty leaving qualities"), ("blocking", "will response qualities"))
+              (("asyncio", "will goodbye response expiry filters cuts thirty leaving qualities"), ("blocking", "will response qualities"))
               for name in names.split()]
-    in_c = [(os.environ["C_CLIENT"], name, *at) for name in ("will", "goodbye", "response", "filters")]
+    in_c = [(os.environ["C_CLIENT"], name, *at) for name in ("will", "goodbye", "response", "expiry", "filters")]
     example = (os.environ["C_EXAMPLE"], "127.0.0.1", str(b.port), f"{FOLDER}/kept.{os.path.basename(BROKER)}")
     await asyncio.gather(*(one(*words) for words in python + in_c + [example]))
     await one(*example)

@@ -21,7 +21,7 @@ WRAP(asks,
      size_t password_len, size_t *password_count),
     (b, c, asks, name, name_len, name_count, password, password_len, password_count))
 WRAP(reject, (mqtt5_broker *b, size_t c, bool named), (b, c, named))
-WRAP(pass, (mqtt5_broker *b, size_t c, bool *some), (b, c, some))
+WRAP(pass, (mqtt5_broker *b, size_t c, uint64_t at, bool *some), (b, c, at, some))
 WRAP(close, (mqtt5_broker *b, size_t c, uint64_t at), (b, c, at))
 WRAP(tick, (mqtt5_broker *b, uint64_t at), (b, at))
 WRAP(trim, (mqtt5_broker *b), (b))

@@ -1,10 +1,10 @@
 //! Calls that move bytes between a broker and its connections.
 
 ghost use Rattle.std.specs.Prelude.{◌≡◌, ◌≢◌, IfSome};
-ghost use Rattle.mqtt5_broker.specs.Broker.{on_connection};
+ghost use Rattle.mqtt5_broker.specs.Broker.{on_connection, at_moment};
 ghost use Rattle.mqtt5_broker.specs.Connection.{connection_at, with_sent};
 ghost use Rattle.mqtt5_broker.specs.Receiving.{receives};
-ghost use Rattle.mqtt5_broker.specs.Serving.{passes_on, sent_of, has_any};
+ghost use Rattle.mqtt5_broker.specs.Serving.{passes_at, has_passed};
 ghost use Rattle.mqtt5_broker_c.specs.Calls.{Does, DoesOrIsRefused, Looks, told, fitting, over};
 ghost use Rattle.mqtt5_broker_c.specs.Handles.{IsKept};
 ghost use Rattle.mqtt5_broker_c.specs.Numbers.{done};
@@ -95,28 +95,28 @@ pub extern "C" fn mqtt5_broker_sent(
     DONE
 }
 
-/// The first publish of the queue of a connection's client goes into its output, if there is one and it may be sent; `some`
-/// tells whether its session sends a packet of it. 0; 12: the connection is to be closed. 200.
+/// The first publish of the queue of a connection's client goes into its output, if there is one and it may be sent, or is taken
+/// out, where it has expired; `some` tells whether either was done. 0; 12: the connection is to be closed. 200.
 #[unsafe(no_mangle)]
 pub extern "C" fn mqtt5_broker_pass(
     alloc: Global,
     h: &mut Handle,
     connection: usize,
+    at: u64,
     some: &mut bool,
 ) -> u32
     requires { IsKept h.old }
     ensures kept { IsKept h.new }
-    ensures answer { DoesOrIsRefused (passes_on connection) h.old.broker_ptr.value result
+    ensures answer { DoesOrIsRefused (passes_at at connection) h.old.broker_ptr.value result
         h.new.broker_ptr.value }
     ensures some { result ≡ done → some.new
-        ≡ told (λ b. has_any (sent_of (connection_at connection b.connections).client b))
-        h.old.broker_ptr.value some.old }
+        ≡ told (λ b. has_passed connection (at_moment at b)) h.old.broker_ptr.value some.old }
     ensures rest { result ≢ done → some.new ≡ some.old }
 {
     let Some(mut broker) = take(alloc, h) else {
         return NO_BROKER;
     };
-    let outcome = broker.pass(alloc, connection);
+    let outcome = broker.pass(alloc, connection, at);
     put(h, broker);
     match outcome {
         Ok(sent) => {
