@@ -6,8 +6,7 @@ ghost use Rattle.mqtt5_codec.specs.declared.packet.Packet.TheVariants as packets
 ghost use Rattle.mqtt5_broker.specs.declared.member.Member.{Member};
 ghost use Rattle.mqtt5_broker.specs.Connection.{Connection, shut, written, written_all, heard, taken_by};
 ghost use Rattle.mqtt5_broker.specs.Broker.{on_connection, numbers, number_in, number_of, free_number, assigned_name, number_after};
-ghost use Rattle.mqtt5_broker.specs.Aliases.{alias_used};
-ghost use Rattle.mqtt5_broker.specs.Expiry.{dated, counted};
+ghost use Rattle.mqtt5_broker.specs.Expiry.{counted};
 ghost use Rattle.mqtt5_broker.specs.Serving.{longest_of, silence_of, told_keep_alive, if_any, given_name, offers, connack, refusal, welcome, comes_in, displaced, displaces, begins, returns, enters, turns_away, enters_if_room, assigns_by, assigns, returns_to_its, admits_as, admits, entry_fault, connects, begins_with, takes, takes_by, takes_of};
 
 use crate::aliases::alias_used;

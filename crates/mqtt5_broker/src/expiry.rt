@@ -1,6 +1,6 @@
 //! Messages that expire (MQTT 5.0 section 3.3.2.3.3).
 
-ghost use Rattle.std.specs.Prelude.{◌≡◌, map, true, option_map};
+ghost use Rattle.std.specs.Prelude.{◌≡◌, map, option_map};
 ghost use Rattle.std.specs.Option.{option_to_list};
 ghost use Rattle.mqtt5_broker.specs.Expiry.{second_of, expiry_second, seconds_left, uncounted, is_over, converted, with_interval, with_expiry, dated, counted};
 
