@@ -13,8 +13,9 @@ use Rattle.mqtt5_broker.specs.Asking.{holds, identifies, rejects}
 
 -- a connection begins; bytes of it come, and are only held, or it is of a user, or its client is turned
 -- away, or they are taken; so many of those to be sent were sent; a moment comes at which the first of
--- its client's queue is passed on, or has expired; it ends; a moment comes; bounds are set; what exceeds them ends; the broker does; there is
--- one user more; and one may publish or subscribe within one filter more
+-- its client's queue is passed on, or has expired; it ends; a moment comes; bounds are set; what exceeds
+-- them ends; the broker does; there is one user more; and one may publish or subscribe within one
+-- filter more
 pub data Call : Type 0 where
   Open : (at connection : ℕ) → Call
   Hold : (connection : ℕ) (bytes : List ℕ) → Call
