@@ -634,7 +634,8 @@ async def messages_expire(b):
             got = await here.take()
             assert (got.topic, got.qos) == (topic, qos)
             # (it may have come at the end of a second)
-            assert seconds_left(got) == seconds or seconds is not None and 0 <= seconds_left(got) >= seconds - 2, got
+            left = seconds_left(got)
+            assert left is None if seconds is None else max(0, seconds - 2) <= left <= seconds, got
         published = time.monotonic()
         await asyncio.sleep(3.2)
         waited = time.monotonic()
