@@ -48,7 +48,7 @@ bytes_again c rest lt =
     rw (number_again w16 65536 wide16 (length c) (c ++ rest) lt, long, cut.0, cut.1) refl
 
 -- A text is read again.
-text_again : (c rest : List ℕ) → length c < 65536 → is_utf8 c ≡ true → text_at (with_length c ++ rest) ≡ Ok (c, rest)
+pub text_again : (c rest : List ℕ) → length c < 65536 → is_utf8 c ≡ true → text_at (with_length c ++ rest) ≡ Ok (c, rest)
 unfolding text_at
 text_again c rest lt is = rw (bytes_again c rest lt, is) refl
 

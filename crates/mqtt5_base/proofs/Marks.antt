@@ -5,12 +5,11 @@ use Rattle.std.specs.Int.{trailing_zeros, w64}
 use Rattle.std.proofs.lemmas.Bool.{cases_eq, eq-eqb}
 use Rattle.std.proofs.lemmas.Bool.Decides.{nat_tests}
 use Rattle.std.proofs.lemmas.List.{drop-drop, length-map, length-take-le, map-id, take_rest}
-use Rattle.std.proofs.lemmas.List.Recursion.{is_position_or_len}
 use Rattle.std.proofs.lemmas.List.Sums.{prefix_len-le-length}
 use Rattle.std.proofs.lemmas.Simd.{length-zip2, mask_l-mod, first_set_mask_l, zip2_splat}
 use lib.Lanes.{zip2, mask_l, top}
 use Rattle.mqtt5_base.specs.Topics.{has_wildcards}
-use Rattle.mqtt5_base.specs.Walk.{common_len, plain_len}
+use Rattle.mqtt5_base.specs.Walk.{common_len, level_len, plain_len}
 
 -- how many lanes come before the first that is marked
 abbrev before : List Bool → ℕ
@@ -159,19 +158,43 @@ common_on t f n h more =
     (λ i. common_len (drop-drop 16 n t i) (drop-drop 16 n f i)) in
     omega arith
 
--- a text has its first level in common with itself
-pub common_with_itself : (t : List ℕ) → common_len t t ≡ position_or_len (λ b. b == 47) t
-common_with_itself = is_position_or_len (λ t. common_len t t) (λ b. b == 47) refl (λ b t. by_test (b == b) (b == 47) (1 + common_len t t) (eq-eqb b b refl))
+-- ---- the bytes of a text before the first that stops a walk
+
+-- those before the first mark
+until_before : (stops : ℕ → Bool) (t : List ℕ) → before (map stops t) ≡ position_or_len stops t
+until_before stops [] = refl
+until_before stops (b ∷ t) = by_test (stops b) (until_before stops t)
   where
-    by_test : (e s : Bool) (n : ℕ) → e ≡ true → cond (e && not s) n 0 ≡ cond s 0 n
-    by_test true true n h = refl
-    by_test true false n h = refl
-    by_test false s n h = absurd cc
+    by_test : (k : Bool) → before (map stops t) ≡ position_or_len stops t → before (k ∷ map stops t) ≡ cond (not k) (1 + position_or_len stops t) 0
+    by_test true h = refl
+    by_test false h = ap (λ n. 1 + n) h
+
+-- they are those that a text has in common with itself
+until_is : (stops : ℕ → Bool) (t : List ℕ) → common_prefix_len (λ b _. not (stops b)) t t ≡ position_or_len stops t
+until_is stops [] = refl
+until_is stops (b ∷ t) = ap (λ n. cond (not (stops b)) (1 + n) 0) (until_is stops t)
+
+pub until_all : (stops : ℕ → Bool) (n : ℕ) (t : List ℕ) → position_or_len stops (take n t) ≡ n → n ≤ position_or_len stops t
+until_all stops n t h = subst (λ m. n ≤ m) (until_is stops t) (all_common (λ b _. not (stops b)) n t t (until_is stops (take n t) ∙ h))
+
+pub until_some : (stops : ℕ → Bool) (n : ℕ) (t : List ℕ) → position_or_len stops (take n t) < n → position_or_len stops (take n t) ≡ position_or_len stops t
+until_some stops n t h =
+    sym (until_is stops (take n t)) ∙ some_common (λ b _. not (stops b)) n t t (subst (λ m. m < n) (sym (until_is stops (take n t))) h) ∙ until_is stops t
+
+-- sixteen more
+pub until_on : (stops : ℕ → Bool) (t : List ℕ) (n : ℕ) → n + position_or_len stops (drop n t) ≡ position_or_len stops t → 16 ≤ position_or_len stops (take (length t - n) (drop n t))
+    → (n + 16) + position_or_len stops (drop (n + 16) t) ≡ position_or_len stops t
+until_on stops t n h more =
+    let u = drop n t in
+    let on = from_common (λ b _. not (stops b)) 16 u u (subst (λ m. 16 ≤ m) (ap (position_or_len stops) (take_rest t n) ∙ sym (until_is stops u)) more) in
+    let here = until_is stops u in
+    let behind = until_is stops (drop 16 u) ∙ ap (position_or_len stops) (drop-drop 16 n t) in
+    omega arith
 
 -- ---- plain bytes of a text
 
 -- whether a byte isn't plain
-abbrev stops : ℕ → Bool
+abbrev pub stops : ℕ → Bool
 stops b = b == 47 || has_wildcards (b ∷ [])
 
 -- the marks of such bytes
@@ -197,27 +220,6 @@ plain_marks (b ∷ t) =
     by_tests false false true = refl
     by_tests false false false = refl
 
--- those before the first mark
-plain_before : (t : List ℕ) → before (map stops t) ≡ plain_len t
-plain_before [] = refl
-plain_before (b ∷ t) = by_test (stops b) (plain_before t)
-  where
-    by_test : (k : Bool) → before (map stops t) ≡ plain_len t → before (k ∷ map stops t) ≡ cond (not k) (1 + plain_len t) 0
-    by_test true h = refl
-    by_test false h = ap (λ n. 1 + n) h
-
--- they are those that a text has in common with itself
-plain_is : (t : List ℕ) → common_prefix_len (λ b _. not (stops b)) t t ≡ plain_len t
-plain_is [] = refl
-plain_is (b ∷ t) = ap (λ n. cond (not (stops b)) (1 + n) 0) (plain_is t)
-
-pub plain_all : (n : ℕ) (t : List ℕ) → plain_len (take n t) ≡ n → n ≤ plain_len t
-plain_all n t h = subst (λ m. n ≤ m) (plain_is t) (all_common (λ b _. not (stops b)) n t t (plain_is (take n t) ∙ h))
-
-pub plain_some : (n : ℕ) (t : List ℕ) → plain_len (take n t) < n → plain_len (take n t) ≡ plain_len t
-plain_some n t h =
-    sym (plain_is (take n t)) ∙ some_common (λ b _. not (stops b)) n t t (subst (λ m. m < n) (sym (plain_is (take n t))) h) ∙ plain_is t
-
 -- what the mask of a vector tells
 pub plain_told : (text : List ℕ) → 16 ≤ length text → (r : Option ℕ) (lanes : List ℕ)
     → lanes ≡ zip2 bit_or (zip2 bit_or (zip2 (λ a b. cond (a == b) 255 0) (take 16 text) (replicate 16 47)) (zip2 (λ a b. cond (a == b) 255 0) (take 16 text) (replicate 16 43))) (zip2 (λ a b. cond (a == b) 255 0) (take 16 text) (replicate 16 35))
@@ -227,17 +229,32 @@ plain_told text long r lanes are h =
     let t = take 16 text in
     let all : length t ≡ 16 = length-take-le 16 text long in
     let is : ℕ → ℕ → ℕ = λ a b. cond (a == b) 255 0 in
-    subst (λ n. MatchOption r (n ≡ 16) (λ len. (len ≡ n) × (len < 16))) (plain_before t)
+    subst (λ n. MatchOption r (n ≡ 16) (λ len. (len ≡ n) × (len < 16))) (until_before stops t)
     (told_by_mask lanes (map stops t)
     (ap (map (top 7)) are ∙ (λ i. map (top 7) (zip2 bit_or (zip2 bit_or (zip2_splat is t 16 47 all i) (zip2_splat is t 16 43 all i)) (zip2_splat is t 16 35 all i))) ∙ plain_marks t)
     (length-map t stops ∙ all) r h)
 
--- sixteen more
-pub plain_on : (t : List ℕ) (n : ℕ) → n + plain_len (drop n t) ≡ plain_len t → 16 ≤ plain_len (take (length t - n) (drop n t))
-    → (n + 16) + plain_len (drop (n + 16) t) ≡ plain_len t
-plain_on t n h more =
-    let u = drop n t in
-    let on = from_common (λ b _. not (stops b)) 16 u u (subst (λ m. 16 ≤ m) (ap plain_len (take_rest t n) ∙ sym (plain_is u)) more) in
-    let here = plain_is u in
-    let behind = plain_is (drop 16 u) ∙ ap plain_len (drop-drop 16 n t) in
-    omega arith
+-- ---- the bytes of a level
+
+-- the marks of slashes
+slash_marks : (t : List ℕ) → map (top 7) (map (λ b. cond (b == 47) 255 0) t) ≡ map (λ b. b == 47) t
+slash_marks [] = refl
+slash_marks (b ∷ t) = by_test (b == 47) (slash_marks t)
+  where
+    by_test : (s : Bool) → map (top 7) (map (λ b. cond (b == 47) 255 0) t) ≡ map (λ b. b == 47) t
+        → (top 7 (cond s 255 0) ∷ map (top 7) (map (λ b. cond (b == 47) 255 0) t)) ≡ (s ∷ map (λ b. b == 47) t)
+    by_test true h = ap (λ l. true ∷ l) h
+    by_test false h = ap (λ l. false ∷ l) h
+
+-- what the mask of a vector tells
+pub slash_told : (text : List ℕ) → 16 ≤ length text → (r : Option ℕ) (lanes : List ℕ)
+    → lanes ≡ zip2 (λ a b. cond (a == b) 255 0) (take 16 text) (replicate 16 47)
+    → r ≡ cond (mask_l (map (top 7) lanes) % 2 ^ 64 == 0) None (Some (trailing_zeros w64 (mask_l (map (top 7) lanes) % 2 ^ 64)))
+    → MatchOption r (level_len (take 16 text) ≡ 16) (λ len. (len ≡ level_len (take 16 text)) × (len < 16))
+slash_told text long r lanes are h =
+    let t = take 16 text in
+    let all : length t ≡ 16 = length-take-le 16 text long in
+    subst (λ n. MatchOption r (n ≡ 16) (λ len. (len ≡ n) × (len < 16))) (until_before (λ b. b == 47) t)
+    (told_by_mask lanes (map (λ b. b == 47) t)
+    (ap (map (top 7)) are ∙ ap (map (top 7)) (zip2_splat (λ a b. cond (a == b) 255 0) t 16 47 all) ∙ slash_marks t)
+    (length-map t (λ b. b == 47) ∙ all) r h)

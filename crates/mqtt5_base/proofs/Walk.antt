@@ -6,11 +6,15 @@ use Rattle.std.proofs.lemmas.Bool.{eqb-true, eq-eqb}
 use Rattle.std.proofs.lemmas.List.{drop_all, take_rest}
 use Rattle.std.proofs.lemmas.Slice.Eq.{bytes_eq-Decides}
 use Rattle.mqtt5_base.specs.Topics.{levels, plus, hash, covers, match_levels}
-use Rattle.mqtt5_base.specs.Walk.{common_len, match_behind}
+use Rattle.mqtt5_base.specs.Walk.{common_len, level_len, match_behind}
 
 -- so many bytes are equal and in the first level, and those that follow go on with it
 abbrev pub common_so_far : List ℕ → List ℕ → ℕ → Type 0
 common_so_far t f n = (n ≤ length t) × (n ≤ length f) × (n + common_len (drop n t) (drop n f) ≡ common_len t f)
+
+-- so many bytes are of the first level, and those that follow go on with it
+abbrev pub level_so_far : List ℕ → ℕ → Type 0
+level_so_far t n = (n ≤ length t) × (n + level_len (drop n t) ≡ level_len t)
 
 -- no bytes are in common where the filter is at its end
 common-nothing : (t : List ℕ) → common_len t [] ≡ 0

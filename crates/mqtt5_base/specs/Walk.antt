@@ -1,5 +1,5 @@
--- This file serves the logic alone: how many bytes a walk over a topic and a filter, or over a
--- filter, goes on within the first level, and what it finds behind that.
+-- This file serves the logic alone: how many bytes a walk over a topic and a filter, or over one
+-- of them, goes on within the first level, and what it finds behind that.
 use Rattle.std.specs.Prelude.{ℕ, Bool, true, false, not, ◌&&◌, ◌||◌, List, [], ◌∷◌, ◌==◌}
 use Rattle.std.specs.List.{common_prefix_len, position_or_len}
 use Rattle.mqtt5_base.specs.Topics.{levels, match_levels, are_valid, has_wildcards}
@@ -7,6 +7,10 @@ use Rattle.mqtt5_base.specs.Topics.{levels, match_levels, are_valid, has_wildcar
 -- how many bytes at the start of both are equal and in the first level
 abbrev pub common_len : List ℕ → List ℕ → ℕ
 common_len = common_prefix_len (λ t f. t == f && not (t == 47))
+
+-- how many bytes the first level has
+abbrev pub level_len : List ℕ → ℕ
+level_len = position_or_len (λ b. b == 47)
 
 -- how many bytes at the start are neither `/` nor a wildcard
 abbrev pub plain_len : List ℕ → ℕ

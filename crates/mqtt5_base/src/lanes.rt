@@ -2,7 +2,7 @@
 
 ghost use Rattle.std.specs.Prelude.{◌≡◌, ◌<◌, ◌≤◌, ◌==◌, if◌then◌else◌, length, None, Some, IfSome, MatchOption};
 ghost use Rattle.std.specs.Int.{trailing_zeros, w64};
-ghost use Rattle.mqtt5_base.specs.Walk.{common_len, plain_len};
+ghost use Rattle.mqtt5_base.specs.Walk.{common_len, level_len, plain_len};
 
 use std::simd::prelude::*;
 
@@ -32,6 +32,18 @@ pub(crate) fn common_end(topic: &[u8], filter: &[u8]) -> Option<usize>
     let bytes = u8x16::from_slice(topic);
     let ends = bytes.simd_ne(u8x16::from_slice(filter)) | bytes.simd_eq(u8x16::splat(b'/'));
     first_marked(ends.to_bitmask())
+}
+
+/// How many bytes of a text come before the first `/`; None where the first `LANES` do.
+pub(crate) fn slash_end(text: &[u8]) -> Option<usize>
+    requires { LANES ≤ length text.now }
+    ensures value { MatchOption result
+        (LANES ≤ level_len text.now)
+        (λ len. len ≡ level_len text.now) }
+    ensures near { IfSome result (λ len. len < LANES) }
+{
+    let slashes = u8x16::from_slice(text).simd_eq(u8x16::splat(b'/'));
+    first_marked(slashes.to_bitmask())
 }
 
 /// How many bytes at the start of a text are neither `/` nor a wildcard; None where the first `LANES` are.

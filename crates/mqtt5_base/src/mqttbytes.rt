@@ -1,6 +1,6 @@
 //! Rules that all packets share: the QoS of a number, topic names and topic filters.
 
-ghost use Rattle.std.specs.Prelude.{◌≡◌, ◌≢◌, ◌<◌, ◌≤◌, ◌==◌, nat_lt, [], ◌∷◌, length, IsSome, IfSome, IfOk, MatchResult, ◌↔◌};
+ghost use Rattle.std.specs.Prelude.{true, false, ◌≡◌, ◌≢◌, ◌<◌, ◌≤◌, ◌==◌, nat_lt, [], ◌∷◌, length, IsSome, IfSome, IfOk, MatchResult, ◌↔◌};
 ghost use Rattle.std.specs.List.{before_first, position_or_len};
 ghost use Rattle.std.specs.Str.{bytes_eq};
 ghost use Rattle.mqtt5_base.specs.Grammar.{is_among, is_qos, number};
@@ -8,10 +8,10 @@ ghost use Rattle.mqtt5_base.specs.Answers.{Finds};
 ghost use Rattle.mqtt5_base.specs.Reading.{judged};
 ghost use Rattle.mqtt5_base.specs.Topics.{IsMatching, are_valid, has_wildcards, is_reserved, is_valid_filter, is_valid_topic, levels, match_levels, topic_matches};
 ghost use Rattle.mqtt5_base.specs.Views.{qos_number};
-ghost use Rattle.mqtt5_base.specs.Walk.{common_len, match_behind, plain_len, valid_behind};
+ghost use Rattle.mqtt5_base.specs.Walk.{common_len, level_len, match_behind, plain_len, valid_behind};
 
 use crate::error::Error;
-use crate::lanes::{LANES, common_end, plain_end};
+use crate::lanes::{LANES, common_end, plain_end, slash_end};
 use crate::quality::QoS;
 
 /// The QoS of a number, which is 0, 1 or 2; None of another.
@@ -199,13 +199,31 @@ fn common_len(topic: &[u8], filter: &[u8]) -> usize
     len + common_by_bytes(&topic[len..], &filter[len..])
 }
 
-/// How many bytes the first level of a text has.
-fn level_len(text: &[u8]) -> usize
-    ensures value { result ≡ position_or_len (λ b. b == 47) text.now }
+/// How many bytes the first level of a text has, one by one.
+fn level_by_bytes(text: &[u8]) -> usize
+    ensures value { result ≡ level_len text.now }
     ensures within { result ≤ length text.now }
 {
-    // A text has its first level in common with itself.
-    common_len(text, text)
+    let mut len = 0;
+    while len < text.len() && text[len] != b'/' {
+        len += 1;
+    }
+    len
+}
+
+/// How many bytes the first level of a text has.
+fn level_len(text: &[u8]) -> usize
+    ensures value { result ≡ level_len text.now }
+    ensures within { result ≤ length text.now }
+{
+    let mut len = 0;
+    while LANES <= text.len() - len {
+        if let Some(end) = slash_end(&text[len..]) {
+            return len + end;
+        }
+        len += LANES;
+    }
+    len + level_by_bytes(&text[len..])
 }
 
 /// What is left behind a level that covers one, or whether it matches.
@@ -225,6 +243,17 @@ fn left_behind<'a>(topic: &'a [u8], filter: &'a [u8]) -> Result<(&'a [u8], &'a [
     }
 }
 
+/// Whether the first bytes tell that a topic's first level isn't covered: they differ, and the
+/// filter's is no wildcard.
+fn differ_at_once(topic: &[u8], filter: &[u8]) -> bool
+    ensures { result ≡ true → match_levels (levels topic.now) (levels filter.now) ≡ false }
+{
+    match (topic, filter) {
+        ([first, ..], [other, ..]) => first != other && *other != b'+' && *other != b'#',
+        _ => false,
+    }
+}
+
 /// What is left behind the first level of both, or whether they match.
 fn next_levels<'a>(topic: &'a [u8], filter: &'a [u8]) -> Result<(&'a [u8], &'a [u8]), bool>
     ensures value { MatchResult result
@@ -233,6 +262,9 @@ fn next_levels<'a>(topic: &'a [u8], filter: &'a [u8]) -> Result<(&'a [u8], &'a [
         (λ matches. matches ≡ match_levels (levels topic.now) (levels filter.now)) }
     ensures shorter { IfOk result (λ left. length left.1.now < length filter.now) }
 {
+    if differ_at_once(topic, filter) {
+        return Err(false);
+    }
     if begins_with_level(filter, b'#') {
         return Err(true);
     }

@@ -1,6 +1,8 @@
-use Rattle.std.proofs.Common.{◌∙◌}
-use Rattle.mqtt5_base.proofs.Marks.{common_with_itself}
+use Rattle.std.proofs.Common.{◌==◌, arith}
+use Rattle.mqtt5_base.proofs.Marks.{until_on}
 use Rattle.mqtt5_base.proofs.mqttbytes.level_len.Goals as goal
 
-pub returns-clause-value : goal.returns-clause-value
-returns-clause-value c = c.common_len.ensures.value ∙ common_with_itself c.args.text.now
+pub loop-len-preserved : goal.loop-len-preserved
+loop-len-preserved c =
+    let inside = c.loop-len-test.true in
+    (omega arith, until_on (λ b. b == 47) c.args.text.now c.loop-len.len c.loop-len.invariant.1 c.in_default.ensures.value)

@@ -1,8 +1,8 @@
 use Rattle.std.proofs.Common.{arith}
-use Rattle.mqtt5_base.proofs.Marks.{plain_on}
+use Rattle.mqtt5_base.proofs.Marks.{stops, until_on}
 use Rattle.mqtt5_base.proofs.mqttbytes.plain_len.Goals as goal
 
 pub loop-len-preserved : goal.loop-len-preserved
 loop-len-preserved c =
     let inside = c.loop-len-test.true in
-    (omega arith, plain_on c.args.text.now c.loop-len.len c.loop-len.invariant.1 c.in_default.ensures.value)
+    (omega arith, until_on stops c.args.text.now c.loop-len.len c.loop-len.invariant.1 c.in_default.ensures.value)
