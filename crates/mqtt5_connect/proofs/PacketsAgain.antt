@@ -36,7 +36,7 @@ protocol_small (suc (suc (suc zero))) = omega arith
 protocol_small (suc (suc (suc (suc i)))) = omega arith
 
 -- and so UTF-8
-protocol_is : is_utf8 protocol ≡ true
+pub protocol_is : is_utf8 protocol ≡ true
 protocol_is = is_utf8-from_IsUtf8 protocol (IsUtf8-from_ascii protocol protocol_small)
 
 -- ---- the will

@@ -1,12 +1,14 @@
 -- A Connect up to its flags, and the rest of its row.
-use Rattle.std.proofs.Common.{◌≡◌, eqb, ℕ, true, List, [], ◌∷◌, Result, Ok, Err, refl}
+use Rattle.std.proofs.Common.{◌≡◌, ◌≤◌, eqb, ℕ, true, Bool, List, [], ◌∷◌, length, get_or, drop, Result, Ok, Err, refl, ap, ◌∙◌, arith}
 use Rattle.std.specs.Int.{w8}
 use Rattle.std.specs.Str.{bytes_eq}
 use Rattle.mqtt5_base.specs.declared.error.Error.{Error}
 use Rattle.mqtt5_base.specs.Grammar.{u16, text, number, content, Value, plain, one, block, Step, there, Group, Content, Known, with_value, cut_in, read, bit_of}
 use Rattle.mqtt5_base.specs.Reading.{◌>>=◌, number_at, text_at, field_at, read_steps, parts_at, values_in}
+use Rattle.mqtt5_base.proofs.KindsAgain.{text_again}
 use Rattle.mqtt5_connect.specs.Rows.{protocol, connect_table, connect_fields, connect_parts, connect_row}
-use Rattle.mqtt5_connect.specs.Reading.{known_flags, groups_at, after_flags}
+use Rattle.mqtt5_connect.specs.Reading.{known_flags, groups_at, after_flags, name_at}
+use Rattle.mqtt5_connect.proofs.PacketsAgain.{protocol_is}
 
 -- what a row keeps and its groups, and the bytes after them
 abbrev with_rest : List Value → List Group → List ℕ → Result (Content × List ℕ) Error
@@ -68,3 +70,33 @@ rest_again first len name level flags bs = from_keep_alive (field_at (one u16) b
 pub connect_rest : (first len : ℕ) (bs name b1 : List ℕ) (level : ℕ) (b2 : List ℕ) (flags : ℕ) (b3 : List ℕ) → text_at bs ≡ Ok (name, b1) → number_at w8 b1 ≡ Ok (level, b2) → bytes_eq name protocol ≡ true → eqb level 5 ≡ true → number_at w8 b2 ≡ Ok (flags, b3)
     → values_in connect_row first len bs ≡ after_flags flags b3
 connect_rest first len bs name b1 level b2 flags b3 h1 h2 h3 h4 h5 = rw (h1, h2, h3, h4, h5) (rest_again first len name level flags b3)
+
+-- what is told of a name
+abbrev told : Bool → List ℕ → Result (Bool × List ℕ) Error
+told named bs = Ok (named, bs)
+
+-- the same, where the name was only told
+pub connect_named : (first len : ℕ) (bs b1 : List ℕ) (level : ℕ) (b2 : List ℕ) (flags : ℕ) (b3 : List ℕ) → name_at bs ≡ Ok (true, b1) → number_at w8 b1 ≡ Ok (level, b2) → eqb level 5 ≡ true → number_at w8 b2 ≡ Ok (flags, b3)
+    → values_in connect_row first len bs ≡ after_flags flags b3
+connect_named first len bs b1 level b2 flags b3 named h2 h4 h5 = by_text (text_at bs) refl named
+  where
+    by_text : (r : Result (List ℕ × List ℕ) Error) → text_at bs ≡ r → (r >>= λ t. told (bytes_eq t.0 protocol) t.1) ≡ Ok (true, b1) → values_in connect_row first len bs ≡ after_flags flags b3
+    by_text (Err e) is h = absurd cc
+    by_text (Ok t) is h =
+        let both : (bytes_eq t.0 protocol, t.1) ≡ (true, b1) = cc in
+        let spelled : bytes_eq t.0 protocol ≡ true = ap (λ (p : Bool × List ℕ). p.0) both in
+        let behind : t.1 ≡ b1 = ap (λ (p : Bool × List ℕ). p.1) both in
+        connect_rest first len bs t.0 b1 level b2 flags b3 (is ∙ ap (λ b. Ok (t.0, b)) behind) h2 spelled h4 h5
+
+-- the name at the front
+pub name_there : (bs : List ℕ) → 6 ≤ length bs → get_or bs 0 0 ≡ 0 → get_or bs 1 0 ≡ 4 → get_or bs 2 0 ≡ 77 → get_or bs 3 0 ≡ 81 → get_or bs 4 0 ≡ 84 → get_or bs 5 0 ≡ 84
+    → name_at bs ≡ Ok (true, drop 6 bs)
+name_there (a ∷ b ∷ c ∷ d ∷ e ∷ f ∷ bs) some h0 h1 h2 h3 h4 h5 =
+    let here : text_at (0 ∷ 4 ∷ 77 ∷ 81 ∷ 84 ∷ 84 ∷ bs) ≡ Ok (protocol, bs) = text_again protocol bs (omega arith) protocol_is in
+    rw (h0, h1, h2, h3, h4, h5, here) refl
+name_there (a ∷ b ∷ c ∷ d ∷ e ∷ []) some h0 h1 h2 h3 h4 h5 = absurd (omega arith)
+name_there (a ∷ b ∷ c ∷ d ∷ []) some h0 h1 h2 h3 h4 h5 = absurd (omega arith)
+name_there (a ∷ b ∷ c ∷ []) some h0 h1 h2 h3 h4 h5 = absurd (omega arith)
+name_there (a ∷ b ∷ []) some h0 h1 h2 h3 h4 h5 = absurd (omega arith)
+name_there (a ∷ []) some h0 h1 h2 h3 h4 h5 = absurd (omega arith)
+name_there [] some h0 h1 h2 h3 h4 h5 = absurd (omega arith)

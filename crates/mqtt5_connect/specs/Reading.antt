@@ -1,9 +1,14 @@
--- This file serves the logic alone: what is read of a Connect behind its flags.
-use Rattle.std.specs.Prelude.{ℕ, List, [], ◌∷◌, Result, Ok}
+-- This file serves the logic alone: what is read of a Connect's name, and behind its flags.
+use Rattle.std.specs.Prelude.{ℕ, Bool, List, [], ◌∷◌, Result, Ok}
+use Rattle.std.specs.Str.{bytes_eq}
 use Rattle.mqtt5_base.specs.declared.error.Error.{Error}
 use Rattle.mqtt5_base.specs.Grammar.{number, content, plain, Value, Group, Content, Known}
-use Rattle.mqtt5_base.specs.Reading.{◌>>=◌, read_steps, parts_at}
+use Rattle.mqtt5_base.specs.Reading.{◌>>=◌, text_at, read_steps, parts_at}
 use Rattle.mqtt5_connect.specs.Rows.{protocol, connect_fields, connect_parts}
+
+-- whether the text at the front is the protocol's name
+abbrev pub name_at : List ℕ → Result (Bool × List ℕ) Error
+name_at bs = text_at bs >>= λ t. Ok (bytes_eq t.0 protocol, t.1)
 
 -- what is known once the flags were read; neither the frame's first byte nor its length is used
 abbrev pub known_flags : ℕ → Known

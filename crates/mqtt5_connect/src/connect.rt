@@ -6,7 +6,7 @@ ghost use Rattle.mqtt5_base.specs.Reading.{values_in};
 ghost use Rattle.mqtt5_base.specs.Layout.{items_bytes, items_fit, written_bytes, written_fits, parts_fit, body_bytes, group_of, content_of_packet, layout, writing};
 ghost use Rattle.mqtt5_base.specs.Puts.{Puts, Writes};
 ghost use Rattle.mqtt5_connect.specs.Rows.{connect_table, connect_parts, connect_row};
-ghost use Rattle.mqtt5_connect.specs.Reading.{fields_at, groups_at, after_flags};
+ghost use Rattle.mqtt5_connect.specs.Reading.{fields_at, groups_at, after_flags, name_at};
 ghost use Rattle.mqtt5_connect.specs.Connects.{connect_found, connect_values, connect_flags, connect_head, will_group, login_group, connect_packet, no_connect_properties};
 
 use crate::connect_part::{fits, flags_of, len_under, put_under};
@@ -222,6 +222,19 @@ fn parts_fit(will: &Option<LastWill>, login: &Option<Login>) -> bool
     fits(will) && fits(login)
 }
 
+/// Whether the text at the front is the protocol's name. A text of its own is made of another one alone.
+#[tactic(auto, using(crate::proofs::Starts::name_there))]
+fn takes_name(alloc: Global, stream: &mut Bytes) -> Result<bool, Error>
+    ensures { Gives (λ named. (named, stream.new)) result (name_at stream.old) }
+{
+    if let [0, 4, b'M', b'Q', b'T', b'T', ..] = stream.as_slice() {
+        stream.advance(6);
+        return Ok(true);
+    }
+    let name = read_text(alloc, stream)?;
+    Ok(name.as_bytes() == b"MQTT".as_slice())
+}
+
 impl Connect {
     /// What follows the connect flags.
     fn read_after_flags(
@@ -250,9 +263,9 @@ impl Connect {
     {
         let mut stream = bytes;
         stream.advance(header.fixed_header_len);
-        let name = read_text(alloc, &mut stream)?;
+        let named = takes_name(alloc, &mut stream)?;
         let level = read_u8(&mut stream)?;
-        if name.as_bytes() != b"MQTT".as_slice() {
+        if !named {
             return Err(Error::InvalidProtocol);
         }
         if level != 5 {
