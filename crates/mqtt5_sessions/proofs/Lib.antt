@@ -2,3 +2,4 @@ pub mod Delivered
 pub mod Quiet
 pub mod Following
 pub mod Running
+pub mod Shedding

@@ -6,7 +6,7 @@ use Rattle.mqtt5_publish.specs.Rows.{publish_row}
 use Rattle.mqtt5_publish.specs.Publishes.{publish_packet}
 use Rattle.mqtt5_router.specs.Kept.{Kept}
 use Rattle.mqtt5_sessions.specs.declared.counts.Counts.{Counts}
-use Rattle.mqtt5_sessions.specs.Sessions.{ClientState, Sessions, new_state}
+use Rattle.mqtt5_sessions.specs.Sessions.{Sessions, new_state}
 
 -- how many bytes the frame of a publish has (2.1)
 abbrev pub size_of : Publish → ℕ

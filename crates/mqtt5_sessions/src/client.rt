@@ -13,8 +13,9 @@ ghost use Rattle.mqtt5_router.specs.Kept.{new_kept, without_events, without_firs
 ghost use Rattle.mqtt5_sessions.specs.Sessions.{new_state, gets, passes_here, sent_here, with_turn_of, taken_up};
 ghost use Rattle.mqtt5_sessions.specs.Counts.{counts_of};
 ghost use Rattle.mqtt5_sessions.specs.Expiry.{expiry_of, first_expiry};
+ghost use Rattle.mqtt5_sessions.specs.Shedding.{surplus};
 
-use crate::counts::{Counts, sizes};
+use crate::counts::{Counts, sizes, surplus};
 use mqtt5_base::Text;
 use mqtt5_codec::Packet;
 use mqtt5_network::Will;
@@ -82,8 +83,15 @@ impl ClientState {
         Counts {
             subscriptions: self.kept.subscriptions().len(),
             queued: self.kept.queue().len(),
-            bytes: sizes(self.kept.queue()),
+            bytes: sizes(self.kept.queue(), 0),
         }
+    }
+
+    /// How many of the first of its queue are let go, where no more may wait than so many, nor more bytes of them. Takes no memory.
+    pub(super) fn surplus(&self, most: usize, bytes: u64) -> usize
+        ensures { result ≡ surplus most bytes self.now.kept.queue }
+    {
+        surplus(self.kept.queue(), most, bytes)
     }
 
     /// A packet comes from it: what is sent back, and what is handed on.

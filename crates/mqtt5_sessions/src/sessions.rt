@@ -7,6 +7,7 @@ ghost use Rattle.mqtt5_sessions.specs.Sessions.{joins, arrives, replies, passes,
 ghost use Rattle.mqtt5_sessions.specs.Sessions.{is_due, is_here, turns, leaves, comes, sent_again, ends};
 ghost use Rattle.mqtt5_sessions.specs.Counts.{counts};
 ghost use Rattle.mqtt5_sessions.specs.Expiry.{message_expiry};
+ghost use Rattle.mqtt5_sessions.specs.Shedding.{sheds, surplus_of};
 
 use crate::client::ClientState;
 use crate::coming::{Coming, deliver_all, hand_on, is_publish, of_packet, of_will};
@@ -189,6 +190,45 @@ impl Sessions {
             return Ok(());
         }
         self.clients[client].expire();
+        Ok(())
+    }
+
+    /// How many of the first of a client's queue `shed` lets go. S12.
+    fn surplus(
+        &mut self,
+        alloc: Global,
+        client: usize,
+        most: usize,
+        bytes: u64,
+    ) -> Result<usize, StateError>
+        ensures ok { IfOk result (λ n. n ≡ surplus_of most bytes client self.old) }
+        ensures memory { IfErr result (λ e. e ≡ StateError.OutOfMemory) }
+        ensures same { self.new ≡ self.old }
+    {
+        deliver_all(alloc, &mut self.coming, &mut self.clients)?;
+        if client >= self.clients.len() {
+            return Ok(0);
+        }
+        Ok(self.clients[client].surplus(most, bytes))
+    }
+
+    /// Of a client's queue the first publishes are let go, as long as more than `most` wait, or more bytes of their frames than
+    /// `bytes`, and they are of QoS 0 (4.3.1). S12.
+    pub fn shed(
+        &mut self,
+        alloc: Global,
+        client: usize,
+        most: usize,
+        bytes: u64,
+    ) -> Result<(), StateError>
+        ensures ok { OnOk result (self.new ≡ sheds most bytes client self.old) }
+        ensures memory { IfErr result (λ e. e ≡ StateError.OutOfMemory) }
+    {
+        let mut left = self.surplus(alloc, client, most, bytes)?;
+        while left > 0 {
+            self.expire(alloc, client)?;
+            left -= 1;
+        }
         Ok(())
     }
 

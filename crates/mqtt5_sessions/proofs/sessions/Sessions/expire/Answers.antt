@@ -1,4 +1,4 @@
-use Rattle.std.proofs.Common.{List, [], false, refl, ap, ◌∙◌, arith}
+use Rattle.std.proofs.Common.{List, [], refl, ap, ◌∙◌, arith}
 use Rattle.mqtt5_publish.specs.declared.publish.Publish.{Publish}
 use Rattle.mqtt5_router.specs.Kept.{without_first}
 use Rattle.mqtt5_sessions.specs.Sessions.{ClientState, takes_out}
