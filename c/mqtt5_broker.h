@@ -45,7 +45,8 @@ uint32_t mqtt5_broker_new(mqtt5_broker *b, size_t connections, uint32_t longest,
 /* What may be kept at most, from now on; before that there is no bound. How many clients are known at once, connected or
    away, and how many messages are retained: one more is refused with Quota exceeded (0x97), but a will is retained all the
    same, and as many clients are taken as there once were. How many subscriptions a client has, how many publishes wait in
-   its queue, and how many bytes these have as frames: mqtt5_broker_trim ends the sessions of clients that have more. */
+   its queue, and how many bytes these have as frames: where more wait, mqtt5_broker_trim lets messages of QoS 0 at the
+   front of the queue go, and it ends the sessions of clients that have more all the same. */
 uint32_t mqtt5_broker_bound(
     mqtt5_broker *b, size_t clients, size_t subscriptions, size_t retained, size_t queued, uint64_t bytes);
 
@@ -108,9 +109,10 @@ uint32_t mqtt5_broker_sent(mqtt5_broker *b, size_t connection, size_t count);
    than the client takes isn't written. Where memory is refused the connection is to be closed. */
 uint32_t mqtt5_broker_pass(mqtt5_broker *b, size_t connection, uint64_t at, bool *some);
 
-/* Ends the sessions of all clients for which more is kept than may be: those that are connected are told Quota exceeded
-   (0x97), and no more bytes of them are taken. It looks at all that waits. Where memory is refused some may not have ended:
-   the call may be made again. */
+/* Lets messages of QoS 0 at the front of queues go in which more waits than may (4.3.1), and then ends the sessions of all
+   clients for which more is kept all the same: those that are connected are told Quota exceeded (0x97), and no more bytes of
+   them are taken. It looks at all that waits. Where memory is refused it may have done a part of that: the call may be made
+   again. */
 uint32_t mqtt5_broker_trim(mqtt5_broker *b);
 
 /* Its transport has ended, or was ended: its number is free. Where memory is refused all is as before, and the call may be

@@ -1857,28 +1857,40 @@ async def limits(_):
 @row(mosquitto=False)  # (its bounds have other names, and it drops messages)
 async def bounds(_):
     """What is kept at most: sessions, also of clients that are away, and retained messages; and what the server measures once a
-    second, the subscriptions of a client and what waits for it."""
-    words = "--max-sessions 4 --max-retained 2 --max-subscriptions 2 --max-queued-messages 50 --max-queued-bytes 200000"
+    second, the subscriptions of a client and what waits for it, of which messages of QoS 0 are let go."""
+    words = "--max-sessions 5 --max-retained 2 --max-subscriptions 2 --max-queued-messages 50 --max-queued-bytes 200000"
     async with started(*words.split()) as b, b.connected("bounds-pub") as pub:
         away, many, slow = b.client("bounds-away"), b.client("bounds-many"), b.client("bounds-slow", buffer=4096)
+        lossy = b.client("bounds-lossy", buffer=4096)
         await away.connect(**KEPT)
         await away.subscribe(("bounds/away", 1))
         away.cut()
         await many.connect()
         await slow.connect()
-        fifth = await b.client("").dial()
-        fifth.send(connect_frame("bounds-fifth"))
-        await fifth.is_refused(0x97)
+        await lossy.connect()
+        sixth = await b.client("").dial()
+        sixth.send(connect_frame("bounds-sixth"))
+        await sixth.is_refused(0x97)
         assert await many.subscribe("bounds/1", "bounds/2") == [2, 2]
         assert await many.subscribe("bounds/1") == [2]
         await asyncio.sleep(1.5)
         await many.ping()
         await many.subscribe("bounds/3")
         await many.ends_by(0x97)
-        await slow.subscribe(("bounds/slow", 0))
+        await slow.subscribe(("bounds/slow", 1))
         for _ in range(40):
             await pub.publish("bounds/slow", bytes(400000), 1)
         await b.says("ended: its last bytes were not taken")
+        # Of QoS 0 the first that wait are let go (4.3.1).
+        await lossy.subscribe(("bounds/lossy", 0))
+        for i in range(1600):
+            await pub.publish("bounds/lossy", i.to_bytes(2, "big") + bytes(9998), 1)
+        await asyncio.sleep(1.5)
+        got = []
+        while got[-1:] != [1599]:
+            got.append(int.from_bytes((await lossy.take()).payload[:2], "big"))
+        assert len(got) < 1600 and got == sorted(got), f"{len(got)} of 1600"
+        await lossy.ping()
         for _ in range(60):
             await pub.publish("bounds/away", b"x", 1)
         await asyncio.sleep(4)

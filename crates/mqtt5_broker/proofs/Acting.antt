@@ -19,17 +19,19 @@ use Rattle.mqtt5_broker.specs.declared.serving.Kind.{Kind}
 use Rattle.mqtt5_broker.specs.declared.serving.Kind.TheVariants as kinds
 use Rattle.mqtt5_broker.specs.Moments.{has_come}
 use Rattle.mqtt5_broker.specs.Cut.{Cut, Ending, Holds, Breaks, cut_up}
-use Rattle.mqtt5_broker.specs.Connection.{Connection, closed, shut, disconnect, taken_by, learned_topic, written, written_all, emptied, connection_at, connection_of}
+use Rattle.mqtt5_broker.specs.Connection.{Connection, closed, shut, taken_by, learned_topic, written, written_all, emptied, connection_at, connection_of}
 use Rattle.mqtt5_broker.specs.Broker.{Broker, at_moment, on_connection, on_member, away, gone, expiring, undue, member_at, has_ended, will_is_due, forgets, loses_client, leaves_client, publishes_will, stays_at, refuses, dismisses, dismisses_of, numbers, number_in, free_number, number_of, assigned_name, number_after, user_at, owner_at}
 use Rattle.mqtt5_broker.specs.Wills.{will_of}
 use Rattle.mqtt5_broker.specs.Rights.{may_do, denial, suback_for, part_of}
 use Rattle.mqtt5_broker.specs.Groups.{sessions_before, groups_without, sessions_without}
+use Rattle.mqtt5_sessions.specs.Shedding.{surplus_of, taken_out}
 use Rattle.mqtt5_sessions.specs.Counts.{counts}
-use Rattle.mqtt5_broker.specs.Serving.{kind_of, comes_to_session, arrives_from, denies, brings, goes, disconnects, serves_as, serves_by, fault_of, serves, refusal, receive_max_of, longest_of, silence_of, member_of, welcome, comes_in, displaced, displaces, starts_anew, begins, enters, turns_away, enters_if_room, assigns_by, assigns, is_its, admits_as, admits, entry_fault, connects_by, connects, begins_with, takes_under, takes_by, takes_of, takes, first_is_over, passes_of, passes_on, passes_at}
+use Rattle.mqtt5_broker.specs.Reasons.{farewell}
+use Rattle.mqtt5_broker.specs.Serving.{kind_of, comes_to_session, arrives_from, denies, brings, goes, disconnects, serves_as, serves_by, fault_of, serves, rejects_by, receive_max_of, longest_of, silence_of, member_of, welcome, comes_in, displaced, displaces, starts_anew, begins, enters, turns_away, enters_if_room, assigns_by, assigns, is_its, admits_as, admits, entry_fault, connects_by, connects, begins_with, takes_under, takes_by, takes_of, takes, first_is_over, passes_of, passes_on, passes_at}
 use Rattle.mqtt5_broker.specs.Aliases.{alias_used, unaliased, named}
 use Rattle.mqtt5_broker.specs.Expiry.{dated, counted}
 use Rattle.mqtt5_broker.specs.Receiving.{takes_all, reason_for, ends_with, comes_of, receives_now, receives}
-use Rattle.mqtt5_broker.specs.Bounds.{has_room, exceeds, ends_of, trims, trims_all}
+use Rattle.mqtt5_broker.specs.Bounds.{has_room, exceeds, ends_of, ends_over, sheds_of, trims, trims_all}
 use Rattle.mqtt5_broker.specs.Clock.{for_each, silences, silences_all, expires, ticks, ends_now, shuts_down}
 use Rattle.mqtt5_broker.specs.Acts.{Act, Session, Know, Name, Moment, Hear, Write, Shut, Welcome, Learn, Hold, Empty, act}
 use Rattle.mqtt5_broker.proofs.Steps.{IsPlain, Step, Do, Comes, Leaves, step, steps}
@@ -102,7 +104,7 @@ leaves_done i b =
 
 refuses_done : (d i : ℕ) (reason : DisconnectReasonCode) (b : Broker) → Done b (refuses d i reason b)
 unfolding refuses
-refuses_done d i reason b = done_more b (loses_client i b) _ (loses_done i b) (shut_done (disconnect reason) d (loses_client i b))
+refuses_done d i reason b = done_more b (loses_client i b) _ (loses_done i b) (shut_done (farewell (connection_at d (loses_client i b).connections).longest reason) d (loses_client i b))
 
 publishes_done : (i : ℕ) (b : Broker) → Done b (publishes_will i b)
 unfolding publishes_will
@@ -174,7 +176,7 @@ comes_done d i present given q will b =
 
 displaced_done : (o : Option ℕ) (b : Broker) → Done b (displaced o b)
 displaced_done None b = done_none b
-displaced_done (Some d) b = shut_done (disconnect reasons.SessionTakenOver) d b
+displaced_done (Some d) b = shut_done (farewell (connection_at d b.connections).longest reasons.SessionTakenOver) d b
 
 displaces_done : (i : ℕ) (b : Broker) → Done b (displaces i b)
 unfolding displaces
@@ -199,14 +201,14 @@ enters_done d given q will b =
     let known : Broker = numbers (member_of (user_at d b) q will) (free_number b.members) b in
     done_more b known _ (numbers_done (member_of (user_at d b) q will) (free_number b.members) b) (comes_done d (number_in (free_number b.members) b) false given q will known)
 
-turns_done : (d : ℕ) (code : ConnectReturnCode) (b : Broker) → Done b (turns_away d code b)
-turns_done d code b = shut_done (refusal code) d b
+turns_done : (d : ℕ) (answer : Packet) (b : Broker) → Done b (turns_away d answer b)
+turns_done d answer b = shut_done answer d b
 
 room_done : (d : ℕ) (given : Bool) (q : Connect) (will : Option LastWill) (b : Broker) → Done b (enters_if_room d given q will b)
-room_done d given q will b = done_if (has_room b) b _ _ (enters_done d given q will b) (turns_done d return_codes.QuotaExceeded b)
+room_done d given q will b = done_if (has_room b) b _ _ (enters_done d given q will b) (turns_done d (rejects_by q return_codes.QuotaExceeded) b)
 
 assigns_by_done : (o : Option ℕ) (d : ℕ) (q : Connect) (will : Option LastWill) (b : Broker) → Done b (assigns_by o d q will b)
-assigns_by_done (Some i) d q will b = turns_done d return_codes.ServerBusy b
+assigns_by_done (Some i) d q will b = turns_done d (rejects_by q return_codes.ServerBusy) b
 assigns_by_done None d q will b = room_done d true q will b
 
 assigns_done : (d : ℕ) (q : Connect) (will : Option LastWill) (b : Broker) → Done b (assigns d q will b)
@@ -221,7 +223,7 @@ returns_done d i anew q will b =
     (comes_done d i (not anew) false q will (begins i anew q will (displaces i b)))
 
 admits_as_done : (o : Option ℕ) (d : ℕ) (q : Connect) (will : Option LastWill) (b : Broker) → Done b (admits_as o d q will b)
-admits_as_done (Some i) d q will b = done_if (is_its d i b) b _ _ (returns_done d i (starts_anew i q b) q will b) (turns_done d return_codes.ClientIdentifierNotValid b)
+admits_as_done (Some i) d q will b = done_if (is_its d i b) b _ _ (returns_done d i (starts_anew i q b) q will b) (turns_done d (rejects_by q return_codes.ClientIdentifierNotValid) b)
 admits_as_done None d q will b = room_done d false q will b
 
 admits_done : (d : ℕ) (q : Connect) (will : Option LastWill) (b : Broker) → Done b (admits d q will b)
@@ -229,7 +231,7 @@ unfolding admits
 admits_done d q will b = done_if (length q.client_id.bytes == 0) b _ _ (assigns_done d q will b) (admits_as_done (number_of q.client_id b.members) d q will b)
 
 connects_by_done : (o : Option ConnectReturnCode) (d : ℕ) (q : Connect) (will : Option LastWill) (b : Broker) → Done b (connects_by o d q will b)
-connects_by_done (Some code) d q will b = turns_done d code b
+connects_by_done (Some code) d q will b = turns_done d (rejects_by q code) b
 connects_by_done None d q will b = admits_done d q will b
 
 connects_done : (d : ℕ) (q : Connect) (will : Option LastWill) (b : Broker) → Done b (connects d q will b)
@@ -333,14 +335,23 @@ shuts_down_done at b = done_more b (at_moment at b) _ (moment_done at b) (each_d
 
 ends_of_done : (o : Option ℕ) (b : Broker) → Done b (ends_of o b)
 ends_of_done None b = done_none b
-ends_of_done (Some d) b = shut_done (disconnect reasons.QuotaExceeded) d b
+ends_of_done (Some d) b = shut_done (farewell (connection_at d b.connections).longest reasons.QuotaExceeded) d b
+
+sheds_done : (n i : ℕ) (b : Broker) → Done b (record b { sessions = taken_out n i b.sessions })
+sheds_done zero i b = done_none b
+sheds_done (suc n) i b =
+    done_more b (act (Session (TakesOut i)) b) _ (done_one (Session (TakesOut i)) tt b) (sheds_done n i (act (Session (TakesOut i)) b))
+
+ends_over_done : (i : ℕ) (b : Broker) → Done b (ends_over i b)
+ends_over_done i b =
+    done_if (exceeds (counts i b.sessions) b.bounds) b _ _
+    (done_more b (forgets i b) _ (forgets_done i b) (ends_of_done (connection_of i b.connections) (forgets i b)))
+    (done_none b)
 
 trims_done : (i : ℕ) (b : Broker) → Done b (trims i b)
 unfolding trims
 trims_done i b =
-    done_if (exceeds (counts i b.sessions) b.bounds) b _ _
-    (done_more b (forgets i b) _ (forgets_done i b) (ends_of_done (connection_of i b.connections) (forgets i b)))
-    (done_none b)
+    done_more b (sheds_of i b) _ (sheds_done (surplus_of b.bounds.queued b.bounds.bytes i b.sessions) i b) (ends_over_done i (sheds_of i b))
 
 pub trims_all_done : (b : Broker) → Done b (trims_all b)
 trims_all_done b = each_done (length b.members) trims trims_done b

@@ -23,6 +23,7 @@ use Rattle.mqtt5_broker.specs.Standing.{IsStanding, client_at}
 use Rattle.mqtt5_broker.specs.Asking.{kept_on, holds, is_new, sent_by, first_by, asks_of, asks_at, identifies, rejects}
 use Rattle.mqtt5_broker.proofs.Cutting.{outcome, from_start}
 use Rattle.mqtt5_broker.proofs.Pieces.{closed_takes, closed_all, closed_ends, closed_receives, open_receives, open_within, holding_closed, holding_open, set_twice, shut_at_self}
+use Rattle.mqtt5_broker.specs.Reasons.{refusal}
 use Rattle.mqtt5_broker.proofs.Standing.{on_less, if_standing, turns_standing}
 
 -- ---- the first packet of a stream
@@ -202,4 +203,4 @@ pub identifies_standing : (c u : ℕ) (b : Broker) → IsStanding b → IsStandi
 identifies_standing c u b s = if_standing (is_new (connection_at c b.connections)) _ _ (on_less c (of_user u) b (λ l i h. h) s) s
 
 pub rejects_standing : (c : ℕ) (code : ConnectReturnCode) (b : Broker) → IsStanding b → IsStanding (rejects c code b)
-rejects_standing c code b s = if_standing (is_new (connection_at c b.connections)) _ _ (turns_standing c code b s) s
+rejects_standing c code b s = if_standing (is_new (connection_at c b.connections)) _ _ (turns_standing c (refusal code) b s) s

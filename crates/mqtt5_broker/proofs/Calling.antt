@@ -3,6 +3,7 @@ use Rattle.std.proofs.Common.{ℕ, List, [], ◌∷◌, ◌++◌, refl, sym, ap,
 use Rattle.mqtt5_sessions.specs.Runs.{after_events}
 use Rattle.mqtt5_broker.specs.Connection.{Connection, opened, of_user, connection_at}
 use Rattle.mqtt5_broker.specs.Broker.{Broker, at_moment, on_connection}
+use Rattle.mqtt5_broker.specs.Reasons.{refusal}
 use Rattle.mqtt5_broker.specs.Serving.{turns_away}
 use Rattle.mqtt5_broker.specs.Receiving.{opens}
 use Rattle.mqtt5_broker.specs.Asking.{is_new}
@@ -30,7 +31,7 @@ one_call : (c : Call) (b : Broker) → Lost b (after_call c b)
 one_call (Open at c) b = opens_lost at c b
 one_call (Hold c bytes) b = ([], refl)
 one_call (Identify c u) b = lost_if (is_new (connection_at c b.connections)) b (on_connection c (of_user u) b) b ([], refl) ([], refl)
-one_call (Reject c code) b = lost_if (is_new (connection_at c b.connections)) b (turns_away c code b) b ([], refl) ([], refl)
+one_call (Reject c code) b = lost_if (is_new (connection_at c b.connections)) b (turns_away c (refusal code) b) b ([], refl) ([], refl)
 one_call (Receive at c bytes) b = of_acts b (after_call (Receive at c bytes) b) (receives_done at c bytes b)
 one_call (Sent c count) b = ([], refl)
 one_call (Pass at c) b = of_acts b (after_call (Pass at c) b) (passes_done at c b)

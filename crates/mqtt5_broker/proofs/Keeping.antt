@@ -23,7 +23,7 @@ use Rattle.mqtt5_broker.specs.Groups.{sessions_before}
 use Rattle.mqtt5_broker.specs.Bounds.{has_room}
 use Rattle.mqtt5_broker.specs.Aliases.{alias_used, unaliased, named}
 use Rattle.mqtt5_broker.specs.Expiry.{dated, counted}
-use Rattle.mqtt5_broker.specs.Serving.{kind_of, arrives_from, denies, brings, goes, disconnects, serves_as, serves_by, fault_of, serves, refusal, longest_of, silence_of, member_of, welcome, comes_in, displaced, displaces, starts_anew, begins, enters, turns_away, enters_if_room, assigns_by, assigns, is_its, admits_as, admits, entry_fault, connects_by, connects, begins_with, takes_under, takes_by, takes_of, takes}
+use Rattle.mqtt5_broker.specs.Serving.{kind_of, arrives_from, denies, brings, goes, disconnects, serves_as, serves_by, fault_of, serves, rejects_by, longest_of, silence_of, member_of, welcome, comes_in, displaced, displaces, starts_anew, begins, enters, turns_away, enters_if_room, assigns_by, assigns, is_its, admits_as, admits, entry_fault, connects_by, connects, begins_with, takes_under, takes_by, takes_of, takes}
 use Rattle.mqtt5_broker.specs.Receiving.{takes_all}
 
 -- ---- connections
@@ -160,14 +160,14 @@ module _ (c n at : ℕ) where
   unfolding enters
   enters_keeps d given q will b k = comes_keeps d (number_in (free_number b.members) b) false given q will _ (numbers_keeps (member_of (user_at d b) q will) (free_number b.members) b k)
 
-  turns_keeps : (d : ℕ) (code : ConnectReturnCode) (b : Broker) → Keeps c n at b → Keeps c n at (turns_away d code b)
-  turns_keeps d code b k = on_keeps d (λ (l : Connection). shut (written (refusal code) l)) b (λ l h. refl) k
+  turns_keeps : (d : ℕ) (answer : Packet) (b : Broker) → Keeps c n at b → Keeps c n at (turns_away d answer b)
+  turns_keeps d answer b k = on_keeps d (λ (l : Connection). shut (written answer l)) b (λ l h. refl) k
 
   room_keeps : (d : ℕ) (given : Bool) (q : Connect) (will : Option LastWill) (b : Broker) → Keeps c n at b → Keeps c n at (enters_if_room d given q will b)
-  room_keeps d given q will b k = if_keeps (has_room b) _ _ (enters_keeps d given q will b k) (turns_keeps d return_codes.QuotaExceeded b k)
+  room_keeps d given q will b k = if_keeps (has_room b) _ _ (enters_keeps d given q will b k) (turns_keeps d (rejects_by q return_codes.QuotaExceeded) b k)
 
   assigns_by_keeps : (o : Option ℕ) (d : ℕ) (q : Connect) (will : Option LastWill) (b : Broker) → Keeps c n at b → Keeps c n at (assigns_by o d q will b)
-  assigns_by_keeps (Some i) d q will b k = turns_keeps d return_codes.ServerBusy b k
+  assigns_by_keeps (Some i) d q will b k = turns_keeps d (rejects_by q return_codes.ServerBusy) b k
   assigns_by_keeps None d q will b k = room_keeps d true q will b k
 
   assigns_keeps : (d : ℕ) (q : Connect) (will : Option LastWill) (b : Broker) → Keeps c n at b → Keeps c n at (assigns d q will b)
@@ -177,7 +177,7 @@ module _ (c n at : ℕ) where
   admits_as_keeps : (o : Option ℕ) (d : ℕ) (q : Connect) (will : Option LastWill) (b : Broker) → Keeps c n at b → Keeps c n at (admits_as o d q will b)
   admits_as_keeps (Some i) d q will b k =
       if_keeps (is_its d i b) _ _ (comes_keeps d i (not (starts_anew i q b)) false q will (begins i (starts_anew i q b) q will (displaces i b)) (begins_keeps i (starts_anew i q b) q will (displaces i b) (displaces_keeps i b k)))
-      (turns_keeps d return_codes.ClientIdentifierNotValid b k)
+      (turns_keeps d (rejects_by q return_codes.ClientIdentifierNotValid) b k)
   admits_as_keeps None d q will b k = room_keeps d false q will b k
 
   admits_keeps : (d : ℕ) (q : Connect) (will : Option LastWill) (b : Broker) → Keeps c n at b → Keeps c n at (admits d q will b)
@@ -185,7 +185,7 @@ module _ (c n at : ℕ) where
   admits_keeps d q will b k = if_keeps (length q.client_id.bytes == 0) _ _ (assigns_keeps d q will b k) (admits_as_keeps (number_of q.client_id b.members) d q will b k)
 
   connects_by_keeps : (o : Option ConnectReturnCode) (d : ℕ) (q : Connect) (will : Option LastWill) (b : Broker) → Keeps c n at b → Keeps c n at (connects_by o d q will b)
-  connects_by_keeps (Some code) d q will b k = turns_keeps d code b k
+  connects_by_keeps (Some code) d q will b k = turns_keeps d (rejects_by q code) b k
   connects_by_keeps None d q will b k = admits_keeps d q will b k
 
   connects_keeps : (d : ℕ) (q : Connect) (will : Option LastWill) (b : Broker) → Keeps c n at b → Keeps c n at (connects d q will b)

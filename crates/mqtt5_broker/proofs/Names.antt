@@ -1,5 +1,5 @@
 -- Texts that are made.
-use Rattle.std.proofs.Common.{◌≡◌, ℕ, Bool, true, false, List, [], ◌++◌, refl, sym, ap, ◌∙◌, codes}
+use Rattle.std.proofs.Common.{◌≡◌, ℕ, Bool, true, false, List, [], ◌++◌, Result, Ok, Err, IfOk, refl, sym, ap, ◌∙◌, codes}
 use Rattle.std.specs.Fmt.{decimal}
 use Rattle.std.specs.Str.{is_utf8}
 use Rattle.mqtt5_base.specs.Texts.{Utf8, text_by, text_of}
@@ -8,6 +8,11 @@ use Rattle.mqtt5_broker.specs.Broker.{assigned_name}
 
 pub text_is : (t : Utf8) (bs : List ℕ) → t.bytes ≡ bs → t ≡ text_of bs
 text_is t bs e = sym (text_back t) ∙ ap text_of e
+
+-- one that may be refused
+pub text_if : {E : Type 0} (r : Result Utf8 E) (bs : List ℕ) → IfOk r (λ t. t.bytes ≡ bs) → IfOk r (λ t. t ≡ text_of bs)
+text_if (Ok t) bs h = text_is t bs h
+text_if (Err e) bs h = tt
 
 -- its bytes, where they are UTF-8, and else none
 bytes_by : (bs : List ℕ) (b : Bool) (e : is_utf8 bs ≡ b) → b ≡ true → (text_by bs b e).bytes ≡ bs

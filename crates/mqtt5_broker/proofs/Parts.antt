@@ -27,6 +27,7 @@ use Rattle.mqtt5_sessions.specs.Runs.{SessionEvent, after_event}
 use Rattle.mqtt5_broker.specs.Connection.{Connection, opened, of_user, connection_at}
 use Rattle.mqtt5_broker.specs.Groups.{Group, gives_all, turns_met, rotates, rotated_for, turned_for, groups_turned, sessions_turned, groups_before, sessions_before, joins_all, parts_from, asks_shared, ends_shared, groups_after, sessions_after, has_members, without_member, is_among, groups_without, sessions_without}
 use Rattle.mqtt5_broker.specs.Broker.{Broker, at_moment, on_connection, loses_client}
+use Rattle.mqtt5_broker.specs.Reasons.{refusal}
 use Rattle.mqtt5_broker.specs.Serving.{has_any, turns_away}
 use Rattle.mqtt5_broker.specs.Receiving.{closes_of, closes_now}
 use Rattle.mqtt5_broker.specs.Asking.{is_new}
@@ -395,7 +396,7 @@ call_shared (Open at c) b q =
     if_shared (connection_at c d.connections).is_open d (on_connection c (λ (l : Connection). opened d.wait d.moment) d) q q
 call_shared (calls.Hold c bytes) b q = q
 call_shared (Identify c u) b q = if_shared (is_new (connection_at c b.connections)) (on_connection c (of_user u) b) b q q
-call_shared (Reject c code) b q = if_shared (is_new (connection_at c b.connections)) (turns_away c code b) b q q
+call_shared (Reject c code) b q = if_shared (is_new (connection_at c b.connections)) (turns_away c (refusal code) b) b q q
 call_shared (Receive at c bytes) b q = done_shared b _ (receives_done at c bytes b) q
 call_shared (Sent c count) b q = q
 call_shared (Pass at c) b q = done_shared b _ (passes_done at c b) q

@@ -29,7 +29,8 @@ use Rattle.mqtt5_broker.specs.Rights.{Rights, no_rights, publishing, subscribing
 use Rattle.mqtt5_broker.specs.Connection.{Connection, of_user, shut, written, with_sent, connection_at}
 use Rattle.mqtt5_broker.specs.Broker.{Broker, on_connection, knows_user, lets, number_of, user_at, owner_at, is_same, refuses}
 use Rattle.mqtt5_broker.specs.Asking.{kept_on, is_new}
-use Rattle.mqtt5_broker.specs.Serving.{arrives_from, denies, brings, serves_by, fault_of, serves, refusal, turns_away, returns, assigns, admits_as, admits, entry_fault, connects_by, connects}
+use Rattle.mqtt5_broker.specs.Reasons.{refusal}
+use Rattle.mqtt5_broker.specs.Serving.{arrives_from, denies, brings, serves_by, fault_of, serves, rejects_by, turns_away, returns, assigns, admits_as, admits, entry_fault, connects_by, connects}
 use Rattle.mqtt5_broker.specs.Judging.{first_code, connect_fault}
 use Rattle.mqtt5_broker.specs.Standing.{IsStanding}
 use Rattle.mqtt5_broker.specs.Within.{subscriptions_in, subscriptions_at, AreWithin, IsWithin}
@@ -105,7 +106,7 @@ one_within : (c : Call) (b : Broker) → IsStanding b → IsWithin b → IsWithi
 one_within (Open at c) b s w = opens_within at c b w
 one_within (Hold c bytes) b s w = on_within c (kept_on bytes) b w
 one_within (Identify c u) b s w = choice_within (is_new (connection_at c b.connections)) (on_connection c (of_user u) b) b (on_within c (of_user u) b w) w
-one_within (Reject c code) b s w = choice_within (is_new (connection_at c b.connections)) (turns_away c code b) b (on_within c (λ (l : Connection). shut (written (refusal code) l)) b w) w
+one_within (Reject c code) b s w = choice_within (is_new (connection_at c b.connections)) (turns_away c (refusal code) b) b (on_within c (λ (l : Connection). shut (written (refusal code) l)) b w) w
 one_within (Receive at c bytes) b s w = receives_within at c bytes b s w
 one_within (Sent c count) b s w = on_within c (with_sent count) b w
 one_within (Pass at c) b s w = passes_within at c b w
@@ -225,12 +226,12 @@ module _ (c i : ℕ) (p : Publish) (b : Broker) (h : may_publish (owner_at i b.m
 
 -- a will
 module _ (c : ℕ) (k : Connect) (w : LastWill) (b : Broker) (h : may_publish (user_at c b) b.rights w.topic ≡ false) where
-  refused_by : (o : Option ConnectReturnCode) → (code : ConnectReturnCode) × (connects_by (first_code o (will_denial (user_at c b) b.rights (Some w))) c k (Some w) b ≡ turns_away c code b)
+  refused_by : (o : Option ConnectReturnCode) → (code : ConnectReturnCode) × (connects_by (first_code o (will_denial (user_at c b) b.rights (Some w))) c k (Some w) b ≡ turns_away c (rejects_by k code) b)
   refused_by (Some code) = (code, refl)
   refused_by None =
       (return_codes.NotAuthorized, ap (λ (v : Bool). connects_by (if v then None else Some return_codes.NotAuthorized) c k (Some w) b) h)
 
-  pub will_refused : (code : ConnectReturnCode) × (connects c k (Some w) b ≡ turns_away c code b)
+  pub will_refused : (code : ConnectReturnCode) × (connects c k (Some w) b ≡ turns_away c (rejects_by k code) b)
   unfolding connects entry_fault
   will_refused = refused_by (connect_fault k (Some w))
 
@@ -239,9 +240,9 @@ pub part_allowed : (u : ℕ) (rs : List Rights) (s : Subscribe) → may_do (Some
 part_allowed u rs s = all_filtered (may_subscribe (Some u) rs) s.filters
 
 -- the session of another user
-pub other_refused : (c i : ℕ) (k : Connect) (will : Option LastWill) (b : Broker) → (length k.client_id.bytes == 0) ≡ false → number_of k.client_id b.members ≡ Some i → is_same (user_at c b) (owner_at i b.members) ≡ false → admits c k will b ≡ turns_away c return_codes.ClientIdentifierNotValid b
+pub other_refused : (c i : ℕ) (k : Connect) (will : Option LastWill) (b : Broker) → (length k.client_id.bytes == 0) ≡ false → number_of k.client_id b.members ≡ Some i → is_same (user_at c b) (owner_at i b.members) ≡ false → admits c k will b ≡ turns_away c (rejects_by k return_codes.ClientIdentifierNotValid) b
 unfolding admits
 other_refused c i k will b named e h =
     ap (λ (v : Bool). if v then assigns c k will b else admits_as (number_of k.client_id b.members) c k will b) named
     ∙ ap (λ (o : Option ℕ). admits_as o c k will b) e
-    ∙ ap (λ (v : Bool). if v then returns c i k will b else turns_away c return_codes.ClientIdentifierNotValid b) h
+    ∙ ap (λ (v : Bool). if v then returns c i k will b else turns_away c (rejects_by k return_codes.ClientIdentifierNotValid) b) h

@@ -30,9 +30,9 @@ use Rattle.mqtt5_broker.specs.Connection.{Connection, closed, opened, shut, told
 use Rattle.mqtt5_broker.specs.Broker.{Broker, at_moment, on_connection, on_member, away, gone, expiring, undue, member_at, has_ended, will_is_due, forgets, loses_client, leaves_client, publishes_will, stays_at, refuses, dismisses, dismisses_of, numbers, number_in, free_number, is_named, number_of, assigned_name, number_after, user_at, owner_at}
 use Rattle.mqtt5_broker.specs.Rights.{may_do, denial, suback_for, part_of}
 use Rattle.mqtt5_broker.specs.Groups.{sessions_before}
-use Rattle.mqtt5_broker.specs.Bounds.{has_room, exceeds, ends_of, trims, trims_all}
+use Rattle.mqtt5_broker.specs.Bounds.{has_room, exceeds, ends_of, ends_over, sheds_of, trims, trims_all}
 use Rattle.mqtt5_broker.specs.Aliases.{alias_used, unaliased, named}
-use Rattle.mqtt5_broker.specs.Serving.{kind_of, comes_to_session, arrives_from, denies, brings, goes, disconnects, serves_as, serves_by, fault_of, serves, refusal, longest_of, silence_of, member_of, welcome, comes_in, displaced, displaces, starts_anew, begins, returns, enters, turns_away, enters_if_room, assigns_by, assigns, is_its, admits_as, admits, entry_fault, connects_by, connects, begins_with, takes_under, takes_by, takes_of, takes, first_is_over, passes_of, passes_on, passes_at}
+use Rattle.mqtt5_broker.specs.Serving.{kind_of, comes_to_session, arrives_from, denies, brings, goes, disconnects, serves_as, serves_by, fault_of, serves, rejects_by, longest_of, silence_of, member_of, welcome, comes_in, displaced, displaces, starts_anew, begins, returns, enters, turns_away, enters_if_room, assigns_by, assigns, is_its, admits_as, admits, entry_fault, connects_by, connects, begins_with, takes_under, takes_by, takes_of, takes, first_is_over, passes_of, passes_on, passes_at}
 use Rattle.mqtt5_broker.specs.Expiry.{dated, counted}
 use Rattle.mqtt5_broker.specs.Receiving.{takes_all, reason_for, ends_with, receives_now, receives, opens_now, opens, closes_of, closes_now, closes}
 use Rattle.mqtt5_broker.specs.Clock.{for_each, silences, silences_all, expires, ticks, ends_now, shuts_down}
@@ -372,14 +372,14 @@ enters_standing : (d : ℕ) (given : Bool) (q : Connect) (will : Option LastWill
 unfolding enters
 enters_standing d given q will b s = numbers_standing (free_number b.members) (user_at d b) d given q will b refl s
 
-pub turns_standing : (d : ℕ) (code : ConnectReturnCode) (b : Broker) → IsStanding b → IsStanding (turns_away d code b)
-turns_standing d code b s = on_less d (λ (l : Connection). shut (written (refusal code) l)) b (shut_lets (λ (l : Connection). shut (written (refusal code) l)) (λ l. refl)) s
+pub turns_standing : (d : ℕ) (answer : Packet) (b : Broker) → IsStanding b → IsStanding (turns_away d answer b)
+turns_standing d answer b s = on_less d (λ (l : Connection). shut (written answer l)) b (shut_lets (λ (l : Connection). shut (written answer l)) (λ l. refl)) s
 
 room_standing : (d : ℕ) (given : Bool) (q : Connect) (will : Option LastWill) (b : Broker) → IsStanding b → IsStanding (enters_if_room d given q will b)
-room_standing d given q will b s = if_standing (has_room b) _ _ (enters_standing d given q will b s) (turns_standing d return_codes.QuotaExceeded b s)
+room_standing d given q will b s = if_standing (has_room b) _ _ (enters_standing d given q will b s) (turns_standing d (rejects_by q return_codes.QuotaExceeded) b s)
 
 assigns_by_standing : (o : Option ℕ) (d : ℕ) (q : Connect) (will : Option LastWill) (b : Broker) → IsStanding b → IsStanding (assigns_by o d q will b)
-assigns_by_standing (Some i) d q will b s = turns_standing d return_codes.ServerBusy b s
+assigns_by_standing (Some i) d q will b s = turns_standing d (rejects_by q return_codes.ServerBusy) b s
 assigns_by_standing None d q will b s = room_standing d true q will b s
 
 assigns_standing : (d : ℕ) (q : Connect) (will : Option LastWill) (b : Broker) → IsStanding b → IsStanding (assigns d q will b)
@@ -388,7 +388,7 @@ assigns_standing d q will b s = assigns_by_standing (number_of (assigned_name b.
 
 admits_as_standing : (o : Option ℕ) (d : ℕ) (q : Connect) (will : Option LastWill) (b : Broker) → number_of q.client_id b.members ≡ o → IsStanding b → IsStanding (admits_as o d q will b)
 admits_as_standing (Some i) d q will b e s =
-    if_standing (is_its d i b) _ _ (returns_standing d i q will b (position-Some (is_named q.client_id) b.members i None e).0 s) (turns_standing d return_codes.ClientIdentifierNotValid b s)
+    if_standing (is_its d i b) _ _ (returns_standing d i q will b (position-Some (is_named q.client_id) b.members i None e).0 s) (turns_standing d (rejects_by q return_codes.ClientIdentifierNotValid) b s)
 admits_as_standing None d q will b e s = room_standing d false q will b s
 
 admits_standing : (d : ℕ) (q : Connect) (will : Option LastWill) (b : Broker) → IsStanding b → IsStanding (admits d q will b)
@@ -396,7 +396,7 @@ unfolding admits
 admits_standing d q will b s = if_standing (length q.client_id.bytes == 0) _ _ (assigns_standing d q will b s) (admits_as_standing (number_of q.client_id b.members) d q will b refl s)
 
 connects_by_standing : (o : Option ConnectReturnCode) (d : ℕ) (q : Connect) (will : Option LastWill) (b : Broker) → IsStanding b → IsStanding (connects_by o d q will b)
-connects_by_standing (Some code) d q will b s = turns_standing d code b s
+connects_by_standing (Some code) d q will b s = turns_standing d (rejects_by q code) b s
 connects_by_standing None d q will b s = admits_standing d q will b s
 
 connects_standing : (d : ℕ) (q : Connect) (will : Option LastWill) (b : Broker) → IsStanding b → IsStanding (connects d q will b)
@@ -561,9 +561,12 @@ ends_of_standing : (o : Option ℕ) (i : ℕ) (b : Broker) → connection_of i b
 ends_of_standing None i b e s = forgets_standing i b (position_free i b.connections e) s
 ends_of_standing (Some d) i b e s = ends_standing d i (told reasons.QuotaExceeded) b (forgets i b) (λ l. refl) (position_client i d b.connections e) (forgets_changes i b) s
 
+ends_over_standing : (i : ℕ) (b : Broker) → IsStanding b → IsStanding (ends_over i b)
+ends_over_standing i b s = if_standing (exceeds (counts i b.sessions) b.bounds) _ _ (ends_of_standing (connection_of i b.connections) i b refl s) s
+
 trims_standing : (i : ℕ) (b : Broker) → IsStanding b → IsStanding (trims i b)
 unfolding trims
-trims_standing i b s = if_standing (exceeds (counts i b.sessions) b.bounds) _ _ (ends_of_standing (connection_of i b.connections) i b refl s) s
+trims_standing i b s = ends_over_standing i (sheds_of i b) (record { one = s.one; here = s.here })
 
 pub trims_all_standing : (b : Broker) → IsStanding b → IsStanding (trims_all b)
 trims_all_standing b s = each_standing (length b.members) trims trims_standing b s

@@ -28,6 +28,7 @@ use Rattle.mqtt5_network.specs.Place.{message_of}
 use Rattle.mqtt5_network.specs.declared.event.Will.{Will}
 use Rattle.mqtt5_router.specs.Kept.{without_events, kept_of, alone, after_packet}
 use Rattle.mqtt5_sessions.specs.Sessions.{Sessions, ClientState, new_state, gets, with_client, arrives, replies, passed, passes, takes_out, loses, is_due, leaves, comes, ends}
+use Rattle.mqtt5_sessions.specs.Shedding.{surplus_of, taken_out}
 use Rattle.mqtt5_sessions.specs.Counts.{counts}
 use Rattle.mqtt5_broker.specs.declared.member.Member.{Member}
 use Rattle.mqtt5_broker.specs.declared.serving.Kind.{Kind}
@@ -39,9 +40,9 @@ use Rattle.mqtt5_broker.specs.Groups.{Group, groups_before, sessions_before, gro
 use Rattle.mqtt5_broker.specs.Connection.{Connection, closed, opened, shut, told, heard, taken_by, learned, learned_topic, written, written_all, holding, emptied, connection_at, connection_of}
 use Rattle.mqtt5_broker.specs.Broker.{Broker, at_moment, on_connection, on_member, away, gone, expiring, undue, member_at, has_ended, will_is_due, forgets, loses_client, leaves_client, publishes_will, stays_at, refuses, dismisses, dismisses_of, numbers, number_in, free_number, number_of, assigned_name, number_after, user_at, owner_of, owner_at}
 use Rattle.mqtt5_broker.specs.Wills.{will_of}
-use Rattle.mqtt5_broker.specs.Bounds.{has_room, exceeds, ends_of, trims, trims_all}
+use Rattle.mqtt5_broker.specs.Bounds.{has_room, exceeds, ends_of, ends_over, sheds_of, trims, trims_all}
 use Rattle.mqtt5_broker.specs.Aliases.{alias_used, unaliased, named}
-use Rattle.mqtt5_broker.specs.Serving.{answers, kind_of, comes_to_session, arrives_from, denies, brings, goes, disconnects, serves_as, serves_by, fault_of, serves, refusal, receive_max_of, longest_of, silence_of, member_of, welcome, comes_in, displaced, displaces, starts_anew, begins, returns, enters, turns_away, enters_if_room, assigns_by, assigns, is_its, admits_as, admits, entry_fault, connects_by, connects, begins_with, takes_under, takes_by, takes_of, takes, first_is_over, passes_of, passes_on, passes_at}
+use Rattle.mqtt5_broker.specs.Serving.{answers, kind_of, comes_to_session, arrives_from, denies, brings, goes, disconnects, serves_as, serves_by, fault_of, serves, rejects_by, receive_max_of, longest_of, silence_of, member_of, welcome, comes_in, displaced, displaces, starts_anew, begins, returns, enters, turns_away, enters_if_room, assigns_by, assigns, is_its, admits_as, admits, entry_fault, connects_by, connects, begins_with, takes_under, takes_by, takes_of, takes, first_is_over, passes_of, passes_on, passes_at}
 use Rattle.mqtt5_broker.specs.Expiry.{dated, counted}
 use Rattle.mqtt5_broker.specs.Receiving.{takes_all, reason_for, ends_with, receives_now, receives, opens, closes_of, closes_now, closes}
 use Rattle.mqtt5_broker.specs.Clock.{for_each, silences, silences_all, expires, ticks, ends_now, shuts_down}
@@ -458,14 +459,14 @@ enters_within : (d : ℕ) (given : Bool) (q : Connect) (will : Option LastWill) 
 unfolding enters
 enters_within d given q will b w = comes_in_within d (number_in (free_number b.members) b) false given q will _ (numbers_within (member_of (user_at d b) q will) (free_number b.members) b refl w)
 
-turns_within : (d : ℕ) (code : ConnectReturnCode) (b : Broker) → IsWithin b → IsWithin (turns_away d code b)
-turns_within d code b w = connected_within d (λ (l : Connection). shut (written (refusal code) l)) b w
+turns_within : (d : ℕ) (answer : Packet) (b : Broker) → IsWithin b → IsWithin (turns_away d answer b)
+turns_within d answer b w = connected_within d (λ (l : Connection). shut (written answer l)) b w
 
 room_within : (d : ℕ) (given : Bool) (q : Connect) (will : Option LastWill) (b : Broker) → IsWithin b → IsWithin (enters_if_room d given q will b)
-room_within d given q will b w = if_within (has_room b) _ _ (enters_within d given q will b w) (turns_within d return_codes.QuotaExceeded b w)
+room_within d given q will b w = if_within (has_room b) _ _ (enters_within d given q will b w) (turns_within d (rejects_by q return_codes.QuotaExceeded) b w)
 
 assigns_by_within : (o : Option ℕ) (d : ℕ) (q : Connect) (will : Option LastWill) (b : Broker) → IsWithin b → IsWithin (assigns_by o d q will b)
-assigns_by_within (Some i) d q will b w = turns_within d return_codes.ServerBusy b w
+assigns_by_within (Some i) d q will b w = turns_within d (rejects_by q return_codes.ServerBusy) b w
 assigns_by_within None d q will b w = room_within d true q will b w
 
 assigns_within : (d : ℕ) (q : Connect) (will : Option LastWill) (b : Broker) → IsWithin b → IsWithin (assigns d q will b)
@@ -475,7 +476,7 @@ assigns_within d q will b w =
     (record { numbers = w.numbers; none = w.none; within = w.within })
 
 admits_as_within : (o : Option ℕ) (d : ℕ) (q : Connect) (will : Option LastWill) (b : Broker) → IsWithin b → IsWithin (admits_as o d q will b)
-admits_as_within (Some i) d q will b w = if_within (is_its d i b) _ _ (returns_within d i q will b w) (turns_within d return_codes.ClientIdentifierNotValid b w)
+admits_as_within (Some i) d q will b w = if_within (is_its d i b) _ _ (returns_within d i q will b w) (turns_within d (rejects_by q return_codes.ClientIdentifierNotValid) b w)
 admits_as_within None d q will b w = room_within d false q will b w
 
 admits_within : (d : ℕ) (q : Connect) (will : Option LastWill) (b : Broker) → IsWithin b → IsWithin (admits d q will b)
@@ -483,7 +484,7 @@ unfolding admits
 admits_within d q will b w = if_within (length q.client_id.bytes == 0) _ _ (assigns_within d q will b w) (admits_as_within (number_of q.client_id b.members) d q will b w)
 
 connects_by_within : (o : Option ConnectReturnCode) (d : ℕ) (q : Connect) (will : Option LastWill) (b : Broker) → IsWithin b → IsWithin (connects_by o d q will b)
-connects_by_within (Some code) d q will b w = turns_within d code b w
+connects_by_within (Some code) d q will b w = turns_within d (rejects_by q code) b w
 connects_by_within None d q will b w = admits_within d q will b w
 
 connects_within : (d : ℕ) (q : Connect) (will : Option LastWill) (b : Broker) → IsWithin b → IsWithin (connects d q will b)
@@ -604,9 +605,16 @@ ends_of_within : (o : Option ℕ) (b : Broker) → IsWithin b → IsWithin (ends
 ends_of_within None b w = w
 ends_of_within (Some c) b w = connected_within c (told reasons.QuotaExceeded) b w
 
+sheds_within : (n i : ℕ) (b : Broker) → IsWithin b → IsWithin (record b { sessions = taken_out n i b.sessions })
+sheds_within zero i b w = w
+sheds_within (suc n) i b w = sheds_within n i (record b { sessions = takes_out i b.sessions }) (fewer_within b (takes_out i b.sessions) (out_fewer i b.sessions) w)
+
+ends_over_within : (i : ℕ) (b : Broker) → IsWithin b → IsWithin (ends_over i b)
+ends_over_within i b w = if_within (exceeds (counts i b.sessions) b.bounds) _ _ (ends_of_within (connection_of i b.connections) (forgets i b) (forgets_within i b w)) w
+
 trims_within : (i : ℕ) (b : Broker) → IsWithin b → IsWithin (trims i b)
 unfolding trims
-trims_within i b w = if_within (exceeds (counts i b.sessions) b.bounds) _ _ (ends_of_within (connection_of i b.connections) (forgets i b) (forgets_within i b w)) w
+trims_within i b w = ends_over_within i (sheds_of i b) (sheds_within (surplus_of b.bounds.queued b.bounds.bytes i b.sessions) i b w)
 
 pub trims_all_within : (b : Broker) → IsWithin b → IsWithin (trims_all b)
 trims_all_within b w = each_within (length b.members) trims b trims_within w

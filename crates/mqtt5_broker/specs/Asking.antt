@@ -14,6 +14,7 @@ use Rattle.mqtt5_broker.specs.declared.asking.Asks.{Asks}
 use Rattle.mqtt5_broker.specs.declared.asking.Asks.TheVariants as asks
 use Rattle.mqtt5_broker.specs.Connection.{Connection, of_user, holding, connection_at}
 use Rattle.mqtt5_broker.specs.Broker.{Broker, on_connection}
+use Rattle.mqtt5_broker.specs.Reasons.{refusal}
 use Rattle.mqtt5_broker.specs.Serving.{turns_away}
 
 -- bytes come on a connection, and are only held, where any are taken
@@ -52,4 +53,4 @@ identifies c u b = if is_new (connection_at c b.connections) then on_connection 
 
 -- one who isn't connected is turned away
 abbrev pub rejects : ℕ → ConnectReturnCode → Broker → Broker
-rejects c code b = if is_new (connection_at c b.connections) then turns_away c code b else b
+rejects c code b = if is_new (connection_at c b.connections) then turns_away c (refusal code) b else b

@@ -11,6 +11,7 @@ use Rattle.mqtt5_codec.specs.declared.packet.Packet.TheVariants as packets
 use Rattle.mqtt5_network.specs.Retained.{is_to}
 use Rattle.mqtt5_sessions.specs.declared.counts.Counts.{Counts}
 use Rattle.mqtt5_sessions.specs.Counts.{counts}
+use Rattle.mqtt5_sessions.specs.Shedding.{sheds}
 use Rattle.mqtt5_broker.specs.declared.bounds.Bounds.{Bounds}
 use Rattle.mqtt5_broker.specs.Connection.{told, connection_of}
 use Rattle.mqtt5_broker.specs.Rights.{may_do}
@@ -57,10 +58,18 @@ ends_of None b = b
 ends_of (Some c) b = on_connection c (told reasons.QuotaExceeded) b
 
 -- then its session ends, and its connection
-unfoldable pub trims : ℕ → Broker → Broker
-trims i b =
+abbrev pub ends_over : ℕ → Broker → Broker
+ends_over i b =
     if exceeds (counts i b.sessions) b.bounds
     then ends_of (connection_of i b.connections) (forgets i b) else b
+
+-- the messages of QoS 0 at the front of its queue are let go, as long as more wait than may
+abbrev pub sheds_of : ℕ → Broker → Broker
+sheds_of i b = record b { sessions = sheds b.bounds.queued b.bounds.bytes i b.sessions }
+
+-- first these are, and where more is kept then all the same, its session ends
+unfoldable pub trims : ℕ → Broker → Broker
+trims i b = ends_over i (sheds_of i b)
 
 -- of all clients
 abbrev pub trims_all : Broker → Broker

@@ -6,10 +6,10 @@ use Rattle.std.specs.FinMap as map
 use Rattle.mqtt5_base.specs.declared.error.Error.{Error}
 use Rattle.mqtt5_control.specs.declared.disconnect.DisconnectReasonCode.{DisconnectReasonCode}
 use Rattle.mqtt5_codec.specs.declared.packet.Packet.{Packet}
-use Rattle.mqtt5_codec.specs.declared.packet.Packet.TheVariants as packets
 use Rattle.mqtt5_codec.specs.Packets.{writing_under}
 use Rattle.mqtt5_session.specs.Session.{Topics}
 use Rattle.mqtt5_broker.specs.Moments.{unless_zero}
+use Rattle.mqtt5_broker.specs.Reasons.{farewell}
 
 -- whether bytes of it are taken; the number of the client that connected on it; that of the user that
 -- it is of, if it is one's; the longest packet that this client takes; the bytes that came in and are
@@ -91,13 +91,9 @@ abbrev pub written_all : List Packet → Connection → Connection
 written_all [] l = l
 written_all (p ∷ ps) l = written_all ps (written p l)
 
--- a Disconnect (3.14)
-abbrev pub disconnect : DisconnectReasonCode → Packet
-disconnect reason = packets.Disconnect (record { reason_code = reason; properties = None })
-
 -- its client is told why it ends, and nothing more is taken of it (4.13)
 abbrev pub told : DisconnectReasonCode → Connection → Connection
-told reason l = shut (written (disconnect reason) l)
+told reason l = shut (written (farewell l.longest reason) l)
 
 -- none are held
 abbrev pub emptied : Connection → Connection

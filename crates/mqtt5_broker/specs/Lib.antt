@@ -1,5 +1,6 @@
 pub mod Cut
 pub mod Moments
+pub mod Reasons
 pub mod Rights
 pub mod Groups
 pub mod Aliases

@@ -26,6 +26,7 @@ use Rattle.mqtt5_broker.specs.Connection.{connection_at, connection_of, heard, t
 use Rattle.mqtt5_broker.specs.Connection.{learned, learned_topic}
 use Rattle.mqtt5_broker.specs.Aliases.{alias_used, unaliased, named}
 use Rattle.mqtt5_broker.specs.Expiry.{is_over, dated, counted}
+use Rattle.mqtt5_broker.specs.Reasons.{rejection}
 use Rattle.mqtt5_broker.specs.Broker.{Broker, at_moment, number_of, free_number, on_connection}
 use Rattle.mqtt5_broker.specs.Broker.{on_member}
 use Rattle.mqtt5_broker.specs.Broker.{loses_client, leaves_client, refuses, stays_at, expiring}
@@ -188,11 +189,6 @@ connack present given k b =
       properties = Some (offers given k b);
     })
 
--- why it isn't taken (3.2.2.2)
-abbrev pub refusal : ConnectReturnCode → Packet
-refusal code =
-    packets.ConnAck (record { session_present = false; code = code; properties = None })
-
 -- the first packets to a client that is taken: the answer, and what its session sends again (4.4)
 abbrev pub welcome : ℕ → Bool → Bool → Connect → Broker → List Packet
 welcome i present given k b =
@@ -246,19 +242,23 @@ enters c given k will b =
     comes_in c (number_in (free_number b.members) b) false given k will
     (numbers (member_of (user_at c b) k will) (free_number b.members) b)
 
--- a Connect is refused
-abbrev pub turns_away : ℕ → ConnectReturnCode → Broker → Broker
-turns_away c code b = on_connection c (λ (l : Connection). shut (written (refusal code) l)) b
+-- a Connect is refused by this
+abbrev pub turns_away : ℕ → Packet → Broker → Broker
+turns_away c answer b = on_connection c (λ (l : Connection). shut (written answer l)) b
+
+-- what it is told, by the longest packet that it takes (3.1.2.11.4, 3.2.2.2)
+abbrev pub rejects_by : Connect → ConnectReturnCode → Packet
+rejects_by k code = rejection (longest_of k.properties) code
 
 -- one more client enters, where there is room for it
 abbrev pub enters_if_room : ℕ → Bool → Connect → Option LastWill → Broker → Broker
 enters_if_room c given k will b =
     if has_room b then enters c given k will b
-    else turns_away c return_codes.QuotaExceeded b
+    else turns_away c (rejects_by k return_codes.QuotaExceeded) b
 
 -- one that says no name is given the next one, unless somebody has that (3.1.3.1)
 abbrev pub assigns_by : Option ℕ → ℕ → Connect → Option LastWill → Broker → Broker
-assigns_by (Some i) c k will b = turns_away c return_codes.ServerBusy b
+assigns_by (Some i) c k will b = turns_away c (rejects_by k return_codes.ServerBusy) b
 assigns_by None c k will b = enters_if_room c true k will b
 
 unfoldable pub assigns : ℕ → Connect → Option LastWill → Broker → Broker
@@ -275,7 +275,7 @@ is_its c i b = is_same (user_at c b) (owner_at i b.members)
 abbrev pub returns_to_its : ℕ → ℕ → Connect → Option LastWill → Broker → Broker
 returns_to_its c i k will b =
     if is_its c i b then returns c i k will b
-    else turns_away c return_codes.ClientIdentifierNotValid b
+    else turns_away c (rejects_by k return_codes.ClientIdentifierNotValid) b
 
 abbrev pub admits_as : Option ℕ → ℕ → Connect → Option LastWill → Broker → Broker
 admits_as (Some i) c k will b = returns_to_its c i k will b
@@ -288,7 +288,7 @@ admits c k will b =
     else admits_as (number_of k.client_id b.members) c k will b
 
 abbrev pub connects_by : Option ConnectReturnCode → ℕ → Connect → Option LastWill → Broker → Broker
-connects_by (Some code) c k will b = turns_away c code b
+connects_by (Some code) c k will b = turns_away c (rejects_by k code) b
 connects_by None c k will b = admits c k will b
 
 -- why it is refused, if it is: by itself, or since its user may not publish its will

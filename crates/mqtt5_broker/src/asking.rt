@@ -8,6 +8,7 @@ ghost use Rattle.mqtt5_broker.specs.Connection.{with_connection, connection_at};
 
 use crate::broker::Broker;
 use crate::connection::Connection;
+use crate::reasons::refusal;
 use bytes::BytesMut;
 use mqtt5_base::{Error, front_laws};
 use mqtt5_codec::{Codec, Packet, frame_laws};
@@ -160,6 +161,6 @@ impl Broker {
         if connection >= self.connections.len() || !is_new(&self.connections[connection]) {
             return Ok(());
         }
-        self.turn_away(connection, code)
+        self.turn_away(connection, refusal(code))
     }
 }

@@ -6,7 +6,7 @@ ghost use Rattle.mqtt5_network.specs.Retained.{is_to};
 ghost use Rattle.mqtt5_sessions.specs.declared.counts.Counts.{Counts};
 ghost use Rattle.mqtt5_broker.specs.Broker.{no_bounds};
 ghost use Rattle.mqtt5_broker.specs.Connection.{connection_of};
-ghost use Rattle.mqtt5_broker.specs.Bounds.{bounded, has_room, adds_retained, asks_too_much, quota_fault, exceeds, ends_of, trims, trims_all};
+ghost use Rattle.mqtt5_broker.specs.Bounds.{bounded, has_room, adds_retained, asks_too_much, quota_fault, exceeds, ends_of, ends_over, trims, trims_all};
 
 use crate::broker::Broker;
 use crate::connections::connection_of;
@@ -131,9 +131,8 @@ impl Broker {
     }
 
     /// The session of a client ends, and its connection, where more is kept for it than may be. S12.
-    #[tactic(auto, unfolding(crate::specs::Bounds::trims))]
-    fn trim_one(&mut self, alloc: Global, client: usize) -> Result<(), StateError>
-        ensures ok { OnOk result (self.new ≡ trims client self.old) }
+    fn end_over(&mut self, alloc: Global, client: usize) -> Result<(), StateError>
+        ensures ok { OnOk result (self.new ≡ ends_over client self.old) }
         ensures memory { IfErr result (λ e. e ≡ StateError.OutOfMemory) }
     {
         let counts = self.sessions.count(alloc, client)?;
@@ -146,8 +145,25 @@ impl Broker {
         Ok(())
     }
 
-    /// The session of each client ends for which more is kept than may be: one that is connected is told QuotaExceeded, and nothing
-    /// more is taken of its connection. S12.
+    /// Of a client's queue the messages of QoS 0 at the front are let go, as long as more wait than may; and its session ends, where
+    /// more is kept all the same. S12.
+    #[tactic(auto, using(crate::proofs::Shed::within_bounds), unfolding(crate::specs::Bounds::trims))]
+    fn trim_one(&mut self, alloc: Global, client: usize) -> Result<(), StateError>
+        ensures ok { OnOk result (self.new ≡ trims client self.old) }
+        ensures memory { IfErr result (λ e. e ≡ StateError.OutOfMemory) }
+    {
+        let counts = self.sessions.count(alloc, client)?;
+        if !exceeds(&counts, &self.bounds) {
+            return Ok(());
+        }
+        self.sessions
+            .shed(alloc, client, self.bounds.queued, self.bounds.bytes)?;
+        self.end_over(alloc, client)
+    }
+
+    /// Of each queue in which more waits than may the first messages are let go, as long as that is so, and they are of QoS 0 (4.3.1).
+    /// The session of each client ends for which more is kept then than may be: one that is connected is told QuotaExceeded, and
+    /// nothing more is taken of its connection. S12.
     pub fn trim(&mut self, alloc: Global) -> Result<(), StateError>
         ensures ok { OnOk result (self.new ≡ trims_all self.old) }
         ensures memory { IfErr result (λ e. e ≡ StateError.OutOfMemory) }

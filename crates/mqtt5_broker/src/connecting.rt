@@ -7,7 +7,7 @@ ghost use Rattle.mqtt5_broker.specs.declared.member.Member.{Member};
 ghost use Rattle.mqtt5_broker.specs.Connection.{Connection, shut, written, written_all, heard, taken_by};
 ghost use Rattle.mqtt5_broker.specs.Broker.{on_connection, numbers, number_in, number_of, free_number, assigned_name, number_after};
 ghost use Rattle.mqtt5_broker.specs.Expiry.{counted};
-ghost use Rattle.mqtt5_broker.specs.Serving.{longest_of, silence_of, told_keep_alive, if_any, given_name, offers, connack, refusal, welcome, comes_in, displaced, displaces, begins, returns, enters, turns_away, enters_if_room, assigns_by, assigns, returns_to_its, admits_as, admits, entry_fault, connects, begins_with, takes, takes_by, takes_of};
+ghost use Rattle.mqtt5_broker.specs.Serving.{longest_of, silence_of, told_keep_alive, if_any, given_name, offers, connack, rejects_by, welcome, comes_in, displaced, displaces, begins, returns, enters, turns_away, enters_if_room, assigns_by, assigns, returns_to_its, admits_as, admits, entry_fault, connects, begins_with, takes, takes_by, takes_of};
 
 use crate::aliases::alias_used;
 use crate::broker::Broker;
@@ -22,6 +22,7 @@ use crate::member::{
     Member, assigned_name, free_number, has_ended_at, is_same, longest_of, member_of, number_after,
     number_of, owner_at, receive_max_of, silence_of, stays_at, told_keep_alive,
 };
+use crate::reasons::rejection;
 use crate::rights::will_denial;
 use crate::wills::will_of;
 use mqtt5_base::{Text, copied};
@@ -55,17 +56,6 @@ fn given_name(given: bool, name: &Text) -> Result<Option<Text>, AllocError>
     } else {
         Ok(None)
     }
-}
-
-/// The answer to one that isn't.
-fn refusal(code: ConnectReturnCode) -> Packet
-    ensures { result ≡ refusal code }
-{
-    Packet::ConnAck(ConnAck {
-        session_present: false,
-        code,
-        properties: None,
-    })
 }
 
 impl Broker {
@@ -343,8 +333,7 @@ impl Broker {
             self.enter(alloc, connection, given, connect, will)?;
             return Ok(());
         }
-        self.turn_away(connection, ConnectReturnCode::QuotaExceeded)?;
-        Ok(())
+        self.reject_as(alloc, connection, connect, ConnectReturnCode::QuotaExceeded)
     }
 
     /// One that has a name now enters, unless somebody has that. S12.
@@ -361,10 +350,7 @@ impl Broker {
         ensures memory { IfErr result (λ e. e ≡ StateError.OutOfMemory) }
     {
         match number_of(&connect.client_id, self.members.as_slice()) {
-            Some(_) => {
-                self.turn_away(connection, ConnectReturnCode::ServerBusy)?;
-                Ok(())
-            }
+            Some(_) => self.reject_as(alloc, connection, connect, ConnectReturnCode::ServerBusy),
             None => {
                 self.enter_if_room(alloc, connection, true, connect, will)?;
                 Ok(())
@@ -411,8 +397,12 @@ impl Broker {
             self.bring_back(alloc, connection, client, connect, will)?;
             return Ok(());
         }
-        self.turn_away(connection, ConnectReturnCode::ClientIdentifierNotValid)?;
-        Ok(())
+        self.reject_as(
+            alloc,
+            connection,
+            connect,
+            ConnectReturnCode::ClientIdentifierNotValid,
+        )
     }
 
     /// A client comes that isn't refused. S12.
@@ -442,21 +432,33 @@ impl Broker {
         }
     }
 
-    /// The first packet of a connection is refused. Err where memory is refused.
-    pub(super) fn turn_away(
-        &mut self,
-        connection: usize,
-        code: ConnectReturnCode,
-    ) -> Result<(), StateError>
-        ensures ok { OnOk result (self.new ≡ turns_away connection code self.old) }
+    /// The first packet of a connection is refused by this. S12, which leaves all as it was.
+    pub(super) fn turn_away(&mut self, connection: usize, answer: Packet) -> Result<(), StateError>
+        ensures ok { OnOk result (self.new ≡ turns_away connection answer self.old) }
         ensures memory { IfErr result (λ e. e ≡ StateError.OutOfMemory) }
         ensures left { OnErr result (self.new ≡ self.old) }
     {
-        let refusal = refusal(code);
-        let refused = refuse_at(&mut self.connections, connection, &refusal);
-        drop(refusal);
+        let refused = refuse_at(&mut self.connections, connection, &answer);
+        drop(answer);
         refused?;
         Ok(())
+    }
+
+    /// A Connect is refused, and told why. S12, which leaves all as it was.
+    fn reject_as(
+        &mut self,
+        alloc: Global,
+        connection: usize,
+        connect: &Connect,
+        code: ConnectReturnCode,
+    ) -> Result<(), StateError>
+        ensures ok { OnOk result
+            (self.new ≡ turns_away connection (rejects_by connect.now code) self.old) }
+        ensures memory { IfErr result (λ e. e ≡ StateError.OutOfMemory) }
+        ensures left { OnErr result (self.new ≡ self.old) }
+    {
+        let answer = rejection(alloc, longest_of(&connect.properties), code)?;
+        self.turn_away(connection, answer)
     }
 
     /// Why a Connect is refused, if it is.
@@ -491,10 +493,7 @@ impl Broker {
         ensures memory { IfErr result (λ e. e ≡ StateError.OutOfMemory) }
     {
         match self.entry_fault(connection, connect, will) {
-            Some(code) => {
-                self.turn_away(connection, code)?;
-                Ok(())
-            }
+            Some(code) => self.reject_as(alloc, connection, connect, code),
             None => {
                 self.admit(alloc, connection, connect, will)?;
                 Ok(())

@@ -8,10 +8,11 @@ ghost use Rattle.mqtt5_broker.specs.Expiry.{counted};
 
 use crate::expiry::counted;
 use crate::moments::unless_zero;
+use crate::reasons::farewell;
 use bytes::{Bytes, BytesMut};
 use mqtt5_base::{Error, copied};
 use mqtt5_codec::Packet;
-use mqtt5_control::{Disconnect, DisconnectReasonCode};
+use mqtt5_control::DisconnectReasonCode;
 use mqtt5_inflight::Aliases;
 use std::alloc::{AllocError, Global};
 use std::collections::VecDeque;
@@ -282,9 +283,9 @@ impl Connection {
         ensures ok { OnOk result (self.new ≡ told reason self.old) }
         ensures left { OnErr result (self.new ≡ self.old) }
     {
-        let disconnect = Packet::Disconnect(Disconnect::new(reason));
-        let written = self.write(&disconnect);
-        drop(disconnect);
+        let farewell = farewell(*self.held.allocator(), self.longest, reason)?;
+        let written = self.write(&farewell);
+        drop(farewell);
         written?;
         self.shut();
         Ok(())

@@ -25,7 +25,7 @@ ghost use Rattle.mqtt5_broker.specs.Connection.{closed, with_sent, connection_at
 ghost use Rattle.mqtt5_broker.specs.Moments.{has_come};
 ghost use Rattle.mqtt5_broker.specs.Rights.{Rights, rights_at, is_within, may_publish, may_do, part_of};
 ghost use Rattle.mqtt5_broker.specs.Broker.{Broker, at_moment, on_connection, number_of, user_at, owner_at, is_same, refuses};
-ghost use Rattle.mqtt5_broker.specs.Serving.{fault_of, serves, turns_away, admits, connects, passes_at};
+ghost use Rattle.mqtt5_broker.specs.Serving.{fault_of, serves, rejects_by, turns_away, admits, connects, passes_at};
 ghost use Rattle.mqtt5_broker.specs.Receiving.{receives, ends_with, opens, closes};
 ghost use Rattle.mqtt5_broker.specs.Clock.{ticks, next_moment, shuts_down};
 ghost use Rattle.mqtt5_broker.specs.Bounds.{trims_all};
@@ -193,12 +193,13 @@ pub fn rights_law()
         × (serves c i (packets.Publish p) b ≡ refuses c i reason b)) }
     ensures will { (c : ℕ) (k : Connect) (w : LastWill) (b : Broker)
         → may_publish (user_at c b) b.rights w.topic ≡ false
-        → (code : ConnectReturnCode) × (connects c k (Some w) b ≡ turns_away c code b) }
+        → (code : ConnectReturnCode) × (connects c k (Some w) b
+        ≡ turns_away c (rejects_by k code) b) }
     // A client isn't connected under the identifier of another user's session.
     ensures other { (c i : ℕ) (k : Connect) (will : Option LastWill) (b : Broker)
         → (length k.client_id.bytes == 0) ≡ false → number_of k.client_id b.members ≡ Some i
         → is_same (user_at c b) (owner_at i b.members) ≡ false
-        → admits c k will b ≡ turns_away c return_codes.ClientIdentifierNotValid b }
+        → admits c k will b ≡ turns_away c (rejects_by k return_codes.ClientIdentifierNotValid) b }
 {
     matching_laws();
 }

@@ -16,6 +16,7 @@ mod judging;
 mod laws;
 mod member;
 mod moments;
+mod reasons;
 mod rights;
 mod serving;
 mod wills;
