@@ -1,5 +1,5 @@
 -- What is kept of each client: its flows, and of a class of QoS 2 no more is put into its queue than was handed on.
-use Rattle.std.proofs.Common.{◌≡◌, ℕ, ◌+◌, ◌≤◌, Bool, List, ◌++◌, count_by, sym, ap, subst, arith, append_assoc}
+use Rattle.std.proofs.Common.{◌≡◌, ℕ, ◌≤◌, Bool, List, ◌++◌, count_by, sym, ap, subst, arith, append_assoc}
 use Rattle.std.specs.List.{AllByRecursion, filter_map}
 use Rattle.mqtt5_base.specs.Texts.{Utf8}
 use Rattle.mqtt5_base.specs.declared.quality.QoS.TheVariants.{ExactlyOnce}
@@ -10,7 +10,8 @@ use Rattle.mqtt5_network.specs.Subscriptions.{forwarded_to}
 use Rattle.mqtt5_network.specs.Client.{Client, routed, new_client, queues, takes_turn}
 use Rattle.mqtt5_network.specs.Granted.{published, IsNew}
 use Rattle.mqtt5_network.proofs.Moves.{Move, moved}
-use Rattle.mqtt5_network.proofs.Good.{IsForwarded, all_both, IsGood, good_next, good_start, good_queues, routed_same, routed_queues}
+use Rattle.mqtt5_network.proofs.Grown.{IsForwarded, all_both}
+use Rattle.mqtt5_network.proofs.Good.{IsGood, good_next, good_start, good_queues, routed_same, routed_queues}
 use Rattle.mqtt5_network.proofs.Forwarding.{count_both, forwarded_few}
 
 -- of a class of new messages of QoS 2 no more was put into its queue than these

@@ -20,7 +20,7 @@ use Rattle.mqtt5_network.specs.Asking.{identifier_of, share_of, subscription_of}
 use Rattle.mqtt5_network.specs.Retained.{is_to, kept_of, retains, retained_after, retained_of, some_of, last_with, last_after, copied_under, copy_for, gets_copies, copies_of, copies_all, copies_for, copies_first}
 use Rattle.mqtt5_network.specs.Place.{Place, copies_in}
 use Rattle.mqtt5_network.specs.Granted.{IsNew}
-use Rattle.mqtt5_network.proofs.Good.{no_alias, IsForwarded}
+use Rattle.mqtt5_network.proofs.Grown.{no_alias, IsForwarded}
 use Rattle.mqtt5_network.proofs.Forwarding.{count_here, count_both}
 use Rattle.mqtt5_network.proofs.Clients.{AreCopies}
 

@@ -1,33 +1,31 @@
 -- What happens to a client keeps both of its flows, and what it leaves in the queue is as it is to be forwarded.
-use Rattle.std.proofs.Common.{◌≡◌, ℕ, ◌+◌, ◌-◌, ◌<◌, ◌≤◌, Bool, true, false, cond, List, [], ◌∷◌, ◌++◌, length, Option, None, Some, Result, Ok, Err, refl, sym, ap, ◌∙◌, subst, arith, append-nil, ◌==◌, count_by, append_assoc, length-append, length-drop, take, drop, take-append-drop}
-use Rattle.std.specs.Prelude.{option_map, sum_by}
+use Rattle.std.proofs.Common.{◌≡◌, ℕ, ◌+◌, ◌-◌, ◌<◌, ◌≤◌, Bool, true, false, cond, List, [], ◌∷◌, ◌++◌, length, Option, None, Some, Result, Ok, Err, refl, sym, ap, ◌∙◌, subst, arith, append-nil, ◌==◌, count_by, append_assoc, length-append, take, drop, take-append-drop}
+use Rattle.std.specs.Prelude.{sum_by}
 use Rattle.std.specs.Option.{option_to_list}
 use Rattle.std.proofs.lemmas.List.Sums.{sum_by-append, sum_by-cons}
 use Rattle.mqtt5_progress.specs.Progress.{work, work_up, found}
 use Rattle.mqtt5_network.specs.Steps.{work_from, work_about, work_to, filters_in, filters_up}
-use Rattle.std.specs.FinSet as set
-use Rattle.std.specs.List.{AllByRecursion, filter_map, cons_option}
+use Rattle.std.specs.List.{AllByRecursion, filter_map}
 use Rattle.mqtt5_base.specs.declared.quality.QoS.{QoS}
 use Rattle.mqtt5_base.specs.declared.quality.QoS.TheVariants.{AtMostOnce, AtLeastOnce, ExactlyOnce}
 use Rattle.mqtt5_publish.specs.declared.publish.Publish.{Publish}
-use Rattle.mqtt5_publish.specs.declared.publish.PublishProperties.{PublishProperties}
 use Rattle.mqtt5_codec.specs.declared.packet.Packet.{Packet}
 use Rattle.mqtt5_codec.specs.declared.packet.Packet.TheVariants as packets
 use Rattle.mqtt5_inflight.specs.declared.event.Request.TheVariants as requests
 use Rattle.mqtt5_inflight.specs.declared.error.StateError.{StateError}
-use Rattle.mqtt5_inflight.specs.Aliases.{alias_of, alias_in}
+use Rattle.mqtt5_inflight.specs.Aliases.{alias_of}
 use Rattle.mqtt5_session.specs.Session.{Core, Session, Answer}
 use Rattle.mqtt5_session.specs.Requests.{on_request, next_id, gives_id, with_event_at}
 use Rattle.mqtt5_session.specs.Packets.{on_packet}
 use Rattle.mqtt5_session.specs.Resuming.{resume_of}
 use Rattle.mqtt5_session.specs.Ledger.{kept_by}
-use Rattle.mqtt5_world.specs.Broker.{Broker, serve, serve_publish}
+use Rattle.mqtt5_world.specs.Broker.{Broker, serve}
 use Rattle.mqtt5_world.specs.World.{World}
 use Rattle.mqtt5_progress.specs.Packets.{numbered}
 use Rattle.mqtt5_progress.proofs.Closed.{Closed, IsSent, APublish, ARelease, again_of}
 use Rattle.mqtt5_network.specs.Receiver.{as_receiver, IsPlain}
-use Rattle.mqtt5_network.specs.Forwarded.{passed_on, with_identifiers}
 use Rattle.mqtt5_network.specs.Connection.{reply_in, is_sending, sent, connected, sent_in}
+use Rattle.mqtt5_network.proofs.Grown.{IsForwarded, all_both, all_dropped, all_forwarded, Grows, new_few, none_new, same, serve_grows}
 use Rattle.mqtt5_network.proofs.Taking.{back_range}
 use Rattle.mqtt5_network.proofs.Sending.{InRange, Costs, Kept, Aside, IsAnswer, ToSubscribe, ToUnsubscribe, out_apart, ack_apart, ack_kept, back_kept, subscribe_aside, unsubscribe_aside, answer_aside}
 use Rattle.mqtt5_network.proofs.Receiving.{Receives, receives}
@@ -38,7 +36,7 @@ use Rattle.mqtt5_inflight.specs.declared.event.Outgoing.TheVariants as outgoing
 use Rattle.mqtt5_inflight.specs.declared.error.StateError.TheVariants as errors
 use Rattle.mqtt5_subscribe.specs.declared.subscribe.Subscribe.{Subscribe}
 use Rattle.mqtt5_subscribe.specs.declared.unsubscribe.Unsubscribe.{Unsubscribe}
-use Rattle.mqtt5_network.specs.Subscriptions.{granted_for, holding, identifiers_of, forwarded_under, forwarded_to}
+use Rattle.mqtt5_network.specs.Subscriptions.{forwarded_to}
 use Rattle.mqtt5_network.specs.Answered.{answers_told}
 use Rattle.mqtt5_network.specs.Client.{Client, routed, new_client, asked_of, sends_of, comes_to, goes_up, takes_in, goes_down, queues, taken_for, passes_on, takes_out, reconnects}
 use Rattle.mqtt5_network.proofs.Telling.{Same, out_same, subscribe_same, unsubscribe_same, sending_same, ack_same, answer_more, back_same, Tells, tells_still, tells_same, tells_taken, tells_lost, tells_asked}
@@ -66,41 +64,12 @@ plain_sent : (x : Packet) → IsSent x → Plain x → IsPlain x
 plain_sent _ (APublish p) q = q
 plain_sent _ (ARelease id) q = refl
 
-pub no_alias : (ns : List ℕ) (o : Option PublishProperties) → alias_in (with_identifiers ns (option_map passed_on o)) ≡ None
-no_alias [] None = refl
-no_alias [] (Some set) = refl
-no_alias (n ∷ ns) None = refl
-no_alias (n ∷ ns) (Some set) = refl
-
 numbered_plain : (q : QoS) (p : Publish) (c : Core) → alias_of p ≡ None → Plain (packets.Publish (numbered q c p))
 numbered_plain AtMostOnce p c e = e
 numbered_plain AtLeastOnce p c e = e
 numbered_plain ExactlyOnce p c e = e
 
--- ---- what goes to a client
-
--- it has no topic alias, and its id is still to be given
-pub record IsForwarded (p : Publish) : Type 0 where
-  pub plain : alias_of p ≡ None
-  pub unnumbered : p.pkid ≡ 0
-
-pub all_both : (xs ys : List Publish) → AllByRecursion IsForwarded xs → AllByRecursion IsForwarded ys → AllByRecursion IsForwarded (xs ++ ys)
-all_both [] ys all more = more
-all_both (x ∷ xs) ys all more = (all.0, all_both xs ys all.1 more)
-
-all_dropped : (xs : List Publish) → AllByRecursion IsForwarded xs → AllByRecursion IsForwarded (drop 1 xs)
-all_dropped [] all = tt
-all_dropped (x ∷ xs) all = all.1
-
--- so is all that is forwarded
-module _ (own : Bool) (ss : List Subscription) where
-  all_forwarded : (ps : List Publish) → AllByRecursion IsForwarded (filter_map (forwarded_to own ss) ps)
-  all_forwarded [] = tt
-  all_forwarded (p ∷ ps) = by (granted_for own ss p) (all_forwarded ps)
-    where
-      by : (o : Option QoS) → AllByRecursion IsForwarded (filter_map (forwarded_to own ss) ps) → AllByRecursion IsForwarded (cons_option (option_map (λ q. forwarded_under (holding own ss p) q p) o) (filter_map (forwarded_to own ss) ps))
-      by None all = all
-      by (Some q) all = (record { plain = no_alias (identifiers_of (holding own ss p)) p.properties; unnumbered = refl }, all)
+-- ---- what a sender is asked for
 
 -- without the last id
 abbrev without_last : Session → Session
@@ -121,45 +90,6 @@ subscribe_others s p = by (length p.filters == 0)
 unsubscribe_others : (s : Session) (p : Unsubscribe) → Others (reply_in (on_request s (requests.Unsubscribe p) 0).0)
 unfolding on_request
 unsubscribe_others s p = record { all = refl; none = refl; rest = refl }
-
--- ---- what a receiver hands on
-
--- it only grows, by one at most
-pub record Grows (old new : List Publish) : Type 0 where
-  pub more : List Publish
-  pub grown : new ≡ old ++ more
-  pub few : length more ≤ 1
-
--- what is new is one at most
-new_few : (old new : List Publish) → Grows old new → length (drop (length old) new) ≤ 1
-new_few old new g =
-    let a = ap length g.grown in
-    let b = length-append old g.more in
-    let c = length-drop (length old) new in
-    omega (arith, a, b, c, g.few)
-
-pub none_new : (ps : List Publish) → length (drop (length ps) ps) ≤ 0
-none_new ps = let a = length-drop (length ps) ps in omega (arith, a)
-
-same : (old new : List Publish) → new ≡ old → Grows old new
-same old new e = record { more = []; grown = e ∙ sym (append-nil old); few = omega arith }
-
-one_more : (ps : List Publish) (p : Publish) → Grows ps (ps ++ p ∷ [])
-one_more ps p = record { more = p ∷ []; grown = refl; few = omega arith }
-
-publish_grows : (q : QoS) (b : Broker) (p : Publish) → Grows b.handed (serve_publish q b p).1.handed
-publish_grows AtMostOnce b p = one_more b.handed p
-publish_grows AtLeastOnce b p = one_more b.handed p
-publish_grows ExactlyOnce b p = by (set.contains b.ids p.pkid)
-  where
-    by : (c : Bool) → Grows b.handed (cond c b.handed (b.handed ++ p ∷ []))
-    by true = same b.handed b.handed refl
-    by false = one_more b.handed p
-
-serve_grows : (b : Broker) (x : Packet) → Grows b.handed (serve b x).1.handed
-serve_grows b (packets.Publish p) = publish_grows p.qos b p
-serve_grows b (packets.PubRel p) = same b.handed b.handed refl
-serve_grows b other = same b.handed b.handed refl
 
 -- ---- what is kept of a client
 

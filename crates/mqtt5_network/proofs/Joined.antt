@@ -18,7 +18,8 @@ use Rattle.mqtt5_network.specs.Client.{routed}
 use Rattle.mqtt5_network.specs.Place.{Place, ended, happens_at, becomes, becomes_with, copies_in, ends_of, queues_at}
 use Rattle.mqtt5_network.specs.Network.{Network, Profile, begins, start_network, changed, new_of, newly, routes, handed_by, ends_at, happens_in, run_network, IsReached}
 use Rattle.mqtt5_network.specs.Granted.{GoesOn}
-use Rattle.mqtt5_network.proofs.Good.{Grows, routed_queues}
+use Rattle.mqtt5_network.proofs.Grown.{Grows}
+use Rattle.mqtt5_network.proofs.Good.{routed_queues}
 use Rattle.mqtt5_network.proofs.Forwarding.{count_both}
 use Rattle.mqtt5_network.proofs.Clients.{client_start, routed_gets}
 use Rattle.mqtt5_network.proofs.Copies.{are_copies}

@@ -5,6 +5,7 @@ pub mod Flow
 pub mod Telling
 pub mod Moves
 pub mod Forwarding
+pub mod Grown
 pub mod Good
 pub mod Clients
 pub mod Counted

@@ -17,7 +17,8 @@ use Rattle.mqtt5_network.specs.Granted.{GoesOn, KeepsSubscriptions}
 use Rattle.mqtt5_network.specs.Answered.{asked_by, IsClear}
 use Rattle.mqtt5_network.proofs.Telling.{subscribe_same, unsubscribe_same, turned_without, Tells, tells_same, tells_lost, asked_away, requests_away}
 use Rattle.mqtt5_network.proofs.Moves as moves
-use Rattle.mqtt5_network.proofs.Good.{Grows, Quiet, client_grows, client_quiet, client_tells, back_heard, back_answered, back_told, routed_same}
+use Rattle.mqtt5_network.proofs.Grown.{Grows}
+use Rattle.mqtt5_network.proofs.Good.{Quiet, client_grows, client_quiet, client_tells, back_heard, back_answered, back_told, routed_same}
 use Rattle.mqtt5_network.proofs.Clients.{IsClient, AreCopies, client_start, client_moved, client_queues, client_turned, client_gets}
 
 -- ---- here and away

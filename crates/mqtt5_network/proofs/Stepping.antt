@@ -33,7 +33,8 @@ use Rattle.mqtt5_network.specs.Place.{Place, passes, happens_at, becomes_with, c
 use Rattle.mqtt5_network.specs.Network.{Network, changed, new_of, newly, routes, handed_by, happens_in, run_network, IsReached}
 use Rattle.mqtt5_network.specs.Granted.{GoesOn}
 use Rattle.mqtt5_network.specs.Steps.{IsStep, Steps, filters_in, filters_up, work_from, work_to, if_here, left_from, left_to, left_asked, work_left, client_moves, at_place, moves, moved, HereAtRest}
-use Rattle.mqtt5_network.proofs.Good.{IsForwarded, filters_first, Less, none_new, flow_from, flow_to, up_less, down_less, pass_less, sender_limited}
+use Rattle.mqtt5_network.proofs.Grown.{IsForwarded, none_new}
+use Rattle.mqtt5_network.proofs.Good.{filters_first, Less, flow_from, flow_to, up_less, down_less, pass_less, sender_limited}
 use Rattle.mqtt5_network.proofs.Clients.{IsClient}
 use Rattle.mqtt5_network.proofs.Counted.{done}
 use Rattle.mqtt5_network.proofs.Places.{IsHere, IsGone, IsPlace, goes_on}
