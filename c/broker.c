@@ -468,10 +468,22 @@ static void pass_all(void) {
     }
 }
 
-/* Ends the sessions for which more is kept than may be: now and then, since it looks at all that is. Whether it did that. */
+/* Says how many messages were let go of queues that were too long, where it is more than before. */
+static void tell_dropped(void) {
+    static uint64_t told;
+    uint64_t count = told;
+    if (mqtt5_broker_dropped(&broker, &count) != MQTT5_BROKER_DONE || count == told) return;
+    say("messages dropped from queues that were too long: %llu, %llu in all\n", (unsigned long long)(count - told),
+        (unsigned long long)count);
+    told = count;
+}
+
+/* Shortens queues, and ends the sessions for which more is kept than may be: now and then, since it looks at all that is. Whether it
+   did that. */
 static bool measure(void) {
     if (!grows || now < measures_at) return false;
-    grows = mqtt5_broker_trim(&broker) != MQTT5_BROKER_DONE;
+    grows = mqtt5_broker_trim(&broker, now) != MQTT5_BROKER_DONE;
+    tell_dropped();
     measures_at = moment() + REST + 9 * (moment() - now);
     return came = others = true;
 }
@@ -553,8 +565,8 @@ int main(int argc, char **argv) {
         fprintf(stderr, "broker: no memory for %lu connections\n", options.most);
         return 1;
     }
-    mqtt5_broker_bound(
-        &broker, options.clients, options.subscriptions, options.retained, options.queued, options.queued_bytes);
+    mqtt5_broker_bound(&broker, options.clients, options.subscriptions, options.retained, options.queued, options.queued_bytes,
+        options.oldest);
     if (options.users) rights_read(&broker, options.rights);
     catch_signals();
     listen_there();

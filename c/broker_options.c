@@ -32,6 +32,7 @@ static const char help[] =
     "  --max-retained N         how many messages are retained, else 10000\n"
     "  --max-queued-messages N  how many messages wait for a client, else 100000\n"
     "  --max-queued-bytes N     and how many bytes these have, else 67108864\n"
+    "  --discard-oldest         where more wait the oldest are dropped, of any QoS; else those of QoS 0 alone\n"
     "  --max-topic-alias N      the greatest topic alias of a client, else 10; 0 for none\n"
     "  --max-keepalive SECONDS  the longest keep alive of a client; else, or with 0, it is any\n"
     "  --wait SECONDS           how long a connection may be open without a Connect, else 10; 0 for any time\n"
@@ -78,6 +79,10 @@ void read_options(char **words) {
         }
         if (!strcmp(option, "-q") || !strcmp(option, "--quiet")) {
             options.quiet = true;
+            continue;
+        }
+        if (!strcmp(option, "--discard-oldest")) {
+            options.oldest = true;
             continue;
         }
         const char *value = words[1], **text = NULL;

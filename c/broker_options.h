@@ -10,7 +10,7 @@ struct options {
     unsigned long alias_max, keep_alive_max;          /* the greatest alias, and seconds */
     unsigned long clients, subscriptions, retained, queued, queued_bytes;
     const char *bound, *users, *rights; /* an address, and files or NULL */
-    bool quiet;
+    bool oldest, quiet; /* of long queues the oldest messages are dropped; no log */
 };
 extern struct options options;
 

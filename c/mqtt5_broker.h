@@ -46,9 +46,10 @@ uint32_t mqtt5_broker_new(mqtt5_broker *b, size_t connections, uint32_t longest,
    away, and how many messages are retained: one more is refused with Quota exceeded (0x97), but a will is retained all the
    same, and as many clients are taken as there once were. How many subscriptions a client has, how many publishes wait in
    its queue, and how many bytes these have as frames: where more wait, mqtt5_broker_trim lets messages of QoS 0 at the
-   front of the queue go, and it ends the sessions of clients that have more all the same. */
+   front of the queue go, or with `oldest` the first of any QoS, and it ends the sessions of clients that have more all the
+   same. */
 uint32_t mqtt5_broker_bound(
-    mqtt5_broker *b, size_t clients, size_t subscriptions, size_t retained, size_t queued, uint64_t bytes);
+    mqtt5_broker *b, size_t clients, size_t subscriptions, size_t retained, size_t queued, uint64_t bytes, bool oldest);
 
 /* Lets the broker go, with all that it holds; the handle is empty again. */
 uint32_t mqtt5_broker_free(mqtt5_broker *b);
@@ -109,11 +110,14 @@ uint32_t mqtt5_broker_sent(mqtt5_broker *b, size_t connection, size_t count);
    than the client takes isn't written. Where memory is refused the connection is to be closed. */
 uint32_t mqtt5_broker_pass(mqtt5_broker *b, size_t connection, uint64_t at, bool *some);
 
-/* Lets messages of QoS 0 at the front of queues go in which more waits than may (4.3.1), and then ends the sessions of all
-   clients for which more is kept all the same: those that are connected are told Quota exceeded (0x97), and no more bytes of
-   them are taken. It looks at all that waits. Where memory is refused it may have done a part of that: the call may be made
-   again. */
-uint32_t mqtt5_broker_trim(mqtt5_broker *b);
+/* At this moment lets messages at the front of queues go in which more waits than may, those of QoS 0 (4.3.1), or of any QoS where
+   mqtt5_broker_bound said so, and then ends the sessions of all clients for which more is kept all the same: those that are
+   connected are told Quota exceeded (0x97), and no more bytes of them are taken. It looks at all that waits. Where memory is
+   refused it may have done a part of that: the call may be made again. */
+uint32_t mqtt5_broker_trim(mqtt5_broker *b, uint64_t at);
+
+/* Tells how many messages mqtt5_broker_trim has let go of queues so far; those that go with a session that ends aren't among them. */
+uint32_t mqtt5_broker_dropped(mqtt5_broker *b, uint64_t *count);
 
 /* Its transport has ended, or was ended: its number is free. Where memory is refused all is as before, and the call may be
    made again. */

@@ -140,7 +140,7 @@ server_help() { sed -n '/^static const char help/,/;$/s/^ *"\(.*\)\\n";*$/\1/p' 
 is_server() {
     while [ $# -gt 0 ]; do
         case $1 in
-            -q | --quiet) ;;
+            -q | --quiet | --discard-oldest) ;;
             -p | --port | --bind | --users | --acl-file | --wait | --max-connections | --max-packet-size | --max-inflight | --max-sessions | \
                 --max-subscriptions | --max-retained | --max-queued-messages | --max-queued-bytes | --max-topic-alias | --max-keepalive)
                 [ $# -gt 1 ] || return

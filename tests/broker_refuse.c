@@ -51,8 +51,8 @@ static int failures;
 #define BYTES(literal) (const uint8_t *)(literal), sizeof(literal) - 1
 
 /* Packets of MQTT 5.0 (sections 3.1 to 3.14), by hand. The first client, s, has a keep alive of 10 seconds and a will for
-   the topic w with the payload g; the others, p and r, have none of these. e is the user eve with the password pass. */
-#define CONNECT_S "\x10\x15\0\x04MQTT\x05\x06\0\x0a\0\0\x01s\0\0\x01w\0\x01g"
+   the topic w with the payload g, which expires after 7 seconds; the others, p and r, have none of these. e is the user eve with the password pass. */
+#define CONNECT_S "\x10\x1a\0\x04MQTT\x05\x06\0\x0a\0\0\x01s\x05\x02\0\0\0\x07\0\x01w\0\x01g"
 #define CONNECT_P "\x10\x0e\0\x04MQTT\x05\x02\0\0\0\0\x01p"
 #define CONNECT_R "\x10\x0e\0\x04MQTT\x05\x02\0\0\0\0\x01r"
 #define CONNECT_E "\x10\x19\0\x04MQTT\x05\xc2\0\0\0\0\x01" "e" "\0\x03" "eve" "\0\x04" "pass"
@@ -68,7 +68,7 @@ static int failures;
 #define PUBLISH_TO_S "\x32\x07\0\x01" "a" "\0\x01\0" "x"
 #define PUBACK_OF_S "\x40\x02\0\x01"
 #define LAST "\x30\x05\0\x01" "a" "\0" "y"
-#define WILL "\x30\x05\0\x01" "w" "\0" "g"
+#define WILL "\x30\x0a\0\x01" "w" "\x05\x02\0\0\0\x07" "g"
 
 /* What came out of a dialogue: the bytes of each connection, what else was told, and how often memory was refused. */
 typedef struct {
@@ -200,7 +200,7 @@ static void begins(mqtt5_broker *b, told *t) {
         code = mqtt5_broker_new(b, 3, 64, 10, 0, 2, 0, 0);
     }
     EXPECT(code, MQTT5_BROKER_DONE);
-    EXPECT(mqtt5_broker_bound(b, 3, 1, 0, 1, 100), MQTT5_BROKER_DONE);
+    EXPECT(mqtt5_broker_bound(b, 3, 1, 0, 1, 100, false), MQTT5_BROKER_DONE);
     for (size_t connection = 0; connection < 3; connection++) {
         bool begun = false;
         EXPECT(mqtt5_broker_open(b, connection, 0, &begun), MQTT5_BROKER_DONE);
@@ -213,6 +213,7 @@ static void begins(mqtt5_broker *b, told *t) {
 static void plays(mqtt5_broker *b, told *t) {
     bool is_open, is_late;
     uint32_t code;
+    uint64_t dropped = 9;
     int before;
     begins(b, t);
     turned_away(b, 2, t);
@@ -223,7 +224,9 @@ static void plays(mqtt5_broker *b, told *t) {
     comes(b, 1, BYTES(SUBSCRIBE_TO_WILLS), 4, t);
     comes(b, 1, (const uint8_t *)PUBLISH_OF_P, 4, 5, t);
     comes(b, 1, (const uint8_t *)PUBLISH_OF_P + 4, sizeof PUBLISH_OF_P - 5, 5, t);
-    TWICE(mqtt5_broker_trim(b));
+    TWICE(mqtt5_broker_trim(b, 5));
+    EXPECT(mqtt5_broker_dropped(b, &dropped), MQTT5_BROKER_DONE);
+    EXPECT(dropped, 0);
     passes(b, 0, &t->passed[0], t);
     sends(b, 0, t);
     comes(b, 0, BYTES(PUBACK_OF_S), 100, t);

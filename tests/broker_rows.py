@@ -664,15 +664,34 @@ async def messages_expire(b):
     await sub.disconnect()
 
 
-@row(mosquitto=False)  # (mosquitto 2.0.11 counts it, and sends what is left)
+@row()
 async def wills_expire(b):
-    """The Message Expiry Interval of a will is passed on as it is (3.1.3.2.4)."""
-    async with b.connected("lapse-wills") as sub:
-        await sub.subscribe("lapse-will")
-        for seconds in (0, 1, 100, 0x7FFFFFFF):
-            await cut_with(b, "lapse-will", Will("lapse-will", b"gone", 1, properties=message_expiry(seconds)))
-            got = await sub.take()
-            assert seconds_left(got) == seconds, got
+    """The lifetime of a will begins once it is published (3.1.3.2.4): where it waits then, it comes with what is left, or not any more
+    (3.3.2.3.3)."""
+    sub = b.client("lapse-away")
+    await sub.connect(**KEPT)
+    await sub.subscribe("lapse-will")
+    await sub.disconnect()
+    async with b.connected("lapse-wills") as here:
+        await here.subscribe("lapse-will")
+        for seconds in (1, 100):
+            one = b.client("lapse-will")
+            await one.connect(will=Will("lapse-will", b"gone", 1, properties=message_expiry(seconds)))
+            await asyncio.sleep(2.2)
+            begun = time.monotonic()
+            one.cut()
+            left = seconds_left(await here.take())
+            # (it may have come at the end of a second)
+            assert max(0, seconds - 2) <= left <= seconds, left
+            published = time.monotonic()
+        await asyncio.sleep(3.2)
+        waited = time.monotonic()
+        assert await sub.connect(**KEPT) == 1
+        left, most, least = seconds_left(await sub.take()), 100 - (waited - published), 100 - (time.monotonic() - begun)
+        assert least - 1 < left < most + 1, (left, most, least)
+        await sub.is_quiet(0.1)
+    await sub.connect(clean=True)
+    await sub.disconnect()
 
 
 @row(mosquitto=False)  # (its order is another one)
@@ -1766,6 +1785,62 @@ async def paho(b):
     assert out.endswith(b"done\n"), out
 
 
+@peer("paho_c")
+async def paho_c(b):
+    """The examples of Paho for C, over its calls that wait (paho_cs_sub, paho_cs_pub) and over those that don't: each QoS both ways, a
+    retained message, properties, a will, and many lines."""
+    def words(program, name, *more):
+        # (--quiet: nothing but what comes)
+        return [f"paho_{program}", "-V", "5", "-h", "127.0.0.1", "-p", str(b.port), "-i", name, "-k", "60", "--quiet", *more]
+
+    async def begun(kind, name, topic, qos, *more):
+        await until_subscribed(b, topic)
+        process = await asyncio.create_subprocess_exec(
+            *words(f"{kind}_sub", name, "-q", qos, "-t", topic, *more), stdout=asyncio.subprocess.PIPE)
+        assert await asyncio.wait_for(process.stdout.readline(), 10) == b"ready\n"
+        return process
+
+    async def ended(process, lines):
+        for line in lines:
+            assert await asyncio.wait_for(process.stdout.readline(), 10) == line + b"\n", line
+        process.send_signal(signal.SIGINT)
+        out, _ = await asyncio.wait_for(process.communicate(), 10)
+        assert not out and process.returncode == 0, (out, process.returncode)
+
+    async def at_each_qos(kind):
+        for qos in "012":
+            topic = f"paho-c/{kind}/{qos}"
+            process = await begun(kind, f"paho-{kind}-sub", topic, qos)
+            for other in "012":
+                more = ("--user-property", "at", other, "--message-expiry", "60") if other == "2" else ()
+                await runs(*words(f"{kind}_pub", f"paho-{kind}-pub", "-q", other, "-t", topic, "-m", f"at {other}", *more))
+            await ended(process, [b"at %d" % other for other in range(3)])
+
+    async with b.connected("paho-c-watcher") as watcher:
+        await watcher.subscribe("paho-c/all", "paho-c/will")
+        await asyncio.gather(at_each_qos("c"), at_each_qos("cs"))
+        # Many lines, as only the one that waits takes them to their end.
+        process = await begun("c", "paho-c-lines", "paho-c/lines", "2")
+        lines = [b"%d" % i for i in range(200)]
+        await runs(*words("cs_pub", "paho-cs-lines", "-q", "2", "-t", "paho-c/lines"), input=b"".join(line + b"\n" for line in lines))
+        await ended(process, lines)
+        await runs(*words("c_pub", "paho-c-pub", "-q", "1", "-t", "paho-c/all", "-m", "kept", "-r", "--user-property", "k", "v"))
+        got = await watcher.take()
+        assert (got.payload, got.qos, properties_of(got.properties)) == (b"kept", 1, [(38, (b"k", b"v"))]), got
+        process = await begun("cs", "paho-c-late", "paho-c/late", "1")
+        await runs(*words("cs_pub", "paho-cs-pub", "-q", "1", "-t", "paho-c/late", "-m", "last", "-r"))
+        await ended(process, [b"last"])
+        process = await asyncio.create_subprocess_exec(
+            *words("c_sub", "paho-c-late", "-q", "1", "-t", "paho-c/late"), stdout=asyncio.subprocess.PIPE)
+        await ended(process, [b"last"])
+        for kind in ("c", "cs"):
+            will = ("--will-topic", "paho-c/will", "--will-payload", f"gone {kind}", "--will-qos", "2")
+            process = await begun(kind, f"paho-{kind}-will", f"paho-c/{kind}", "0", *will)
+            process.kill()
+            assert (await watcher.take()).payload == f"gone {kind}".encode()
+            await process.communicate()
+
+
 @peer("mqttjs")
 async def mqttjs(b):
     """mqtt.js: tests/broker_mqttjs.js."""
@@ -1901,6 +1976,28 @@ async def bounds(_):
         await pub.ends_by(0x97)
         await away.ping()
         away.cut()
+
+
+@row(mosquitto=False)  # (it drops the newest)
+async def discard_oldest(_):
+    """Where the operator wants that, the oldest messages of a queue that is too long are dropped, of any QoS, and counted in the log:
+    the session stays, with the last ones."""
+    words = "--max-queued-messages 50 --max-queued-bytes 20000 --discard-oldest"
+    async with started(*words.split()) as b, b.connected("oldest-pub") as pub:
+        for qos, payload, kept in ((1, 4, 50), (2, 996, 19)):
+            away = b.client(f"oldest-{qos}")
+            await away.connect(**KEPT)
+            await away.subscribe((f"oldest/{qos}", qos))
+            away.cut()
+            for i in range(120):
+                await pub.publish(f"oldest/{qos}", i.to_bytes(4, "big") + bytes(payload - 4), qos)
+            await asyncio.sleep(2.5)
+            assert await away.connect(**KEPT) == 1
+            got = [int.from_bytes((await away.take()).payload[:4], "big") for _ in range(kept)]
+            assert got == list(range(120 - kept, 120)), got
+            await away.is_quiet(0.1)
+            await away.disconnect()
+        await b.says(", 171 in all")
 
 
 async def says(*words):

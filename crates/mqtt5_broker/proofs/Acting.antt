@@ -1,5 +1,5 @@
 -- What a broker makes of bytes is a list of steps.
-use Rattle.std.proofs.Common.{◌≡◌, ℕ, zero, suc, Bool, true, false, List, [], ◌∷◌, ◌++◌, Option, Some, None, refl, sym, ap, ◌∙◌, get_or, set, slice_set, if◌then◌else◌, not, length, ◌==◌, max}
+use Rattle.std.proofs.Common.{◌&&◌, ◌≡◌, ℕ, zero, suc, Bool, true, false, List, [], ◌∷◌, ◌++◌, Option, Some, None, refl, sym, ap, ◌∙◌, get_or, set, slice_set, if◌then◌else◌, not, length, ◌==◌, max}
 use Rattle.std.specs.Prelude.{option_map, map}
 use Rattle.std.specs.Option.{option_to_list}
 use Rattle.std.proofs.lemmas.List.{set-get_or}
@@ -13,14 +13,15 @@ use Rattle.mqtt5_control.specs.declared.disconnect.DisconnectReasonCode.{Disconn
 use Rattle.mqtt5_control.specs.declared.disconnect.DisconnectReasonCode.TheVariants as reasons
 use Rattle.mqtt5_sessions.specs.Sessions.{replies, passed, ends}
 use Rattle.mqtt5_sessions.specs.Runs as runs
-use Rattle.mqtt5_sessions.specs.Runs.{Joins, Passes, TakesOut, Loses, IsDue}
+use Rattle.mqtt5_sessions.specs.Runs.{Joins, Passes, TakesOut, Loses, IsDue, Dates}
+use Rattle.mqtt5_sessions.specs.Expiry.{will_expiry, will_is_delayed}
 use Rattle.mqtt5_broker.specs.declared.member.Member.{Member}
 use Rattle.mqtt5_broker.specs.declared.serving.Kind.{Kind}
 use Rattle.mqtt5_broker.specs.declared.serving.Kind.TheVariants as kinds
 use Rattle.mqtt5_broker.specs.Moments.{has_come}
 use Rattle.mqtt5_broker.specs.Cut.{Cut, Ending, Holds, Breaks, cut_up}
 use Rattle.mqtt5_broker.specs.Connection.{Connection, closed, shut, taken_by, learned_topic, written, written_all, emptied, connection_at, connection_of}
-use Rattle.mqtt5_broker.specs.Broker.{Broker, at_moment, on_connection, on_member, away, gone, expiring, undue, member_at, has_ended, will_is_due, forgets, loses_client, leaves_client, publishes_will, stays_at, refuses, dismisses, dismisses_of, numbers, number_in, free_number, number_of, assigned_name, number_after, user_at, owner_at}
+use Rattle.mqtt5_broker.specs.Broker.{Broker, at_moment, on_connection, on_member, away, gone, expiring, undue, member_at, has_ended, will_is_due, forgets, loses_client, leaves_client, publishes_will, stays_at, sessions_dated, refuses, dismisses, dismisses_of, numbers, number_in, free_number, number_of, assigned_name, number_after, user_at, owner_at}
 use Rattle.mqtt5_broker.specs.Wills.{will_of}
 use Rattle.mqtt5_broker.specs.Rights.{may_do, denial, suback_for, part_of}
 use Rattle.mqtt5_broker.specs.Groups.{sessions_before, groups_without, sessions_without}
@@ -29,11 +30,11 @@ use Rattle.mqtt5_sessions.specs.Counts.{counts}
 use Rattle.mqtt5_broker.specs.Reasons.{farewell}
 use Rattle.mqtt5_broker.specs.Serving.{kind_of, comes_to_session, arrives_from, denies, brings, goes, disconnects, serves_as, serves_by, fault_of, serves, rejects_by, receive_max_of, longest_of, silence_of, member_of, welcome, comes_in, displaced, displaces, starts_anew, begins, enters, turns_away, enters_if_room, assigns_by, assigns, is_its, admits_as, admits, entry_fault, connects_by, connects, begins_with, takes_under, takes_by, takes_of, takes, first_is_over, passes_of, passes_on, passes_at}
 use Rattle.mqtt5_broker.specs.Aliases.{alias_used, unaliased, named}
-use Rattle.mqtt5_broker.specs.Expiry.{dated, counted}
+use Rattle.mqtt5_broker.specs.Expiry.{begun, dated, counted}
 use Rattle.mqtt5_broker.specs.Receiving.{takes_all, reason_for, ends_with, comes_of, receives_now, receives}
-use Rattle.mqtt5_broker.specs.Bounds.{has_room, exceeds, ends_of, ends_over, sheds_of, trims, trims_all}
+use Rattle.mqtt5_broker.specs.Bounds.{has_room, exceeds, ends_of, ends_over, dropped_after, sheds_of, trims, trims_all, trims_at}
 use Rattle.mqtt5_broker.specs.Clock.{for_each, silences, silences_all, expires, ticks, ends_now, shuts_down}
-use Rattle.mqtt5_broker.specs.Acts.{Act, Session, Know, Name, Moment, Hear, Write, Shut, Welcome, Learn, Hold, Empty, act}
+use Rattle.mqtt5_broker.specs.Acts.{Act, Session, Know, Name, Moment, Count, Hear, Write, Shut, Welcome, Learn, Hold, Empty, act}
 use Rattle.mqtt5_broker.proofs.Steps.{IsPlain, Step, Do, Comes, Leaves, step, steps}
 
 -- ---- lists of steps
@@ -85,8 +86,12 @@ shut_done p d b = done_as b _ _ (on_after d (written p) shut b) (Do (Write d p) 
 
 -- ---- ends
 
-ended_done : (i : ℕ) (ms : List (Option Member)) (b : Broker) → Done b (record b { sessions = sessions_without i b.groups (ends i b.sessions); members = ms; groups = groups_without i b.groups })
-ended_done i ms b = (Leaves i ∷ Do (Know ms) tt ∷ [], refl)
+-- the lifetime of a will begins, of any, or of one without a delay
+abbrev begins_will : Bool → ℕ → Broker → Act
+begins_will any i b = Session (Dates i (option_map (begun (not any && will_is_delayed i b.sessions) b.moment) (will_expiry i b.sessions)))
+
+ended_done : (i : ℕ) (ms : List (Option Member)) (b : Broker) → Done b (record b { sessions = sessions_without i b.groups (ends i (sessions_dated true i b)); members = ms; groups = groups_without i b.groups })
+ended_done i ms b = (Do (begins_will true i b) tt ∷ Leaves i ∷ Do (Know ms) tt ∷ [], refl)
 
 forgets_done : (i : ℕ) (b : Broker) → Done b (forgets i b)
 unfolding forgets
@@ -94,7 +99,7 @@ forgets_done i b = ended_done i (slice_set b.members i None) b
 
 pub loses_done : (i : ℕ) (b : Broker) → Done b (loses_client i b)
 unfolding loses_client
-loses_done i b = done_if (stays_at i b.members) b _ _ (Do (Session (Loses i)) tt ∷ Do (Know (on_member i (away b.moment) b.members)) tt ∷ [], refl) (forgets_done i b)
+loses_done i b = done_if (stays_at i b.members) b _ _ (Do (begins_will false i b) tt ∷ Do (Session (Loses i)) tt ∷ Do (Know (on_member i (away b.moment) b.members)) tt ∷ [], refl) (forgets_done i b)
 
 leaves_done : (i : ℕ) (b : Broker) → Done b (leaves_client i b)
 unfolding leaves_client
@@ -108,7 +113,7 @@ refuses_done d i reason b = done_more b (loses_client i b) _ (loses_done i b) (s
 
 publishes_done : (i : ℕ) (b : Broker) → Done b (publishes_will i b)
 unfolding publishes_will
-publishes_done i b = (Do (Session (IsDue i)) tt ∷ Do (Know (on_member i undue b.members)) tt ∷ [], refl)
+publishes_done i b = (Do (begins_will true i b) tt ∷ Do (Session (IsDue i)) tt ∷ Do (Know (on_member i undue b.members)) tt ∷ [], refl)
 
 dismisses_of_done : (o : Option ℕ) (d : ℕ) (reason : DisconnectReasonCode) (b : Broker) → Done b (dismisses_of o d reason b)
 dismisses_of_done None d reason b = done_one (Shut d) tt b
@@ -170,9 +175,10 @@ comes_done d i present given q will b =
     let e : Act = Session (runs.Comes i (Some (receive_max_of q.properties)) (option_map will_of will)) in
     let w : Act = Welcome d i (longest_of q.properties) (silence_of b.keep_alive_max q) b.moment in
     let ps : List Packet = welcome i present given q b in
-    let came : Broker = act e b in
+    let begun_one : Act = begins_will false i b in
+    let came : Broker = act e (act begun_one b) in
     let here : Broker = act w came in
-    done_as b _ _ (on_after d (taken_by i (longest_of q.properties) (silence_of b.keep_alive_max q) b.moment) (written_all ps) came) (done_more b here _ (Do e tt ∷ Do w tt ∷ [], refl) (all_done ps d here))
+    done_as b _ _ (on_after d (taken_by i (longest_of q.properties) (silence_of b.keep_alive_max q) b.moment) (written_all ps) came) (done_more b here _ (Do begun_one tt ∷ Do e tt ∷ Do w tt ∷ [], refl) (all_done ps d here))
 
 displaced_done : (o : Option ℕ) (b : Broker) → Done b (displaced o b)
 displaced_done None b = done_none b
@@ -183,7 +189,7 @@ unfolding displaces
 displaces_done i b = displaced_done (connection_of i b.connections) b
 
 begins_by : (v : Bool) (i : ℕ) (ms : List (Option Member)) (b : Broker)
-    → Done b (record b { sessions = if v then sessions_without i b.groups (ends i b.sessions) else b.sessions; members = ms; groups = if v then groups_without i b.groups else b.groups })
+    → Done b (record b { sessions = if v then sessions_without i b.groups (ends i (sessions_dated true i b)) else b.sessions; members = ms; groups = if v then groups_without i b.groups else b.groups })
 begins_by true i ms b = ended_done i ms b
 begins_by false i ms b = (Do (Know ms) tt ∷ [], refl)
 
@@ -351,7 +357,14 @@ ends_over_done i b =
 trims_done : (i : ℕ) (b : Broker) → Done b (trims i b)
 unfolding trims
 trims_done i b =
-    done_more b (sheds_of i b) _ (sheds_done (surplus_of b.bounds.queued b.bounds.bytes i b.sessions) i b) (ends_over_done i (sheds_of i b))
+    let n : ℕ = surplus_of b.bounds.oldest b.bounds.queued b.bounds.bytes i b.sessions in
+    let shorter : Broker = record b { sessions = taken_out n i b.sessions } in
+    done_if (exceeds (counts i b.sessions) b.bounds) b _ _
+    (done_more b (sheds_of i b) _ (done_more b shorter _ (sheds_done n i b) (done_one (Count (dropped_after b.dropped n)) tt shorter)) (ends_over_done i (sheds_of i b)))
+    (done_none b)
 
-pub trims_all_done : (b : Broker) → Done b (trims_all b)
+trims_all_done : (b : Broker) → Done b (trims_all b)
 trims_all_done b = each_done (length b.members) trims trims_done b
+
+pub trims_at_done : (at : ℕ) (b : Broker) → Done b (trims_at at b)
+trims_at_done at b = done_more b (at_moment at b) _ (moment_done at b) (trims_all_done (at_moment at b))

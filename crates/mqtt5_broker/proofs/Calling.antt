@@ -11,11 +11,11 @@ use Rattle.mqtt5_broker.specs.Acts.{events_in}
 use Rattle.mqtt5_broker.specs.Standing.{IsStanding}
 use Rattle.mqtt5_broker.specs.Calls.{Call, Open, Hold, Identify, Reject, Receive, Sent, Pass, Close, Tick, SetBounds, Trim, ShutDown, AddUser, AllowPublish, AllowSubscribe, after_call, after_calls}
 use Rattle.mqtt5_broker.proofs.Turned.{events_append}
-use Rattle.mqtt5_broker.proofs.Acting.{Done, receives_done, passes_done, ticks_done, trims_all_done, shuts_down_done}
+use Rattle.mqtt5_broker.proofs.Acting.{Done, receives_done, passes_done, ticks_done, trims_at_done, shuts_down_done}
 use Rattle.mqtt5_broker.proofs.Made.{Made, done_made}
 use Rattle.mqtt5_broker.proofs.Sending.{Lost, lost_if, all_events, closes_lost}
 use Rattle.mqtt5_broker.proofs.Asked.{holds_standing, identifies_standing, rejects_standing}
-use Rattle.mqtt5_broker.proofs.Standing.{opens_standing, receives_standing, passes_standing, sent_standing, closes_standing, ticks_standing, trims_all_standing, shuts_down_standing}
+use Rattle.mqtt5_broker.proofs.Standing.{opens_standing, receives_standing, passes_standing, sent_standing, closes_standing, ticks_standing, trims_at_standing, shuts_down_standing}
 
 -- ---- the sessions
 
@@ -38,7 +38,7 @@ one_call (Pass at c) b = of_acts b (after_call (Pass at c) b) (passes_done at c 
 one_call (Close at c) b = closes_lost at c b
 one_call (Tick at) b = of_acts b (after_call (Tick at) b) (ticks_done at b)
 one_call (SetBounds bounds) b = ([], refl)
-one_call Trim b = of_acts b (after_call Trim b) (trims_all_done b)
+one_call (Trim at) b = of_acts b (after_call (Trim at) b) (trims_at_done at b)
 one_call (ShutDown at) b = of_acts b (after_call (ShutDown at) b) (shuts_down_done at b)
 one_call AddUser b = ([], refl)
 one_call (AllowPublish u f) b = ([], refl)
@@ -64,7 +64,7 @@ one_stands (Pass at c) b s = passes_standing at c b s
 one_stands (Close at c) b s = closes_standing at c b s
 one_stands (Tick at) b s = ticks_standing at b s
 one_stands (SetBounds bounds) b s = s
-one_stands Trim b s = trims_all_standing b s
+one_stands (Trim at) b s = trims_at_standing at b s
 one_stands (ShutDown at) b s = shuts_down_standing at b s
 one_stands AddUser b s = s
 one_stands (AllowPublish u f) b s = s

@@ -10,7 +10,7 @@ use Rattle.mqtt5_network.specs.Client.{Client, taken_for}
 use Rattle.mqtt5_network.specs.Client as network_client
 use Rattle.mqtt5_network.specs.Place.{lost_message, waiting, replaced_message, due_message, not_due, left_will, message_of}
 use Rattle.mqtt5_router.specs.Kept.{Kept, new_kept, without_first, alone}
-use Rattle.mqtt5_sessions.specs.Sessions.{Sessions, ClientState, new_state, queues, queues_all, with_client, of_client, changes, passes_here, passes, takes_out, loses, is_due, leaves, taken_up, comes, ends}
+use Rattle.mqtt5_sessions.specs.Sessions.{Sessions, ClientState, new_state, queues, queues_all, with_client, of_client, changes, passes_here, passes, takes_out, loses, is_due, with_dated_will, dates, leaves, taken_up, comes, ends}
 use Rattle.mqtt5_broker.specs.Within.{subscriptions_in, subscriptions_at}
 
 abbrev pub subscriptions_of : ClientState → List Subscription
@@ -124,6 +124,9 @@ loses_same i s = changes_same i (λ (c : ClientState). record c { here = false; 
 pub due_same : (i : ℕ) (s : Sessions) → Same s (is_due i s)
 due_same i s = changes_same i (λ (c : ClientState). record c { will = not_due c.here c.will }) (λ (c : ClientState). due_message c.here c.will) s (λ c. refl)
 
+pub dates_same : (i : ℕ) (n : Option ℕ) (s : Sessions) → Same s (dates i n s)
+dates_same i n s = changes_same i (with_dated_will n) (λ c. []) s (λ c. refl)
+
 pub leaves_same : (i : ℕ) (s : Sessions) → Same s (leaves i s)
 leaves_same i s = changes_same i (λ (c : ClientState). record c { here = false; will = left_will c.here c.will }) (λ c. []) s (λ c. refl)
 
@@ -140,6 +143,9 @@ loses_fewer i s = changes_fewer i (λ (c : ClientState). record c { here = false
 
 pub due_fewer : (i : ℕ) (s : Sessions) → Fewer s (is_due i s)
 due_fewer i s = changes_fewer i (λ (c : ClientState). record c { will = not_due c.here c.will }) (λ (c : ClientState). due_message c.here c.will) s (λ c. inr refl)
+
+pub dates_fewer : (i : ℕ) (n : Option ℕ) (s : Sessions) → Fewer s (dates i n s)
+dates_fewer i n s = changes_fewer i (with_dated_will n) (λ c. []) s (λ c. inr refl)
 
 pub leaves_fewer : (i : ℕ) (s : Sessions) → Fewer s (leaves i s)
 leaves_fewer i s = changes_fewer i (λ (c : ClientState). record c { here = false; will = left_will c.here c.will }) (λ c. []) s (λ c. inr refl)

@@ -21,4 +21,4 @@ pub mod Permitted
 pub mod Sharing
 pub mod Turning
 pub mod Parts
-pub mod Shed
+pub mod Dated

@@ -21,7 +21,7 @@ use Rattle.mqtt5_network.specs.Asking.{is_ack, identifier_of, share_of, subscrib
 use Rattle.mqtt5_network.specs.Client.{Client, comes_to}
 use Rattle.mqtt5_network.specs.Place.{message_of}
 use Rattle.mqtt5_router.specs.Kept.{alone, after_packet}
-use Rattle.mqtt5_sessions.specs.Sessions.{Sessions, ClientState, with_client, to_client, turns, arrives, replies, passes, takes_out, loses, is_due, leaves, comes, ends}
+use Rattle.mqtt5_sessions.specs.Sessions.{Sessions, ClientState, with_client, to_client, turns, arrives, replies, passes, takes_out, loses, is_due, dates, leaves, comes, ends}
 use Rattle.mqtt5_sessions.specs.Runs as runs
 use Rattle.mqtt5_sessions.specs.Runs.{SessionEvent, after_event}
 use Rattle.mqtt5_broker.specs.Connection.{Connection, opened, of_user, connection_at}
@@ -31,15 +31,15 @@ use Rattle.mqtt5_broker.specs.Reasons.{refusal}
 use Rattle.mqtt5_broker.specs.Serving.{has_any, turns_away}
 use Rattle.mqtt5_broker.specs.Receiving.{closes_of, closes_now}
 use Rattle.mqtt5_broker.specs.Asking.{is_new}
-use Rattle.mqtt5_broker.specs.Acts.{Act, Session, Know, Regroup, Name, Moment, Hear, Write, Shut, Welcome, Learn, Hold, Empty, act}
+use Rattle.mqtt5_broker.specs.Acts.{Act, Session, Know, Regroup, Name, Moment, Count, Hear, Write, Shut, Welcome, Learn, Hold, Empty, act}
 use Rattle.mqtt5_broker.specs.Calls as calls
 use Rattle.mqtt5_broker.specs.Calls.{Call, Open, Identify, Reject, Receive, Sent, Pass, Close, Tick, SetBounds, Trim, ShutDown, AddUser, AllowPublish, AllowSubscribe, after_call, after_calls}
 use Rattle.mqtt5_broker.specs.Within.{subscriptions_in, subscriptions_at}
 use Rattle.mqtt5_broker.specs.Sharing.{turn_in, shares, has_turn_of, takes_part, first_of, AreDistinct, MayTurn, IsShared}
-use Rattle.mqtt5_broker.proofs.Clients.{out_same, loses_same, due_same, leaves_same, comes_same, passes_same, changes_subscriptions, ended_state, pushed_subscriptions}
+use Rattle.mqtt5_broker.proofs.Clients.{out_same, loses_same, due_same, dates_same, leaves_same, comes_same, passes_same, changes_subscriptions, ended_state, pushed_subscriptions}
 use Rattle.mqtt5_broker.proofs.Turned.{all_kept, met_kept}
 use Rattle.mqtt5_broker.proofs.Steps.{IsOther, IsPlain, Step, Do, Comes, Leaves, step, steps}
-use Rattle.mqtt5_broker.proofs.Acting.{Done, loses_done, receives_done, passes_done, ticks_done, trims_all_done, shuts_down_done}
+use Rattle.mqtt5_broker.proofs.Acting.{Done, loses_done, receives_done, passes_done, ticks_done, trims_at_done, shuts_down_done}
 use Rattle.mqtt5_broker.proofs.Sharing.{true_false, Shared, Turned, arrived, arrived_same, distinct_map, distinct_filter, distinct_joins, parted_filter, comes_shared, leaves_shared, other_shared}
 use Rattle.mqtt5_broker.proofs.Turning.{HasTurn, FirstShares, all_given, met_left, met_all, shares_turn, rotated_takes_part, joined_own, joined_other, named_after, plain_joins, plain_turn, parts_other, parts_own, plain_parts, turn_shares, none_unsubscribed, left_other, left_own, first_takes_part, somebody_first, and_false}
 
@@ -341,6 +341,7 @@ other_whole (runs.Passes i) h gs s w = whole_same s (passes i s) gs (passes_same
 other_whole (runs.TakesOut i) h gs s w = whole_same s (takes_out i s) gs (out_same i s) w
 other_whole (runs.Loses i) h gs s w = whole_same s (loses i s) gs (loses_same i s) w
 other_whole (runs.IsDue i) h gs s w = whole_same s (is_due i s) gs (due_same i s) w
+other_whole (runs.Dates i n) h gs s w = whole_same s (dates i n s) gs (dates_same i n s) w
 other_whole (runs.Leaves i) h gs s w = whole_same s (leaves i s) gs (leaves_same i s) w
 other_whole (runs.Comes i m will) h gs s w = whole_same s (comes i m will s) gs (comes_same i m will s) w
 other_whole (runs.Arrives i x) h gs s w = absurd h
@@ -356,6 +357,7 @@ act_shared (Know ms) h b q = q
 act_shared (Regroup gs) h b q = absurd h
 act_shared (Name n) h b q = q
 act_shared (Moment at) h b q = q
+act_shared (Count n) h b q = q
 act_shared (Hear d at) h b q = q
 act_shared (Write d p) h b q = q
 act_shared (Shut d) h b q = q
@@ -403,7 +405,7 @@ call_shared (Pass at c) b q = done_shared b _ (passes_done at c b) q
 call_shared (Close at c) b q = now_shared c (at_moment at b) q
 call_shared (Tick at) b q = done_shared b _ (ticks_done at b) q
 call_shared (SetBounds bounds) b q = q
-call_shared Trim b q = done_shared b _ (trims_all_done b) q
+call_shared (Trim at) b q = done_shared b _ (trims_at_done at b) q
 call_shared (ShutDown at) b q = done_shared b _ (shuts_down_done at b) q
 call_shared AddUser b q = q
 call_shared (AllowPublish u f) b q = q

@@ -36,7 +36,7 @@ use Rattle.mqtt5_broker.specs.Standing.{IsStanding}
 use Rattle.mqtt5_broker.specs.Within.{subscriptions_in, subscriptions_at, AreWithin, IsWithin}
 use Rattle.mqtt5_broker.specs.Calls.{Call, Open, Hold, Identify, Reject, Receive, Sent, Pass, Close, Tick, SetBounds, Trim, ShutDown, AddUser, AllowPublish, AllowSubscribe, after_call, after_calls}
 use Rattle.mqtt5_broker.proofs.Calling.{one_stands}
-use Rattle.mqtt5_broker.proofs.Within.{all_filtered, on_within, choice_within, opens_within, receives_within, passes_within, closes_within, ticks_within, trims_all_within, shuts_down_within}
+use Rattle.mqtt5_broker.proofs.Within.{all_filtered, on_within, choice_within, opens_within, receives_within, passes_within, closes_within, ticks_within, trims_at_within, shuts_down_within}
 
 -- ---- a new broker
 
@@ -113,7 +113,7 @@ one_within (Pass at c) b s w = passes_within at c b w
 one_within (Close at c) b s w = closes_within at c b w
 one_within (Tick at) b s w = ticks_within at b w
 one_within (SetBounds bounds) b s w = record { numbers = w.numbers; none = w.none; within = w.within }
-one_within Trim b s w = trims_all_within b w
+one_within (Trim at) b s w = trims_at_within at b w
 one_within (ShutDown at) b s w = shuts_down_within at b w
 one_within AddUser b s w = knows_within b w
 one_within (AllowPublish u f) b s w = lets_within u (publishing f) b (λ r t e. e) w

@@ -1,16 +1,19 @@
 -- What acts do to the sessions, and what they send.
-use Rattle.std.proofs.Common.{◌≡◌, ℕ, Bool, true, false, List, [], ◌∷◌, ◌++◌, Option, Some, None, Result, Ok, Err, refl, sym, subst, ap, ◌∙◌, append_assoc, if◌then◌else◌, nat_lt, min}
+use Rattle.std.proofs.Common.{◌≡◌, ℕ, Bool, true, false, List, [], ◌∷◌, ◌++◌, Option, Some, None, Result, Ok, Err, refl, sym, subst, ap, ◌∙◌, append_assoc, if◌then◌else◌, nat_lt, min, not, ◌&&◌}
+use Rattle.std.specs.Prelude.{option_map}
 use Rattle.std.proofs.lemmas.List.{append-nil}
 use Rattle.mqtt5_base.specs.declared.error.Error.{Error}
 use Rattle.mqtt5_base.specs.declared.error.Error.TheVariants.{OutgoingPacketTooLarge}
 use Rattle.mqtt5_codec.specs.declared.packet.Packet.{Packet}
 use Rattle.mqtt5_codec.specs.Packets.{packet_writing, packet_len, writing_under}
 use Rattle.mqtt5_sessions.specs.Sessions.{ends}
-use Rattle.mqtt5_sessions.specs.Runs.{SessionEvent, Loses, Ends, after_events}
+use Rattle.mqtt5_sessions.specs.Runs.{SessionEvent, Loses, Dates, Ends, after_events}
+use Rattle.mqtt5_sessions.specs.Expiry.{will_expiry, will_is_delayed}
 use Rattle.mqtt5_broker.specs.Connection.{Connection, shut, heard, taken_by, learned, emptied, holding, with_bytes, written, connection_at}
-use Rattle.mqtt5_broker.specs.Broker.{Broker, at_moment, loses_client, forgets, stays_at, on_connection}
+use Rattle.mqtt5_broker.specs.Broker.{Broker, at_moment, loses_client, forgets, stays_at, sessions_dated, on_connection}
+use Rattle.mqtt5_broker.specs.Expiry.{begun}
 use Rattle.mqtt5_broker.specs.Receiving.{closes_of, closes_now, closes}
-use Rattle.mqtt5_broker.specs.Acts.{Act, Session, Know, Regroup, Name, Moment, Hear, Write, Shut, Welcome, Learn, Hold, Empty, act, acts, event_in, events_in, AreFrames, output_at, Sends}
+use Rattle.mqtt5_broker.specs.Acts.{Act, Session, Know, Regroup, Name, Moment, Count, Hear, Write, Shut, Welcome, Learn, Hold, Empty, act, acts, event_in, events_in, AreFrames, output_at, Sends}
 use Rattle.mqtt5_broker.proofs.Keeping.{at_changed}
 use Rattle.mqtt5_broker.proofs.Turned.{events_append, Makes, makes_turn, without_kept}
 
@@ -22,6 +25,7 @@ one_event (Know ms) b = refl
 one_event (Regroup gs) b = refl
 one_event (Name n) b = refl
 one_event (Moment at) b = refl
+one_event (Count n) b = refl
 one_event (Hear d at) b = refl
 one_event (Write d p) b = refl
 one_event (Shut d) b = refl
@@ -45,8 +49,11 @@ lost_if false b x y m k = k
 loses_lost : (i : ℕ) (b : Broker) → Lost b (loses_client i b)
 unfolding loses_client forgets
 loses_lost i b =
-    lost_if (stays_at i b.members) b _ _ (Loses i ∷ [], refl)
-    (without_kept (Makes b.sessions) (makes_turn b.sessions) i b.groups (ends i b.sessions) (Ends i ∷ [], refl))
+    lost_if (stays_at i b.members) b _ _ (dated_by false ∷ Loses i ∷ [], refl)
+    (without_kept (Makes b.sessions) (makes_turn b.sessions) i b.groups (ends i (sessions_dated true i b)) (dated_by true ∷ Ends i ∷ [], refl))
+  where
+    dated_by : Bool → SessionEvent
+    dated_by any = Dates i (option_map (begun (not any && will_is_delayed i b.sessions) b.moment) (will_expiry i b.sessions))
 
 of_lost : (o : Option ℕ) (d : ℕ) (b : Broker) → Lost b (closes_of o d b)
 of_lost None d b = ([], refl)
@@ -96,6 +103,7 @@ one_sends d (Know ms) b = sends_none (output_at d b) (output_at d b) refl
 one_sends d (Regroup gs) b = sends_none (output_at d b) (output_at d b) refl
 one_sends d (Name n) b = sends_none (output_at d b) (output_at d b) refl
 one_sends d (Moment at) b = sends_none (output_at d b) (output_at d b) refl
+one_sends d (Count n) b = sends_none (output_at d b) (output_at d b) refl
 one_sends d (Hear e at) b = on_sends d e (heard at) b (λ l. sends_none l.output l.output refl)
 one_sends d (Write e p) b = on_sends d e (written p) b (λ l. written_sends p l)
 one_sends d (Shut e) b = on_sends d e shut b (λ l. sends_none l.output l.output refl)

@@ -24,14 +24,14 @@ use Rattle.mqtt5_network.specs.Client.{Client, comes_to}
 use Rattle.mqtt5_network.specs.Retained.{copies_for}
 use Rattle.mqtt5_network.specs.Place.{message_of}
 use Rattle.mqtt5_router.specs.Kept.{without_events, kept_of, alone, after_packet}
-use Rattle.mqtt5_sessions.specs.Sessions.{Sessions, ClientState, gets, with_client, with_turn_of, turns, arrives, passes, takes_out, loses, is_due, leaves, comes, ends}
+use Rattle.mqtt5_sessions.specs.Sessions.{Sessions, ClientState, gets, with_client, with_turn_of, turns, arrives, passes, takes_out, loses, is_due, dates, leaves, comes, ends}
 use Rattle.mqtt5_sessions.specs.Runs as runs
 use Rattle.mqtt5_sessions.specs.Runs.{SessionEvent, after_event}
 use Rattle.mqtt5_broker.specs.Groups.{Group, is_group, has_members, has_member, without_member, with_member, rotated, turns_of, turns_first, gives_all, meets, turns_met, rotates, rotated_for, turned_for, groups_turned, sessions_turned, no_group, joined, joins_by, joins_all, is_among, parts_from, asks_shared, ends_shared, groups_before, sessions_before, groups_after, sessions_after, groups_without, sessions_without}
 use Rattle.mqtt5_broker.specs.Within.{subscriptions_in, subscriptions_at}
 use Rattle.mqtt5_broker.specs.Sharing.{turn_in, first_in, first_of, AreDistinct, MayTurn}
 use Rattle.mqtt5_broker.proofs.Names.{text_is}
-use Rattle.mqtt5_broker.proofs.Clients.{Changed, changed, changes_subscriptions, Fewer, out_fewer, loses_fewer, due_fewer, leaves_fewer, comes_fewer, ended_state, ends_fewer, passes_fewer, pushed_subscriptions}
+use Rattle.mqtt5_broker.proofs.Clients.{Changed, changed, changes_subscriptions, Fewer, out_fewer, loses_fewer, due_fewer, dates_fewer, leaves_fewer, comes_fewer, ended_state, ends_fewer, passes_fewer, pushed_subscriptions}
 use Rattle.mqtt5_broker.proofs.Steps.{IsOther}
 
 -- ---- filters of the same text
@@ -657,6 +657,7 @@ other_shared (runs.Passes i) h gs s q = (q.0, λ f. fewer_only s (passes i s) f 
 other_shared (runs.TakesOut i) h gs s q = (q.0, λ f. fewer_only s (takes_out i s) f (first_of f gs) (out_fewer i s) (q.1 f))
 other_shared (runs.Loses i) h gs s q = (q.0, λ f. fewer_only s (loses i s) f (first_of f gs) (loses_fewer i s) (q.1 f))
 other_shared (runs.IsDue i) h gs s q = (q.0, λ f. fewer_only s (is_due i s) f (first_of f gs) (due_fewer i s) (q.1 f))
+other_shared (runs.Dates i n) h gs s q = (q.0, λ f. fewer_only s (dates i n s) f (first_of f gs) (dates_fewer i n s) (q.1 f))
 other_shared (runs.Leaves i) h gs s q = (q.0, λ f. fewer_only s (leaves i s) f (first_of f gs) (leaves_fewer i s) (q.1 f))
 other_shared (runs.Comes i m will) h gs s q = (q.0, λ f. fewer_only s (comes i m will s) f (first_of f gs) (comes_fewer i m will s) (q.1 f))
 other_shared (runs.Arrives i x) h gs s q = absurd h

@@ -30,7 +30,7 @@ use Rattle.mqtt5_broker.specs.Connection.{Connection, closed, opened, shut, told
 use Rattle.mqtt5_broker.specs.Broker.{Broker, at_moment, on_connection, on_member, away, gone, expiring, undue, member_at, has_ended, will_is_due, forgets, loses_client, leaves_client, publishes_will, stays_at, refuses, dismisses, dismisses_of, numbers, number_in, free_number, is_named, number_of, assigned_name, number_after, user_at, owner_at}
 use Rattle.mqtt5_broker.specs.Rights.{may_do, denial, suback_for, part_of}
 use Rattle.mqtt5_broker.specs.Groups.{sessions_before}
-use Rattle.mqtt5_broker.specs.Bounds.{has_room, exceeds, ends_of, ends_over, sheds_of, trims, trims_all}
+use Rattle.mqtt5_broker.specs.Bounds.{has_room, exceeds, ends_of, ends_over, sheds_of, trims, trims_at}
 use Rattle.mqtt5_broker.specs.Aliases.{alias_used, unaliased, named}
 use Rattle.mqtt5_broker.specs.Serving.{kind_of, comes_to_session, arrives_from, denies, brings, goes, disconnects, serves_as, serves_by, fault_of, serves, rejects_by, longest_of, silence_of, member_of, welcome, comes_in, displaced, displaces, starts_anew, begins, returns, enters, turns_away, enters_if_room, assigns_by, assigns, is_its, admits_as, admits, entry_fault, connects_by, connects, begins_with, takes_under, takes_by, takes_of, takes, first_is_over, passes_of, passes_on, passes_at}
 use Rattle.mqtt5_broker.specs.Expiry.{dated, counted}
@@ -566,10 +566,10 @@ ends_over_standing i b s = if_standing (exceeds (counts i b.sessions) b.bounds) 
 
 trims_standing : (i : ℕ) (b : Broker) → IsStanding b → IsStanding (trims i b)
 unfolding trims
-trims_standing i b s = ends_over_standing i (sheds_of i b) (record { one = s.one; here = s.here })
+trims_standing i b s = if_standing (exceeds (counts i b.sessions) b.bounds) _ _ (ends_over_standing i (sheds_of i b) (record { one = s.one; here = s.here })) s
 
-pub trims_all_standing : (b : Broker) → IsStanding b → IsStanding (trims_all b)
-trims_all_standing b s = each_standing (length b.members) trims trims_standing b s
+pub trims_at_standing : (at : ℕ) (b : Broker) → IsStanding b → IsStanding (trims_at at b)
+trims_at_standing at b s = each_standing (length b.members) trims trims_standing (at_moment at b) (moment_standing at b s)
 
 -- ---- a new broker
 

@@ -1,5 +1,5 @@
 -- A client that connected as a user has subscriptions within what that user may subscribe to, whatever is called.
-use Rattle.std.proofs.Common.{◌≡◌, ◌≢◌, ℕ, zero, suc, Bool, true, false, List, [], ◌∷◌, ◌++◌, Option, Some, None, refl, sym, subst, ap, ◌∙◌, set, slice_set, if◌then◌else◌, cond, not, length, ◌==◌, ◌⊎◌, inl, inr, arith}
+use Rattle.std.proofs.Common.{◌&&◌, ◌≡◌, ◌≢◌, ℕ, zero, suc, Bool, true, false, List, [], ◌∷◌, ◌++◌, Option, Some, None, refl, sym, subst, ap, ◌∙◌, set, slice_set, if◌then◌else◌, cond, not, length, ◌==◌, ◌⊎◌, inl, inr, arith}
 use Rattle.std.specs.Prelude.{option_map, filter, is_none, map}
 use Rattle.std.specs.List.{list_all}
 use Rattle.std.specs.Option.{option_to_list}
@@ -30,6 +30,7 @@ use Rattle.mqtt5_router.specs.Kept.{without_events, kept_of, alone, after_packet
 use Rattle.mqtt5_sessions.specs.Sessions.{Sessions, ClientState, new_state, gets, with_client, arrives, replies, passed, passes, takes_out, loses, is_due, leaves, comes, ends}
 use Rattle.mqtt5_sessions.specs.Shedding.{surplus_of, taken_out}
 use Rattle.mqtt5_sessions.specs.Counts.{counts}
+use Rattle.mqtt5_sessions.specs.Expiry.{will_expiry, will_is_delayed}
 use Rattle.mqtt5_broker.specs.declared.member.Member.{Member}
 use Rattle.mqtt5_broker.specs.declared.serving.Kind.{Kind}
 use Rattle.mqtt5_broker.specs.declared.serving.Kind.TheVariants as kinds
@@ -38,18 +39,18 @@ use Rattle.mqtt5_broker.specs.Cut.{Cut, Ending, Holds, Breaks, cut_up}
 use Rattle.mqtt5_broker.specs.Rights.{Rights, rights_at, is_within, asked_pattern, may_subscribe, may_do, denial, suback_for, part_of}
 use Rattle.mqtt5_broker.specs.Groups.{Group, groups_before, sessions_before, groups_after, sessions_after, groups_without, sessions_without}
 use Rattle.mqtt5_broker.specs.Connection.{Connection, closed, opened, shut, told, heard, taken_by, learned, learned_topic, written, written_all, holding, emptied, connection_at, connection_of}
-use Rattle.mqtt5_broker.specs.Broker.{Broker, at_moment, on_connection, on_member, away, gone, expiring, undue, member_at, has_ended, will_is_due, forgets, loses_client, leaves_client, publishes_will, stays_at, refuses, dismisses, dismisses_of, numbers, number_in, free_number, number_of, assigned_name, number_after, user_at, owner_of, owner_at}
+use Rattle.mqtt5_broker.specs.Broker.{Broker, at_moment, on_connection, on_member, away, gone, expiring, undue, member_at, has_ended, will_is_due, forgets, loses_client, leaves_client, publishes_will, stays_at, sessions_dated, refuses, dismisses, dismisses_of, numbers, number_in, free_number, number_of, assigned_name, number_after, user_at, owner_of, owner_at}
 use Rattle.mqtt5_broker.specs.Wills.{will_of}
-use Rattle.mqtt5_broker.specs.Bounds.{has_room, exceeds, ends_of, ends_over, sheds_of, trims, trims_all}
+use Rattle.mqtt5_broker.specs.Bounds.{has_room, exceeds, ends_of, ends_over, sheds_of, trims, trims_at}
 use Rattle.mqtt5_broker.specs.Aliases.{alias_used, unaliased, named}
 use Rattle.mqtt5_broker.specs.Serving.{answers, kind_of, comes_to_session, arrives_from, denies, brings, goes, disconnects, serves_as, serves_by, fault_of, serves, rejects_by, receive_max_of, longest_of, silence_of, member_of, welcome, comes_in, displaced, displaces, starts_anew, begins, returns, enters, turns_away, enters_if_room, assigns_by, assigns, is_its, admits_as, admits, entry_fault, connects_by, connects, begins_with, takes_under, takes_by, takes_of, takes, first_is_over, passes_of, passes_on, passes_at}
-use Rattle.mqtt5_broker.specs.Expiry.{dated, counted}
+use Rattle.mqtt5_broker.specs.Expiry.{begun, dated, counted}
 use Rattle.mqtt5_broker.specs.Receiving.{takes_all, reason_for, ends_with, receives_now, receives, opens, closes_of, closes_now, closes}
 use Rattle.mqtt5_broker.specs.Clock.{for_each, silences, silences_all, expires, ticks, ends_now, shuts_down}
 use Rattle.mqtt5_broker.specs.Standing.{client_at, IsHere, IsStanding}
 use Rattle.mqtt5_broker.specs.Within.{subscriptions_in, subscriptions_at, AreWithin, IsWithin}
 use Rattle.mqtt5_broker.proofs.Standing.{nobody, heard_client, on_less, takes_standing}
-use Rattle.mqtt5_broker.proofs.Clients.{Changed, changed, emptied_or, changes_count, changes_subscriptions, Fewer, out_fewer, loses_fewer, due_fewer, leaves_fewer, comes_fewer, ended_state, ends_fewer, passes_fewer, pushed_subscriptions}
+use Rattle.mqtt5_broker.proofs.Clients.{Changed, changed, emptied_or, changes_count, changes_subscriptions, Fewer, out_fewer, loses_fewer, due_fewer, dates_fewer, leaves_fewer, comes_fewer, ended_state, ends_fewer, passes_fewer, pushed_subscriptions}
 use Rattle.mqtt5_broker.proofs.Turned.{Like, like_same, like_turn, before_kept, after_kept, without_kept}
 
 abbrev In : List Utf8 → Subscription → Type 0
@@ -192,20 +193,31 @@ ended_within i b w =
     by_within j u e same (inl q) = subst (AreWithin (rights_at u b.rights).subscribes) (sym (same ∙ q)) (All-nil (In (rights_at u b.rights).subscribes))
     by_within j u e same (inr q) = subst (AreWithin (rights_at u b.rights).subscribes) (sym (same ∙ q.1)) (w.within j u (sym (ap owner_of (set_other i j b.members None q.0)) ∙ e))
 
+-- the lifetime of a will begins
+abbrev dated_will : Bool → ℕ → Broker → Broker
+dated_will any i b = record b { sessions = sessions_dated any i b }
+
+will_within : (any : Bool) (i : ℕ) (b : Broker) → IsWithin b → IsWithin (dated_will any i b)
+will_within any i b w =
+    fewer_within b (sessions_dated any i b) (dates_fewer i (option_map (begun (not any && will_is_delayed i b.sessions) b.moment) (will_expiry i b.sessions)) b.sessions) w
+
 forgets_within : (i : ℕ) (b : Broker) → IsWithin b → IsWithin (forgets i b)
 unfolding forgets
 forgets_within i b w =
-    let s : Sessions = ends i b.sessions in
+    let s : Sessions = ends i (sessions_dated true i b) in
     let ended : Broker = record b { sessions = s; members = slice_set b.members i None } in
     grouped_within (record ended { sessions = sessions_without i b.groups s }) (groups_without i b.groups)
-    (like_within ended (sessions_without i b.groups s) (without_kept (Like s) (like_turn s) i b.groups s (like_same s)) (ended_within i b w))
+    (like_within ended (sessions_without i b.groups s) (without_kept (Like s) (like_turn s) i b.groups s (like_same s)) (ended_within i (dated_will true i b) (will_within true i b w)))
 
 loses_within : (i : ℕ) (b : Broker) → IsWithin b → IsWithin (loses_client i b)
 unfolding loses_client
 loses_within i b w =
     if_within (stays_at i b.members) _ _
-    (alike_within (record b { sessions = loses i b.sessions }) (on_member i (away b.moment) b.members) (alike_on (away b.moment) (λ m. refl) i b.members)
-    (fewer_within b (loses i b.sessions) (loses_fewer i b.sessions) w)) (forgets_within i b w)
+    (alike_within (record b { sessions = loses i dated_ones }) (on_member i (away b.moment) b.members) (alike_on (away b.moment) (λ m. refl) i b.members)
+    (fewer_within (dated_will false i b) (loses i dated_ones) (loses_fewer i dated_ones) (will_within false i b w))) (forgets_within i b w)
+  where
+    dated_ones : Sessions
+    dated_ones = sessions_dated false i b
 
 leaves_within : (i : ℕ) (b : Broker) → IsWithin b → IsWithin (leaves_client i b)
 unfolding leaves_client
@@ -221,8 +233,9 @@ goes_within other i b w = loses_within i b w
 publishes_within : (i : ℕ) (b : Broker) → IsWithin b → IsWithin (publishes_will i b)
 unfolding publishes_will
 publishes_within i b w =
-    alike_within (record b { sessions = is_due i b.sessions }) (on_member i undue b.members) (alike_on undue (λ m. refl) i b.members)
-    (fewer_within b (is_due i b.sessions) (due_fewer i b.sessions) w)
+    let s : Sessions = sessions_dated true i b in
+    alike_within (record b { sessions = is_due i s }) (on_member i undue b.members) (alike_on undue (λ m. refl) i b.members)
+    (fewer_within (dated_will true i b) (is_due i s) (due_fewer i s) (will_within true i b w))
 
 refuses_within : (d i : ℕ) (reason : DisconnectReasonCode) (b : Broker) → IsWithin b → IsWithin (refuses d i reason b)
 unfolding refuses
@@ -363,8 +376,11 @@ unfolding comes_in
 comes_in_within d i present given q will b w =
     let m : Option ℕ = Some (receive_max_of q.properties) in
     let its_will : Option Will = option_map will_of will in
-    connected_within d (λ (l : Connection). written_all (welcome i present given q b) (taken_by i (longest_of q.properties) (silence_of b.keep_alive_max q) b.moment l)) (record b { sessions = comes i m its_will b.sessions })
-    (fewer_within b (comes i m its_will b.sessions) (comes_fewer i m its_will b.sessions) w)
+    connected_within d (λ (l : Connection). written_all (welcome i present given q b) (taken_by i (longest_of q.properties) (silence_of b.keep_alive_max q) b.moment l)) (record b { sessions = comes i m its_will dated_ones })
+    (fewer_within (dated_will false i b) (comes i m its_will dated_ones) (comes_fewer i m its_will dated_ones) (will_within false i b w))
+  where
+    dated_ones : Sessions
+    dated_ones = sessions_dated false i b
 
 displaced_within : (o : Option ℕ) (b : Broker) → IsWithin b → IsWithin (displaced o b)
 displaced_within None b w = w
@@ -382,16 +398,17 @@ begins_within i anew q will b w = by anew
     m = member_of (owner_at i b.members) q will
 
     by : (v : Bool) → IsWithin (record b {
-      sessions = if v then sessions_without i b.groups (ends i b.sessions) else b.sessions;
+      sessions = if v then sessions_without i b.groups (ends i (sessions_dated true i b)) else b.sessions;
       members = slice_set b.members i (Some m);
       groups = if v then groups_without i b.groups else b.groups;
     })
     by true =
-        let s : Sessions = ends i b.sessions in
+        let dated_ones : Sessions = sessions_dated true i b in
+        let s : Sessions = ends i dated_ones in
         let t : Sessions = sessions_without i b.groups s in
         grouped_within (record b { sessions = t; members = slice_set b.members i (Some m) }) (groups_without i b.groups)
         (alike_within (record b { sessions = t }) (slice_set b.members i (Some m)) (alike_set i b.members m refl)
-        (like_within (record b { sessions = s }) t (without_kept (Like s) (like_turn s) i b.groups s (like_same s)) (fewer_within b s (ends_fewer i b.sessions) w)))
+        (like_within (record b { sessions = s }) t (without_kept (Like s) (like_turn s) i b.groups s (like_same s)) (fewer_within (dated_will true i b) s (ends_fewer i dated_ones) (will_within true i b w))))
     by false = alike_within b (slice_set b.members i (Some m)) (alike_set i b.members m refl) w
 
 returns_within : (d i : ℕ) (q : Connect) (will : Option LastWill) (b : Broker) → IsWithin b → IsWithin (returns d i q will b)
@@ -614,10 +631,12 @@ ends_over_within i b w = if_within (exceeds (counts i b.sessions) b.bounds) _ _ 
 
 trims_within : (i : ℕ) (b : Broker) → IsWithin b → IsWithin (trims i b)
 unfolding trims
-trims_within i b w = ends_over_within i (sheds_of i b) (sheds_within (surplus_of b.bounds.queued b.bounds.bytes i b.sessions) i b w)
+trims_within i b w =
+    let k = sheds_within (surplus_of b.bounds.oldest b.bounds.queued b.bounds.bytes i b.sessions) i b w in
+    if_within (exceeds (counts i b.sessions) b.bounds) _ _ (ends_over_within i (sheds_of i b) (record { numbers = k.numbers; none = k.none; within = k.within })) w
 
-pub trims_all_within : (b : Broker) → IsWithin b → IsWithin (trims_all b)
-trims_all_within b w = each_within (length b.members) trims b trims_within w
+pub trims_at_within : (at : ℕ) (b : Broker) → IsWithin b → IsWithin (trims_at at b)
+trims_at_within at b w = each_within (length b.members) trims (at_moment at b) trims_within (moment_within at b w)
 
 ends_now_within : (c : ℕ) (b : Broker) → IsWithin b → IsWithin (ends_now c b)
 unfolding ends_now

@@ -13,15 +13,16 @@ use Rattle.mqtt5_broker.specs.Broker.{Broker, on_connection}
 -- ---- acts
 
 -- something happens to the sessions; other clients are known, and others take part in shared
--- subscriptions; another number for the next name; another moment; of a connection: it is heard, a
--- packet is written, nothing more is taken, it is that of a client, an alias stands for a topic, and
--- bytes are held or taken out
+-- subscriptions; another number for the next name; another moment; another count of messages that were
+-- let go; of a connection: it is heard, a packet is written, nothing more is taken, it is that of a
+-- client, an alias stands for a topic, and bytes are held or taken out
 pub data Act : Type 0 where
   Session : (event : SessionEvent) → Act
   Know : (members : List (Option Member)) → Act
   Regroup : (groups : List Group) → Act
   Name : (number : ℕ) → Act
   Moment : (at : ℕ) → Act
+  Count : (dropped : ℕ) → Act
   Hear : (connection at : ℕ) → Act
   Write : (connection : ℕ) (packet : Packet) → Act
   Shut : (connection : ℕ) → Act
@@ -36,6 +37,7 @@ act (Know ms) b = record b { members = ms }
 act (Regroup gs) b = record b { groups = gs }
 act (Name n) b = record b { next_name = n }
 act (Moment at) b = record b { moment = at }
+act (Count n) b = record b { dropped = n }
 act (Hear d at) b = on_connection d (heard at) b
 act (Write d p) b = on_connection d (written p) b
 act (Shut d) b = on_connection d shut b

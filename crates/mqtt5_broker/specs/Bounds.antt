@@ -1,7 +1,7 @@
 -- What an operator bounds, and what comes of more than that: reason 0x97, Quota exceeded (MQTT 5.0
 -- sections 3.2.2.2, 3.14.2.1 and 4.13).
-use Rattle.std.specs.Prelude.{ℕ, ◌==◌, nat_lt, nat_le, Bool, false, not, ◌&&◌, ◌||◌, length, Option}
-use Rattle.std.specs.Prelude.{Some, None, is_some, if◌then◌else◌}
+use Rattle.std.specs.Prelude.{ℕ, ◌+◌, ◌==◌, nat_lt, nat_le, min, Bool, false, not, ◌&&◌, ◌||◌, length}
+use Rattle.std.specs.Prelude.{Option, Some, None, is_some, if◌then◌else◌}
 use Rattle.std.specs.List.{list_any}
 use Rattle.mqtt5_publish.specs.declared.publish.Publish.{Publish}
 use Rattle.mqtt5_control.specs.declared.disconnect.DisconnectReasonCode.{DisconnectReasonCode}
@@ -11,11 +11,12 @@ use Rattle.mqtt5_codec.specs.declared.packet.Packet.TheVariants as packets
 use Rattle.mqtt5_network.specs.Retained.{is_to}
 use Rattle.mqtt5_sessions.specs.declared.counts.Counts.{Counts}
 use Rattle.mqtt5_sessions.specs.Counts.{counts}
-use Rattle.mqtt5_sessions.specs.Shedding.{sheds}
+use Rattle.mqtt5_sessions.specs.Shedding.{surplus_of, sheds}
 use Rattle.mqtt5_broker.specs.declared.bounds.Bounds.{Bounds}
 use Rattle.mqtt5_broker.specs.Connection.{told, connection_of}
 use Rattle.mqtt5_broker.specs.Rights.{may_do}
-use Rattle.mqtt5_broker.specs.Broker.{Broker, free_number, owner_at, on_connection, forgets}
+use Rattle.mqtt5_broker.specs.Broker.{Broker, at_moment, free_number, owner_at, on_connection}
+use Rattle.mqtt5_broker.specs.Broker.{forgets}
 use Rattle.mqtt5_broker.specs.Clock.{for_each}
 
 -- other bounds from now on
@@ -63,14 +64,30 @@ ends_over i b =
     if exceeds (counts i b.sessions) b.bounds
     then ends_of (connection_of i b.connections) (forgets i b) else b
 
--- the messages of QoS 0 at the front of its queue are let go, as long as more wait than may
-abbrev pub sheds_of : ℕ → Broker → Broker
-sheds_of i b = record b { sessions = sheds b.bounds.queued b.bounds.bytes i b.sessions }
+-- how many messages were let go, with so many more
+abbrev pub dropped_after : ℕ → ℕ → ℕ
+dropped_after n more = min (n + more) 18446744073709551615
 
--- first these are, and where more is kept then all the same, its session ends
+-- the messages at the front of its queue are let go, as long as more wait than may, and they are of
+-- QoS 0, or the oldest of any may go
+abbrev pub sheds_of : ℕ → Broker → Broker
+sheds_of i b = record b {
+  sessions = sheds b.bounds.oldest b.bounds.queued b.bounds.bytes i b.sessions;
+  dropped =
+      dropped_after b.dropped
+      (surplus_of b.bounds.oldest b.bounds.queued b.bounds.bytes i b.sessions);
+}
+
+-- where more is kept for it than may be, its queue is shortened, and its session ends where that
+-- isn't enough
 unfoldable pub trims : ℕ → Broker → Broker
-trims i b = ends_over i (sheds_of i b)
+trims i b =
+    if exceeds (counts i b.sessions) b.bounds then ends_over i (sheds_of i b) else b
 
 -- of all clients
 abbrev pub trims_all : Broker → Broker
 trims_all b = for_each (length b.members) trims b
+
+-- at a moment
+abbrev pub trims_at : ℕ → Broker → Broker
+trims_at at b = trims_all (at_moment at b)

@@ -1,7 +1,7 @@
 -- What a broker keeps: the sessions of its clients, their names, its connections, what its users may
 -- do, and who takes part in shared subscriptions (MQTT 5.0 sections 3.1.2.11.2, 3.1.3.1, 3.1.3.2.2,
 -- 4.1, 4.8.2 and 5.4).
-use Rattle.std.specs.Prelude.{ℕ, ◌+◌, ◌==◌, nat_eq, min, max, Bool, true, false, not, List, [], ◌∷◌}
+use Rattle.std.specs.Prelude.{ℕ, ◌+◌, ◌==◌, nat_eq, min, max, Bool, true, false, not, ◌&&◌, List, [], ◌∷◌}
 use Rattle.std.specs.Prelude.{◌++◌, length, Option, Some, None, is_none, option_map}
 use Rattle.std.specs.Prelude.{slice_index_or, slice_set, if◌then◌else◌, codes}
 use Rattle.std.specs.Fmt.{decimal}
@@ -9,10 +9,12 @@ use Rattle.std.specs.List.{position}
 use Rattle.std.specs.Cmp.Lexicographic.{pointwise}
 use Rattle.mqtt5_base.specs.Texts.{Utf8, text_of}
 use Rattle.mqtt5_control.specs.declared.disconnect.DisconnectReasonCode.{DisconnectReasonCode}
-use Rattle.mqtt5_sessions.specs.Sessions.{Sessions, joins, loses, leaves, ends, is_due}
+use Rattle.mqtt5_sessions.specs.Sessions.{Sessions, joins, loses, leaves, ends, is_due, dates}
+use Rattle.mqtt5_sessions.specs.Expiry.{will_expiry, will_is_delayed}
 use Rattle.mqtt5_broker.specs.declared.bounds.Bounds.{Bounds}
 use Rattle.mqtt5_broker.specs.declared.member.Member.{Member}
 use Rattle.mqtt5_broker.specs.Moments.{seconds_after, has_come}
+use Rattle.mqtt5_broker.specs.Expiry.{begun}
 use Rattle.mqtt5_broker.specs.Rights.{Rights, no_rights, with_rights}
 use Rattle.mqtt5_broker.specs.Groups.{Group, groups_without, sessions_without}
 use Rattle.mqtt5_broker.specs.Connection.{Connection, shut, told, with_connection}
@@ -23,7 +25,8 @@ use Rattle.mqtt5_broker.specs.Connection.{connection_at}
 -- used to a client (2.2.1); the greatest remaining length of what a client sends; for how many
 -- milliseconds a connection may be open without a Connect, or 0 for any time; the greatest topic alias
 -- of a client, or 0 for none; its longest keep alive in seconds, or 0 for any; what may be kept at most;
--- the last moment; and the number of the next name that a client is given
+-- the last moment; the number of the next name that a client is given; and how many messages were let
+-- go of queues that were too long
 pub record Broker : Type 0 where
   pub sessions : Sessions
   pub members : List (Option Member)
@@ -38,6 +41,7 @@ pub record Broker : Type 0 where
   pub bounds : Bounds
   pub moment : ℕ
   pub next_name : ℕ
+  pub dropped : ℕ
 
 -- nothing is bounded
 abbrev pub no_bounds : Bounds
@@ -47,6 +51,7 @@ no_bounds = record {
   retained = 18446744073709551615;
   queued = 18446744073709551615;
   bytes = 18446744073709551615;
+  oldest = false;
 }
 
 -- a moment has come; an earlier one than the last is taken for that
@@ -175,12 +180,22 @@ on_member i f ms = slice_set ms i (option_map f (member_at i ms))
 abbrev pub on_connection : ℕ → (Connection → Connection) → Broker → Broker
 on_connection c f b = record b { connections = with_connection c f b.connections }
 
+-- ---- wills
+
+-- the lifetime of a client's will begins at this moment, since it is published (3.1.3.2.4): of any,
+-- or of one that has no delay
+abbrev pub sessions_dated : Bool → ℕ → Broker → Sessions
+sessions_dated any i b =
+    dates i
+    (option_map (begun (not any && will_is_delayed i b.sessions) b.moment)
+    (will_expiry i b.sessions)) b.sessions
+
 -- ---- ends
 
 -- the session of a client ends, and nobody has its number (3.1.2.4); its turns go to others (4.8.2)
 unfoldable pub forgets : ℕ → Broker → Broker
 forgets i b = record b {
-  sessions = sessions_without i b.groups (ends i b.sessions);
+  sessions = sessions_without i b.groups (ends i (sessions_dated true i b));
   members = slice_set b.members i None;
   groups = groups_without i b.groups;
 }
@@ -189,7 +204,10 @@ forgets i b = record b {
 unfoldable pub loses_client : ℕ → Broker → Broker
 loses_client i b =
     if stays_at i b.members
-    then record b { sessions = loses i b.sessions; members = on_member i (away b.moment) b.members }
+    then record b {
+      sessions = loses i (sessions_dated false i b);
+      members = on_member i (away b.moment) b.members;
+    }
     else forgets i b
 
 -- it leaves: the same, without its will (3.14.4)
@@ -205,7 +223,7 @@ leaves_client i b = stays_or_ends i (record b { sessions = leaves i b.sessions }
 -- the will of one that is away is published (3.1.3.2.2)
 unfoldable pub publishes_will : ℕ → Broker → Broker
 publishes_will i b = record b {
-  sessions = is_due i b.sessions;
+  sessions = is_due i (sessions_dated true i b);
   members = on_member i undue b.members;
 }
 

@@ -6,16 +6,16 @@ use Rattle.mqtt5_broker.specs.Connection.{with_sent}
 use Rattle.mqtt5_broker.specs.Broker.{Broker, on_connection, knows_user, lets}
 use Rattle.mqtt5_broker.specs.Rights.{publishing, subscribing}
 use Rattle.mqtt5_broker.specs.Clock.{ticks, shuts_down}
-use Rattle.mqtt5_broker.specs.Bounds.{bounded, trims_all}
+use Rattle.mqtt5_broker.specs.Bounds.{bounded, trims_at}
 use Rattle.mqtt5_broker.specs.Serving.{passes_at}
 use Rattle.mqtt5_broker.specs.Receiving.{receives, opens, closes}
 use Rattle.mqtt5_broker.specs.Asking.{holds, identifies, rejects}
 
 -- a connection begins; bytes of it come, and are only held, or it is of a user, or its client is turned
 -- away, or they are taken; so many of those to be sent were sent; a moment comes at which the first of
--- its client's queue is passed on, or has expired; it ends; a moment comes; bounds are set; what exceeds
--- them ends; the broker does; there is one user more; and one may publish or subscribe within one
--- filter more
+-- its client's queue is passed on, or has expired; it ends; a moment comes; bounds are set; a moment
+-- comes at which what exceeds them ends; the broker does; there is one user more; and one may publish or
+-- subscribe within one filter more
 pub data Call : Type 0 where
   Open : (at connection : ℕ) → Call
   Hold : (connection : ℕ) (bytes : List ℕ) → Call
@@ -27,7 +27,7 @@ pub data Call : Type 0 where
   Close : (at connection : ℕ) → Call
   Tick : (at : ℕ) → Call
   SetBounds : (bounds : Bounds) → Call
-  Trim : Call
+  Trim : (at : ℕ) → Call
   ShutDown : (at : ℕ) → Call
   AddUser : Call
   AllowPublish : (user : ℕ) (topic_filter : List ℕ) → Call
@@ -45,7 +45,7 @@ after_call (Pass at c) b = passes_at at c b
 after_call (Close at c) b = closes at c b
 after_call (Tick at) b = ticks at b
 after_call (SetBounds bounds) b = bounded bounds b
-after_call Trim b = trims_all b
+after_call (Trim at) b = trims_at at b
 after_call (ShutDown at) b = shuts_down at b
 after_call AddUser b = knows_user b
 after_call (AllowPublish u f) b = lets u (publishing f) b

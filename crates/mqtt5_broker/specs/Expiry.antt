@@ -1,8 +1,9 @@
 -- Messages that expire (MQTT 5.0 section 3.3.2.3.3). While the broker has one, its Message Expiry
 -- Interval stands for a second of the clock that moments are of: below 2147483647 for the one at which
--- the message expires, and 2147483647 for none. From 2147483648 on it stands for an interval that isn't
--- counted down: that of a will, which begins once this is published (3.1.3.2.4).
-use Rattle.std.specs.Prelude.{ℕ, ◌+◌, ◌-◌, ◌/◌, min, nat_lt, Bool, true, false, ◌&&◌, Option, Some, None}
+-- the message expires, and 2147483647 for none. From 2147483648 on it stands for the interval of a will
+-- that isn't published yet, since it begins only then (3.1.3.2.4).
+use Rattle.std.specs.Prelude.{ℕ, ◌+◌, ◌-◌, ◌/◌, min, nat_lt, Bool, true, false, ◌&&◌, ◌||◌, Option}
+use Rattle.std.specs.Prelude.{Some, None}
 use Rattle.std.specs.Prelude.{option_map, if◌then◌else◌}
 use Rattle.mqtt5_publish.specs.declared.publish.Publish.{Publish}
 use Rattle.mqtt5_publish.specs.declared.publish.PublishProperties.{PublishProperties}
@@ -17,14 +18,19 @@ second_of at = at / 1000
 abbrev pub expiry_second : ℕ → ℕ → ℕ
 expiry_second at interval = min (second_of at + interval) 2147483647
 
--- what is left at a moment, of the second at which one expires, or of an interval that isn't counted
+-- what is left at a moment, of the second at which one expires
 abbrev pub seconds_left : ℕ → ℕ → ℕ
-seconds_left at second =
-    if nat_lt second 2147483648 then second - second_of at else second - 2147483648
+seconds_left at second = second - second_of at
 
--- an interval that isn't counted
+-- that of a will that isn't published yet
 abbrev pub uncounted : ℕ → ℕ
 uncounted interval = 2147483648 + min interval 2147483647
+
+-- and once it is, at a moment, unless it waits still; one whose lifetime has begun keeps its second
+abbrev pub begun : Bool → ℕ → ℕ → ℕ
+begun waits at interval =
+    if waits || nat_lt interval 2147483648 then interval
+    else expiry_second at (interval - 2147483648)
 
 -- whether one has expired, once the whole second is over
 abbrev pub is_over : ℕ → Option ℕ → Bool

@@ -28,7 +28,7 @@ use Rattle.mqtt5_broker.specs.Aliases.{alias_used, unaliased, named}
 use Rattle.mqtt5_broker.specs.Expiry.{is_over, dated, counted}
 use Rattle.mqtt5_broker.specs.Reasons.{rejection}
 use Rattle.mqtt5_broker.specs.Broker.{Broker, at_moment, number_of, free_number, on_connection}
-use Rattle.mqtt5_broker.specs.Broker.{on_member}
+use Rattle.mqtt5_broker.specs.Broker.{on_member, sessions_dated}
 use Rattle.mqtt5_broker.specs.Broker.{loses_client, leaves_client, refuses, stays_at, expiring}
 use Rattle.mqtt5_broker.specs.Broker.{member_at, has_ended, numbers, number_in}
 use Rattle.mqtt5_broker.specs.Broker.{assigned_name, number_after, user_at, owner_at, is_same}
@@ -195,7 +195,8 @@ welcome i present given k b =
     connack present given k b
     ∷ map (counted b.moment) (sent_again i (Some (receive_max_of k.properties)) b.sessions)
 
--- it is taken, and sent these
+-- it is taken, and sent these; the will of a connection that it still had is published, unless it has a
+-- delay (3.1.4)
 unfoldable pub comes_in : ℕ → ℕ → Bool → Bool → Connect → Option LastWill → Broker → Broker
 comes_in c i present given k will b =
     on_connection c
@@ -204,7 +205,8 @@ comes_in c i present given k will b =
     (taken_by i (longest_of k.properties) (silence_of b.keep_alive_max k) b.moment l))
     (record b {
       sessions =
-          comes i (Some (receive_max_of k.properties)) (option_map will_of will) b.sessions;
+          comes i (Some (receive_max_of k.properties)) (option_map will_of will)
+          (sessions_dated false i b);
     })
 
 -- the connection that it has is told that another takes its place (3.1.4)
@@ -225,7 +227,8 @@ starts_anew i k b =
 unfoldable pub begins : ℕ → Bool → Connect → Option LastWill → Broker → Broker
 begins i anew k will b = record b {
   sessions =
-      if anew then sessions_without i b.groups (ends i b.sessions) else b.sessions;
+      if anew then sessions_without i b.groups (ends i (sessions_dated true i b))
+      else b.sessions;
   members = slice_set b.members i (Some (member_of (owner_at i b.members) k will));
   groups = if anew then groups_without i b.groups else b.groups;
 }

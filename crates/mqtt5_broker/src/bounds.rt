@@ -1,12 +1,12 @@
 //! What an operator bounds.
 
-ghost use Rattle.std.specs.Prelude.{◌≡◌, OnOk, IfOk, IfErr, Some, is_some};
+ghost use Rattle.std.specs.Prelude.{◌≡◌, OnOk, OnErr, IfOk, IfErr, Some, is_some};
 ghost use Rattle.std.specs.List.{list_any};
 ghost use Rattle.mqtt5_network.specs.Retained.{is_to};
 ghost use Rattle.mqtt5_sessions.specs.declared.counts.Counts.{Counts};
 ghost use Rattle.mqtt5_broker.specs.Broker.{no_bounds};
 ghost use Rattle.mqtt5_broker.specs.Connection.{connection_of};
-ghost use Rattle.mqtt5_broker.specs.Bounds.{bounded, has_room, adds_retained, asks_too_much, quota_fault, exceeds, ends_of, ends_over, trims, trims_all};
+ghost use Rattle.mqtt5_broker.specs.Bounds.{bounded, has_room, adds_retained, asks_too_much, quota_fault, exceeds, ends_of, ends_over, dropped_after, sheds_of, trims, trims_all, trims_at};
 
 use crate::broker::Broker;
 use crate::connections::connection_of;
@@ -32,6 +32,8 @@ pub struct Bounds {
     pub queued: usize,
     /// And how many bytes the frames of these have.
     pub bytes: u64,
+    /// Whether of a queue in which more waits the oldest publishes of any QoS are let go, and not those of QoS 0 alone.
+    pub oldest: bool,
 }
 
 /// Nothing is bounded.
@@ -44,6 +46,7 @@ pub(super) fn no_bounds() -> Bounds
         retained: usize::MAX,
         queued: usize::MAX,
         bytes: u64::MAX,
+        oldest: false,
     }
 }
 
@@ -145,9 +148,23 @@ impl Broker {
         Ok(())
     }
 
-    /// Of a client's queue the messages of QoS 0 at the front are let go, as long as more wait than may; and its session ends, where
-    /// more is kept all the same. S12.
-    #[tactic(auto, using(crate::proofs::Shed::within_bounds), unfolding(crate::specs::Bounds::trims))]
+    /// The messages at the front of a client's queue are let go, as long as more wait than may, and they are of QoS 0, or any may
+    /// go. S12, which leaves all as it was.
+    fn shed(&mut self, alloc: Global, client: usize) -> Result<(), StateError>
+        ensures ok { OnOk result (self.new ≡ sheds_of client self.old) }
+        ensures memory { IfErr result (λ e. e ≡ StateError.OutOfMemory) }
+        ensures left { OnErr result (self.new ≡ self.old) }
+    {
+        let bounds = self.bounds;
+        let count = self
+            .sessions
+            .shed(alloc, client, bounds.oldest, bounds.queued, bounds.bytes)?;
+        self.dropped = self.dropped.saturating_add(count as u64);
+        Ok(())
+    }
+
+    /// Where more is kept for a client than may be, its queue is shortened, and its session ends where that isn't enough. S12.
+    #[tactic(auto, unfolding(crate::specs::Bounds::trims))]
     fn trim_one(&mut self, alloc: Global, client: usize) -> Result<(), StateError>
         ensures ok { OnOk result (self.new ≡ trims client self.old) }
         ensures memory { IfErr result (λ e. e ≡ StateError.OutOfMemory) }
@@ -156,15 +173,29 @@ impl Broker {
         if !exceeds(&counts, &self.bounds) {
             return Ok(());
         }
-        self.sessions
-            .shed(alloc, client, self.bounds.queued, self.bounds.bytes)?;
+        self.shed(alloc, client)?;
         self.end_over(alloc, client)
     }
 
-    /// Of each queue in which more waits than may the first messages are let go, as long as that is so, and they are of QoS 0 (4.3.1).
-    /// The session of each client ends for which more is kept then than may be: one that is connected is told QuotaExceeded, and
-    /// nothing more is taken of its connection. S12.
-    pub fn trim(&mut self, alloc: Global) -> Result<(), StateError>
+    /// How many messages `trim` has let go of queues, or 18446744073709551615 where they are more.
+    pub fn dropped(&self) -> u64
+        ensures { result ≡ self.now.dropped }
+    {
+        self.dropped
+    }
+
+    /// At a moment, of each client for which more is kept than may be the first messages of its queue are let go, as long as more
+    /// wait than may, and they are of QoS 0 (4.3.1), or of any QoS, where the bounds say that. The session of each ends for which
+    /// more is kept all the same: one that is connected is told QuotaExceeded, and nothing more is taken of its connection. S12.
+    pub fn trim(&mut self, alloc: Global, at: u64) -> Result<(), StateError>
+        ensures ok { OnOk result (self.new ≡ trims_at at self.old) }
+        ensures memory { IfErr result (λ e. e ≡ StateError.OutOfMemory) }
+    {
+        self.set_moment(at);
+        self.trim_all(alloc)
+    }
+
+    fn trim_all(&mut self, alloc: Global) -> Result<(), StateError>
         ensures ok { OnOk result (self.new ≡ trims_all self.old) }
         ensures memory { IfErr result (λ e. e ≡ StateError.OutOfMemory) }
     {

@@ -63,6 +63,7 @@ pub struct Broker {
     pub(super) bounds: Bounds,
     pub(super) moment: u64,
     pub(super) next_name: u64,
+    pub(super) dropped: u64,
 }
 
 impl Model for Broker {
@@ -96,6 +97,7 @@ impl Model for Broker {
       bounds = a.bounds;
       moment = a.moment;
       next_name = a.next_name;
+      dropped = a.dropped;
     } };
 }
 
@@ -137,6 +139,7 @@ impl Broker {
           bounds = no_bounds;
           moment = 0;
           next_name = limits.now.first_name;
+          dropped = 0;
         }) }
     {
         Ok(Broker {
@@ -153,6 +156,7 @@ impl Broker {
             bounds: no_bounds(),
             moment: 0,
             next_name: limits.first_name,
+            dropped: 0,
         })
     }
 

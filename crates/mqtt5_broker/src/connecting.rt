@@ -113,7 +113,7 @@ impl Broker {
     {
         let max = receive_max_of(&connect.properties);
         let will = will_of(alloc, will)?;
-        let packets = self.sessions.come(alloc, client, Some(max), will)?;
+        let packets = self.take_up(alloc, client, max, will)?;
         self.welcome(alloc, connection, client, present, given, connect, packets)?;
         Ok(())
     }
@@ -214,7 +214,7 @@ impl Broker {
         let owner = owner_at(client, self.members.as_slice());
         let member = member_of(owner, connect, will)?;
         if anew {
-            self.sessions.end(alloc, client)?;
+            self.end_session(alloc, client)?;
             leave_all(&mut self.groups, client);
             give_all(&mut self.sessions, self.groups.as_slice());
         }

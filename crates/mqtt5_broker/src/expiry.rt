@@ -2,7 +2,7 @@
 
 ghost use Rattle.std.specs.Prelude.{◌≡◌, map, option_map};
 ghost use Rattle.std.specs.Option.{option_to_list};
-ghost use Rattle.mqtt5_broker.specs.Expiry.{second_of, expiry_second, seconds_left, uncounted, is_over, converted, with_interval, with_expiry, dated, counted};
+ghost use Rattle.mqtt5_broker.specs.Expiry.{second_of, expiry_second, seconds_left, uncounted, begun, is_over, converted, with_interval, with_expiry, dated, counted};
 
 use mqtt5_codec::Packet;
 use mqtt5_publish::{Publish, PublishProperties};
@@ -22,22 +22,38 @@ fn expiry_second(at: u64, interval: u32) -> u32
     second.min(2_147_483_647) as u32
 }
 
-/// What is left of it at a moment, or an interval that isn't counted.
+/// What is left of it at a moment.
 fn seconds_left(at: u64, second: u32) -> u32
     ensures { result ≡ seconds_left at second }
 {
-    if second < 2_147_483_648 {
-        (second as u64).saturating_sub(second_of(at)) as u32
-    } else {
-        second - 2_147_483_648
-    }
+    (second as u64).saturating_sub(second_of(at)) as u32
 }
 
-/// The interval of a will, which isn't counted.
+/// The interval of a will that isn't published yet.
 pub(super) fn uncounted(interval: u32) -> u32
     ensures { result ≡ uncounted interval }
 {
     2_147_483_648 + interval.min(2_147_483_647)
+}
+
+/// That of one that is published at a moment, unless it waits still.
+fn begun(waits: bool, at: u64, interval: u32) -> u32
+    ensures { result ≡ begun waits at interval }
+{
+    if waits || interval < 2_147_483_648 {
+        return interval;
+    }
+    expiry_second(at, interval - 2_147_483_648)
+}
+
+/// The same, where there is an interval.
+pub(super) fn begun_in(waits: bool, at: u64, interval: Option<u32>) -> Option<u32>
+    ensures { result ≡ option_map (begun waits at) interval }
+{
+    match interval {
+        Some(interval) => Some(begun(waits, at, interval)),
+        None => None,
+    }
 }
 
 /// Whether a message has expired at a moment.

@@ -28,7 +28,7 @@ ghost use Rattle.mqtt5_broker.specs.Broker.{Broker, at_moment, on_connection, nu
 ghost use Rattle.mqtt5_broker.specs.Serving.{fault_of, serves, rejects_by, turns_away, admits, connects, passes_at};
 ghost use Rattle.mqtt5_broker.specs.Receiving.{receives, ends_with, opens, closes};
 ghost use Rattle.mqtt5_broker.specs.Clock.{ticks, next_moment, shuts_down};
-ghost use Rattle.mqtt5_broker.specs.Bounds.{trims_all};
+ghost use Rattle.mqtt5_broker.specs.Bounds.{trims_at};
 ghost use Rattle.mqtt5_broker.specs.Standing.{IsStanding, client_at};
 ghost use Rattle.mqtt5_broker.specs.Acts.{Act, acts, events_in, output_at, Sends};
 ghost use Rattle.mqtt5_broker.specs.declared.asking.Asks.TheVariants as asks;
@@ -71,7 +71,7 @@ pub fn acts_law()
     ensures pass { (at c : ℕ) (b : Broker)
         → (done : List Act) × (passes_at at c b ≡ acts done b) }
     ensures tick { (at : ℕ) (b : Broker) → (done : List Act) × (ticks at b ≡ acts done b) }
-    ensures trim { (b : Broker) → (done : List Act) × (trims_all b ≡ acts done b) }
+    ensures trim { (b : Broker) (at : ℕ) → (done : List Act) × (trims_at at b ≡ acts done b) }
     ensures shut_down { (at : ℕ) (b : Broker)
         → (done : List Act) × (shuts_down at b ≡ acts done b) }
     // And of the end of a connection.
@@ -104,7 +104,7 @@ pub fn connections_law()
         → IsStanding b → IsStanding (on_connection c (with_sent count) b) }
     ensures close { (at c : ℕ) (b : Broker) → IsStanding b → IsStanding (closes at c b) }
     ensures tick { (at : ℕ) (b : Broker) → IsStanding b → IsStanding (ticks at b) }
-    ensures trim { (b : Broker) → IsStanding b → IsStanding (trims_all b) }
+    ensures trim { (b : Broker) (at : ℕ) → IsStanding b → IsStanding (trims_at at b) }
     ensures shut_down { (at : ℕ) (b : Broker) → IsStanding b → IsStanding (shuts_down at b) }
 {}
 

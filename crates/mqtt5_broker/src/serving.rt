@@ -55,7 +55,7 @@ impl Broker {
         ensures memory { IfErr result (λ e. e ≡ StateError.OutOfMemory) }
         ensures left { OnErr result (self.new ≡ self.old) }
     {
-        self.sessions.end(alloc, client)?;
+        self.end_session(alloc, client)?;
         leave_all(&mut self.groups, client);
         give_all(&mut self.sessions, self.groups.as_slice());
         if client < self.members.len() {
@@ -72,7 +72,7 @@ impl Broker {
         ensures left { OnErr result (self.new ≡ self.old) }
     {
         if stays_at(client, self.members.as_slice()) {
-            self.sessions.lose(alloc, client)?;
+            self.lose_connection(alloc, client)?;
             away_at(&mut self.members, client, self.moment);
             return Ok(());
         }
@@ -102,7 +102,7 @@ impl Broker {
         ensures memory { IfErr result (λ e. e ≡ StateError.OutOfMemory) }
         ensures left { OnErr result (self.new ≡ self.old) }
     {
-        self.sessions.due(alloc, client)?;
+        self.publish_due(alloc, client)?;
         undue_at(&mut self.members, client);
         Ok(())
     }

@@ -80,6 +80,7 @@ fresh connections longest ids wait alias_max keep_alive_max first_name = record 
   bounds = no_bounds;
   moment = 0;
   next_name = first_name;
+  dropped = 0;
 }
 
 -- ---- who wants to connect

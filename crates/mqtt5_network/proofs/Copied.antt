@@ -49,6 +49,7 @@ none_come handed p events.Lost q = refl
 none_come handed p events.Left q = refl
 none_come handed p (events.Turn f turn) q = refl
 none_come handed p events.Due q = refl
+none_come handed p (events.Dated interval) q = refl
 none_come handed p events.Expire q = refl
 none_come handed p (events.Back m n w) q = refl
 none_come handed p events.Ends q = refl

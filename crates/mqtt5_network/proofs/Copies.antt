@@ -101,6 +101,7 @@ are_copies handed p events.Lost = no_copies
 are_copies handed p events.Left = no_copies
 are_copies handed p (events.Turn f turn) = no_copies
 are_copies handed p events.Due = no_copies
+are_copies handed p (events.Dated interval) = no_copies
 are_copies handed p events.Expire = no_copies
 are_copies handed p (events.Back m n w) = no_copies
 are_copies handed p events.Ends = no_copies

@@ -94,6 +94,7 @@ module _ (handed : List Publish) (p : Place) where
   here_next events.Left h = inr (record { is = refl; up = refl; down = refl; hidden = record { up = p.client.up; down = p.client.down; client = h.client } })
   here_next (events.Turn f turn) h = inl (record { is = h.is; client = client_turned handed f turn p.client h.client })
   here_next events.Due h = inl (record { is = h.is; client = h.client })
+  here_next (events.Dated interval) h = inl (record { is = h.is; client = h.client })
   here_next events.Expire h = inl (record { is = h.is; client = client_moved handed moves.Expire p.client h.client })
   here_next (events.Back m n w) h = inl (record { is = refl; client = client_moved handed (moves.Back m n) p.client h.client })
   here_next events.Ends h = inr (here_ended h)
@@ -109,6 +110,7 @@ module _ (handed : List Publish) (p : Place) where
   gone_next events.Left h = inr (record { is = refl; up = refl; down = refl; hidden = record { up = h.hidden.up; down = h.hidden.down; client = h.hidden.client } })
   gone_next (events.Turn f turn) h = inr (record { is = h.is; up = h.up; down = h.down; hidden = record { up = h.hidden.up; down = h.hidden.down; client = client_turned handed f turn (seen p.client h.hidden.up h.hidden.down) h.hidden.client } })
   gone_next events.Due h = inr (record { is = h.is; up = h.up; down = h.down; hidden = record { up = h.hidden.up; down = h.hidden.down; client = h.hidden.client } })
+  gone_next (events.Dated interval) h = inr (record { is = h.is; up = h.up; down = h.down; hidden = record { up = h.hidden.up; down = h.hidden.down; client = h.hidden.client } })
   gone_next events.Expire h = inr (record { is = h.is; up = h.up; down = h.down; hidden = record { up = h.hidden.up; down = h.hidden.down; client = client_moved handed moves.Expire (seen p.client h.hidden.up h.hidden.down) h.hidden.client } })
   gone_next (events.Back m n w) h = inl (record { is = refl; client = client_moved handed (moves.Back m n) (seen p.client h.hidden.up h.hidden.down) h.hidden.client })
   gone_next events.Ends h = inr (gone_ended h)
@@ -146,6 +148,7 @@ goes_on p events.Lost g = (refl, refl)
 goes_on p events.Left g = (refl, refl)
 goes_on p (events.Turn f turn) g = (refl, refl)
 goes_on p events.Due g = (refl, refl)
+goes_on p (events.Dated interval) g = (refl, refl)
 goes_on p events.Expire g = (refl, refl)
 goes_on p (events.Back m n w) g = (refl, refl)
 goes_on p events.Ends g = absurd g
@@ -166,6 +169,7 @@ course events.Lost = On events.Lost tt
 course events.Left = On events.Left tt
 course (events.Turn f turn) = On (events.Turn f turn) tt
 course events.Due = On events.Due tt
+course (events.Dated interval) = On (events.Dated interval) tt
 course events.Expire = On events.Expire tt
 course (events.Back m n w) = On (events.Back m n w) tt
 course events.Ends = End
@@ -231,6 +235,7 @@ module _ (handed : List Publish) (p : Place) (i : IsPlace handed p) where
   place_grows events.Left = stays _ _ refl
   place_grows (events.Turn f turn) = stays _ _ refl
   place_grows events.Due = stays _ _ refl
+  place_grows (events.Dated interval) = stays _ _ refl
   place_grows events.Expire = stays _ _ refl
   place_grows (events.Back m n w) = stays _ _ refl
   place_grows events.Ends = stays _ _ refl
@@ -266,6 +271,7 @@ wills_grow p events.Lost = record { more = lost_message p.will; grown = refl; fe
 wills_grow p events.Left = stays _ _ refl
 wills_grow p (events.Turn f turn) = stays _ _ refl
 wills_grow p events.Due = record { more = due_message p.here p.will; grown = refl; few = due_few p.here p.will }
+wills_grow p (events.Dated interval) = stays _ _ refl
 wills_grow p events.Expire = stays _ _ refl
 wills_grow p (events.Back m n w) = record { more = replaced_message p.here p.will; grown = refl; few = replaced_few p.here p.will }
 wills_grow p events.Ends = record { more = message_of p.will; grown = refl; few = message_few p.will }
@@ -289,6 +295,7 @@ place_routed p events.Lost = refl
 place_routed p events.Left = refl
 place_routed p (events.Turn f turn) = refl
 place_routed p events.Due = refl
+place_routed p (events.Dated interval) = refl
 place_routed p events.Expire = routed_same p.client moves.Expire
 place_routed p (events.Back m n w) = refl
 place_routed p events.Ends = refl
@@ -318,6 +325,7 @@ module _ (handed : List Publish) (p : Place) where
   here_quiet events.Left k h = λ q. (refl, refl)
   here_quiet (events.Turn f turn) k h = absurd k
   here_quiet events.Due k h = λ q. (q, refl)
+  here_quiet (events.Dated interval) k h = λ q. (q, refl)
   here_quiet events.Expire k h = λ q. (q, refl)
   here_quiet (events.Back m n w) k h = client_quiet h.client.limit h.client.sender_limit p.client h.client.good (moves.Back m n) (tt {0})
   here_quiet events.Ends k h = absurd k
@@ -335,6 +343,7 @@ module _ (handed : List Publish) (p : Place) where
   gone_quiet events.Left k h = λ q. (refl, refl)
   gone_quiet (events.Turn f turn) k h = absurd k
   gone_quiet events.Due k h = λ q. (q, refl)
+  gone_quiet (events.Dated interval) k h = λ q. (q, refl)
   gone_quiet events.Expire k h = λ q. (q, refl)
   gone_quiet (events.Back m n w) k h = λ q. (back_heard h.hidden.client.limit h.hidden.client.sender_limit (seen p.client h.hidden.up h.hidden.down) h.hidden.client.good m n, refl)
   gone_quiet events.Ends k h = absurd k
@@ -363,6 +372,7 @@ module _ (handed : List Publish) (p : Place) where
   here_tells events.Left g h = tells_lost p.client (cut_off p.client) [] refl refl refl refl
   here_tells (events.Turn f turn) g h = tells_same p.client (takes_turn f turn p.client) refl refl refl (turned_without f turn p.client.subscriptions)
   here_tells events.Due g h = tells_same p.client p.client refl refl refl refl
+  here_tells (events.Dated interval) g h = tells_same p.client p.client refl refl refl refl
   here_tells events.Expire g h = tells_same p.client (takes_out p.client) refl refl refl refl
   here_tells (events.Back m n w) g h = client_tells h.client.limit h.client.sender_limit p.client h.client.good (moves.Back m n)
   here_tells events.Ends g h = absurd g
@@ -378,6 +388,7 @@ module _ (handed : List Publish) (p : Place) where
   gone_tells events.Left g h = tells_lost p.client (cut_off p.client) [] refl refl refl refl
   gone_tells (events.Turn f turn) g h = tells_same p.client (takes_turn f turn p.client) refl refl refl (turned_without f turn p.client.subscriptions)
   gone_tells events.Due g h = tells_same p.client p.client refl refl refl refl
+  gone_tells (events.Dated interval) g h = tells_same p.client p.client refl refl refl refl
   gone_tells events.Expire g h = tells_same p.client (takes_out p.client) refl refl refl refl
   gone_tells (events.Back m n w) g h = let c = seen p.client h.hidden.up h.hidden.down in let i = h.hidden.client in tells_lost p.client (happens_at p (events.Back m n w)).client [] (back_told i.limit i.sender_limit c i.good m n) (back_answered i.limit i.sender_limit c i.good m n) (back_heard i.limit i.sender_limit c i.good m n) refl
   gone_tells events.Ends g h = absurd g

@@ -101,6 +101,7 @@ on_if_kept events.Lost k = tt
 on_if_kept events.Left k = tt
 on_if_kept (events.Turn f turn) k = absurd k
 on_if_kept events.Due k = tt
+on_if_kept (events.Dated interval) k = tt
 on_if_kept events.Expire k = tt
 on_if_kept (events.Back m n w) k = tt
 on_if_kept events.Ends k = absurd k

@@ -1,8 +1,9 @@
 -- A client that goes away and comes back, with the will of its connection, and the end of its
--- session (MQTT 5.0 sections 3.1.2.4, 3.1.2.5, 3.1.2.11.2, 3.1.3.2.2, 3.1.4, 3.14.4, 4.1 and 4.4).
-use Rattle.std.specs.Prelude.{◌≡◌, Bool, true, false, List, [], ◌∷◌, ◌++◌, Option, Some, None}
-use Rattle.std.specs.Prelude.{if◌then◌else◌}
+-- session (MQTT 5.0 sections 3.1.2.4, 3.1.2.5, 3.1.2.11.2, 3.1.3.2, 3.1.4, 3.14.4, 4.1 and 4.4).
+use Rattle.std.specs.Prelude.{◌≡◌, ℕ, Bool, true, false, List, [], ◌∷◌, ◌++◌, Option, Some, None}
+use Rattle.std.specs.Prelude.{option_map, if◌then◌else◌}
 use Rattle.mqtt5_publish.specs.declared.publish.Publish.{Publish}
+use Rattle.mqtt5_publish.specs.declared.publish.PublishProperties.{PublishProperties}
 use Rattle.mqtt5_inflight.specs.declared.event.Request.TheVariants as requests
 use Rattle.mqtt5_network.specs.Connection.{connected}
 use Rattle.mqtt5_network.specs.declared.event.ClientEvent.{ClientEvent}
@@ -74,6 +75,17 @@ abbrev pub left_will : Bool → Option Will → Option Will
 left_will true w = None
 left_will false w = w
 
+-- properties with another Message Expiry Interval, and a will, if it has properties (3.1.3.2.4)
+abbrev pub expiring_in : Option ℕ → PublishProperties → PublishProperties
+expiring_in interval set = record set { message_expiry_interval = interval }
+
+abbrev pub expiring : Option ℕ → Will → Will
+expiring interval w = record w {
+  publish = record w.publish {
+    properties = option_map (expiring_in interval) w.publish.properties;
+  };
+}
+
 -- ---- events
 
 -- the connection is lost (3.1.2.5)
@@ -110,6 +122,8 @@ happens_at p (events.Turn topic_filter turn) =
 happens_at p events.Lost = loses p
 happens_at p events.Due =
     record p { will = not_due p.here p.will; willed = p.willed ++ due_message p.here p.will }
+happens_at p (events.Dated interval) =
+    record p { will = option_map (expiring interval) p.will }
 happens_at p events.Left =
     record p { client = cut_off p.client; here = false; will = left_will p.here p.will }
 happens_at p (events.Back m n will) = record {

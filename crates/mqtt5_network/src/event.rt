@@ -1,7 +1,10 @@
 //! What happens among a broker and its clients.
 
+ghost use Rattle.std.specs.Prelude.{◌≡◌, option_map};
+ghost use Rattle.mqtt5_network.specs.Place.{expiring_in, expiring};
+
 use mqtt5_base::Text;
-use mqtt5_publish::Publish;
+use mqtt5_publish::{Publish, PublishProperties};
 use mqtt5_subscribe::{Subscribe, Unsubscribe};
 
 /// What happens to a client.
@@ -20,8 +23,8 @@ pub enum ClientEvent {
     /// The broker passes the first publish of the client's queue to the client, if there is one and the client is here; where
     /// another one waits for its identifier it stays the first.
     PassOn,
-    /// The broker takes the first publish of the client's queue out, if there is one, since it has expired (3.3.2.3.3): it isn't
-    /// passed on any more.
+    /// The broker takes the first publish of the client's queue out, if there is one, since it has expired (3.3.2.3.3), or too
+    /// much waits there: it isn't passed on any more.
     Expire,
     /// The broker gives the client the turn in the shared subscription of a topic filter, or takes it (4.8.2).
     Turn(Text, bool),
@@ -30,6 +33,9 @@ pub enum ClientEvent {
     /// The delay of a will has passed (3.1.3.2.2): of a client that is away the broker publishes the one that waits, if there is
     /// one.
     Due,
+    /// The broker writes another Message Expiry Interval into the client's will, if that has properties: the lifetime of a will begins
+    /// once it is published (3.1.3.2.4).
+    Dated(Option<u32>),
     /// The client leaves with a Disconnect of reason 0: its will is dropped, and all that was on its way is lost. Nothing changes
     /// of one that is away (3.14.4).
     Left,
@@ -49,6 +55,44 @@ pub struct Will {
     pub publish: Publish,
     /// Whether it waits once the connection is lost, for a Will Delay Interval that isn't 0 (3.1.3.2.2).
     pub delayed: bool,
+}
+
+/// A will with another Message Expiry Interval, if there is one, and it has properties (3.1.3.2.4).
+pub fn dated_will(will: Option<Will>, interval: Option<u32>) -> Option<Will>
+    ensures { result ≡ option_map (expiring interval) will }
+{
+    match will {
+        Some(will) => Some(Will {
+            publish: dated_publish(will.publish, interval),
+            delayed: will.delayed,
+        }),
+        None => None,
+    }
+}
+
+fn dated_publish(publish: Publish, interval: Option<u32>) -> Publish
+    ensures { result ≡ record publish {
+      properties = option_map (expiring_in interval) publish.properties;
+    } }
+{
+    let mut publish = publish;
+    publish.properties = dated_properties(publish.properties, interval);
+    publish
+}
+
+fn dated_properties(
+    properties: Option<PublishProperties>,
+    interval: Option<u32>,
+) -> Option<PublishProperties>
+    ensures { result ≡ option_map (expiring_in interval) properties }
+{
+    match properties {
+        Some(mut set) => {
+            set.message_expiry_interval = interval;
+            Some(set)
+        }
+        None => None,
+    }
 }
 
 /// What happens in a network.

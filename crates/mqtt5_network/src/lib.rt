@@ -6,7 +6,7 @@ mod event;
 mod laws;
 mod subscription;
 
-pub use event::{ClientEvent, NetworkEvent, Will};
+pub use event::{ClientEvent, NetworkEvent, Will, dated_will};
 pub use laws::{
     answered_law, clients_law, copies_law, granted_law, receiver_law, retained_law, routing_law,
     shown_law, standing_law, steps_law, subscribing_law,

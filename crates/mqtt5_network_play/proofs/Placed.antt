@@ -106,6 +106,7 @@ goes_on events.Left h = (λ p. refl, λ p. refl)
 goes_on (events.Turn f turn) h = (λ p. refl, λ p. refl)
 goes_on events.Expire h = (λ p. refl, λ p. refl)
 goes_on events.Due h = (λ p. refl, λ p. refl)
+goes_on (events.Dated interval) h = (λ p. refl, λ p. refl)
 goes_on (events.Back m k w) h = (λ p. refl, λ p. refl)
 
 pub stays_on : (n : Network) (i : ℕ) (e : ClientEvent) → is_end e ≡ false

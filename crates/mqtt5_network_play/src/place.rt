@@ -1,11 +1,11 @@
 //! A client that goes away and comes back, with the will of its connection.
 
-ghost use Rattle.std.specs.Prelude.{◌≡◌, ◌<◌, ◌++◌, true, false, None, IfOk, IfErr, OnOk, drop};
+ghost use Rattle.std.specs.Prelude.{◌≡◌, ◌<◌, ◌++◌, true, false, None, option_map, IfOk, IfErr, OnOk, drop};
 ghost use Rattle.mqtt5_network.specs.Connection.{connected};
 ghost use Rattle.mqtt5_network.specs.Receiver.{shown};
 ghost use Rattle.mqtt5_network.specs.Client.{asks_for, requests_for, reconnects};
 ghost use Rattle.mqtt5_network.specs.Place.{cut_off, sent_from, passes, loses, ended, waiting, left_will};
-ghost use Rattle.mqtt5_network.specs.Place.{message_of, lost_message, replaced_message, due_message, not_due};
+ghost use Rattle.mqtt5_network.specs.Place.{message_of, lost_message, replaced_message, due_message, not_due, expiring};
 ghost use Rattle.mqtt5_network.specs.Place.{happens_at, renewed, queues_at, gets_at, copies_in};
 ghost use Rattle.mqtt5_network.specs.Network.{begins, new_of};
 ghost use Rattle.mqtt5_network_play.specs.Plays.{IsAbout, next_of};
@@ -16,7 +16,7 @@ use crate::profile::Profile;
 use crate::report::ClientReport;
 use crate::shown::{push_all, push_new, push_some};
 use mqtt5_base::{Sequence, copied};
-use mqtt5_network::{ClientEvent, Will};
+use mqtt5_network::{ClientEvent, Will, dated_will};
 use mqtt5_publish::Publish;
 use mqtt5_router::subscriptions_of;
 use mqtt5_session::{Request, StateError};
@@ -205,6 +205,10 @@ impl Place {
             }
             ClientEvent::Lost => Ok(self.lose()?),
             ClientEvent::Due => Ok(self.publish_waiting()?),
+            ClientEvent::Dated(interval) => {
+                self.date(*interval);
+                Ok(())
+            }
             ClientEvent::Left => {
                 self.leave();
                 Ok(())
@@ -294,6 +298,13 @@ impl Place {
             return Ok(());
         }
         push_will(self.will.take(), &mut self.willed)
+    }
+
+    /// Its will has another Message Expiry Interval, if there is one with properties (3.1.3.2.4).
+    fn date(&mut self, interval: Option<u32>)
+        ensures { self.new ≡ record self.old { will = option_map (expiring interval) self.old.will } }
+    {
+        self.will = dated_will(self.will.take(), interval);
     }
 
     /// The client leaves, and its will is dropped; nothing changes of one that is away (3.14.4).

@@ -1,5 +1,6 @@
 -- Publishes on their way into the queues of clients, and the clients once they are there.
 use Rattle.std.proofs.Common.{◌≡◌, ℕ, zero, suc, ◌+◌, ◌<◌, ◌≤◌, ◌==◌, cond, Bool, true, false, List, [], ◌∷◌, ◌++◌, length, drop, map, Option, Some, None, refl, sym, ap, ◌∙◌, arith, append-nil, append_assoc, add-one, slice_index_or}
+use Rattle.std.specs.Prelude.{option_map}
 use Rattle.std.specs.List.{filter_map}
 use Rattle.std.specs.FinSet as set_of
 use Rattle.std.specs.Option.{option_to_list}
@@ -10,20 +11,22 @@ use Rattle.std.proofs.lemmas.Bool.{eqb-true}
 use Rattle.std.proofs.lemmas.List.{drop_all, nil_from_length}
 use Rattle.mqtt5_base.specs.declared.quality.QoS.{QoS}
 use Rattle.mqtt5_base.specs.declared.quality.QoS.TheVariants.{AtMostOnce, AtLeastOnce, ExactlyOnce}
-use Rattle.mqtt5_base.specs.Texts.{Utf8}
 use Rattle.mqtt5_publish.specs.declared.publish.Publish.{Publish}
+use Rattle.mqtt5_publish.specs.declared.publish.PublishProperties.{PublishProperties}
 use Rattle.mqtt5_codec.specs.declared.packet.Packet.{Packet}
 use Rattle.mqtt5_codec.specs.declared.packet.Packet.TheVariants as packets
 use Rattle.mqtt5_world.specs.Broker.{serve_publish}
+use Rattle.mqtt5_session.specs.Resuming.{resume_of}
+use Rattle.mqtt5_network.specs.Connection.{connected, sent_in}
 use Rattle.mqtt5_network.specs.Subscriptions.{forwarded_to}
 use Rattle.mqtt5_network.specs.Retained.{retained_after, copies_for}
 use Rattle.mqtt5_network.specs.declared.event.Will.{Will}
-use Rattle.mqtt5_network.specs.Place.{message_of, lost_message, due_message, replaced_message}
+use Rattle.mqtt5_network.specs.Place.{message_of, lost_message, due_message, replaced_message, expiring_in, expiring}
 use Rattle.mqtt5_router.specs.Kept.{Kept, without_events, kept_of, alone, after_packet}
 use Rattle.mqtt5_sessions.specs.declared.coming.Coming.{Coming}
-use Rattle.mqtt5_sessions.specs.Sessions.{ClientState, Sessions, gets, queues, queues_all, with_client, of_client, to_client, changes, here_in, with_turn_of, turns, arrives}
+use Rattle.mqtt5_sessions.specs.Sessions.{ClientState, Sessions, new_state, gets, queues, queues_all, with_client, of_client, to_client, changes, here_in, with_dated_will, dates, sent_again, arrives}
 use Rattle.mqtt5_sessions.specs.Coming.{delivered, coming_to, coming_from, coming_of, coming_of_will, is_publish, coming_for, chosen}
-use Rattle.mqtt5_sessions.specs.Expiry.{expiry_of, first_expiry}
+use Rattle.mqtt5_sessions.specs.Expiry.{expiry_in, expiry_of, first_expiry, expiry_of_will, will_expiry}
 
 -- ---- the client at a place
 
@@ -46,7 +49,7 @@ with_long i f [] = refl
 with_long zero f (c ∷ cs) = refl
 with_long (suc i) f (c ∷ cs) = ap suc (with_long i f cs)
 
-with_twice : (i : ℕ) (f g : ClientState → ClientState) (cs : List ClientState) → with_client i f (with_client i g cs) ≡ with_client i (λ c. f (g c)) cs
+pub with_twice : (i : ℕ) (f g : ClientState → ClientState) (cs : List ClientState) → with_client i f (with_client i g cs) ≡ with_client i (λ c. f (g c)) cs
 with_twice i f g [] = refl
 with_twice zero f g (c ∷ cs) = refl
 with_twice (suc i) f g (c ∷ cs) = ap (λ xs. c ∷ xs) (with_twice i f g cs)
@@ -73,6 +76,15 @@ pub of_client_past : (i : ℕ) (m : ClientState → List Publish) (cs : List Cli
 of_client_past i m [] past = refl
 of_client_past zero m (c ∷ cs) past = absurd (omega arith)
 of_client_past (suc i) m (c ∷ cs) past = of_client_past i m cs (omega arith)
+
+-- the one that is there, and not another in the place of none
+pub at_new : (i : ℕ) (cs : List ClientState) (c : ClientState) → i < length cs → c ≡ slice_index_or cs i c → c ≡ slice_index_or cs i (new_state 0)
+at_new i cs c below is = is ∙ by i cs below
+  where
+    by : (i : ℕ) (cs : List ClientState) → i < length cs → slice_index_or cs i c ≡ slice_index_or cs i (new_state 0)
+    by i [] below = absurd (omega arith)
+    by zero (d ∷ cs) below = refl
+    by (suc i) (d ∷ cs) below = by i cs (omega arith)
 
 -- ---- deliveries
 
@@ -120,17 +132,36 @@ here_past i [] past = refl
 here_past zero (c ∷ cs) past = absurd (omega arith)
 here_past (suc i) (c ∷ cs) past = here_past i cs (omega arith)
 
--- a turn that is given meanwhile
-turn_gets : (i j : ℕ) (f : Utf8) (on : Bool) (ps : List Publish) (cs : List ClientState) → with_client j (gets ps) (with_client i (with_turn_of f on) cs) ≡ with_client i (with_turn_of f on) (with_client j (gets ps) cs)
-turn_gets i j f on ps [] = refl
-turn_gets zero zero f on ps (c ∷ cs) = refl
-turn_gets zero (suc j) f on ps (c ∷ cs) = refl
-turn_gets (suc i) zero f on ps (c ∷ cs) = refl
-turn_gets (suc i) (suc j) f on ps (c ∷ cs) = ap (λ xs. c ∷ xs) (turn_gets i j f on ps cs)
+-- a change of one meanwhile that looks at no queue
+module _ (g : ClientState → ClientState) (same : (ps : List Publish) (c : ClientState) → gets ps (g c) ≡ g (gets ps c)) where
+  change_gets : (i j : ℕ) (ps : List Publish) (cs : List ClientState) → with_client j (gets ps) (with_client i g cs) ≡ with_client i g (with_client j (gets ps) cs)
+  change_gets i j ps [] = refl
+  change_gets zero zero ps (c ∷ cs) = ap (λ d. d ∷ cs) (same ps c)
+  change_gets zero (suc j) ps (c ∷ cs) = refl
+  change_gets (suc i) zero ps (c ∷ cs) = refl
+  change_gets (suc i) (suc j) ps (c ∷ cs) = ap (λ xs. c ∷ xs) (change_gets i j ps cs)
 
-pub turn_delivered : (i : ℕ) (f : Utf8) (on : Bool) (es : List Coming) (cs : List ClientState) → delivered es (with_client i (with_turn_of f on) cs) ≡ with_client i (with_turn_of f on) (delivered es cs)
-turn_delivered i f on [] cs = refl
-turn_delivered i f on (e ∷ es) cs = ap (delivered es) (turn_gets i e.client f on (e.publish ∷ []) cs) ∙ turn_delivered i f on es (with_client e.client (gets (e.publish ∷ [])) cs)
+  pub change_delivered : (i : ℕ) (es : List Coming) (cs : List ClientState) → delivered es (with_client i g cs) ≡ with_client i g (delivered es cs)
+  change_delivered i [] cs = refl
+  change_delivered i (e ∷ es) cs = ap (delivered es) (change_gets i e.client (e.publish ∷ []) cs) ∙ change_delivered i es (with_client e.client (gets (e.publish ∷ [])) cs)
+
+-- the will of one
+pub will_past : (i : ℕ) (cs : List ClientState) → length cs ≤ i → (slice_index_or cs i (new_state 0)).will ≡ None
+will_past i [] past = refl
+will_past zero (c ∷ cs) past = absurd (omega arith)
+will_past (suc i) (c ∷ cs) past = will_past i cs (omega arith)
+
+-- it doesn't change
+will_gets : (i j : ℕ) (ps : List Publish) (d : ClientState) (cs : List ClientState) → (slice_index_or (with_client j (gets ps) cs) i d).will ≡ (slice_index_or cs i d).will
+will_gets i j ps d [] = refl
+will_gets zero zero ps d (c ∷ cs) = refl
+will_gets zero (suc j) ps d (c ∷ cs) = refl
+will_gets (suc i) zero ps d (c ∷ cs) = refl
+will_gets (suc i) (suc j) ps d (c ∷ cs) = will_gets i j ps d cs
+
+pub will_delivered : (i : ℕ) (d : ClientState) (es : List Coming) (cs : List ClientState) → (slice_index_or (delivered es cs) i d).will ≡ (slice_index_or cs i d).will
+will_delivered i d [] cs = refl
+will_delivered i d (e ∷ es) cs = will_delivered i d es (with_client e.client (gets (e.publish ∷ [])) cs) ∙ will_gets i e.client (e.publish ∷ []) d cs
 
 -- one of them, as it is done
 pub deliver_past : (cs : List ClientState) (i : ℕ) (p : Publish) → length cs ≤ i → cs ≡ with_client i (gets (p ∷ [])) cs
@@ -480,25 +511,63 @@ set_again i cs c d e below is back =
     ∙ sym (with_at i (λ y. y) cs c below)
     ∙ with_same i (λ y. y) cs (λ y. refl)
 
--- ---- turns
+-- ---- changes that look at no queue
 
-nothing_of : (i : ℕ) (cs : List ClientState) → of_client i (λ c. []) cs ≡ []
+pub nothing_of : (i : ℕ) (cs : List ClientState) → of_client i (λ c. []) cs ≡ []
 nothing_of i [] = refl
 nothing_of zero (c ∷ cs) = refl
 nothing_of (suc i) (c ∷ cs) = nothing_of i cs
 
-pub seen_turned : (i : ℕ) (f : Utf8) (on : Bool) (es : List Coming) (cs : List ClientState) (kept : List Publish) (s : Sessions) (c d : ClientState) → i < length cs → c ≡ slice_index_or cs i c → d ≡ with_turn_of f on c
-    → record { clients = delivered es cs; retained = kept } ≡ s → record { clients = delivered es (set cs i d); retained = kept } ≡ turns i f on s
-seen_turned i f on es cs kept s c d below is new seen =
-    (λ j. record { clients = delivered es (with_to i (with_turn_of f on) cs c d below is new j); retained = kept })
-    ∙ (λ j. record { clients = turn_delivered i f on es cs j; retained = kept })
-    ∙ changes_none i (with_turn_of f on) (λ c. []) (record { clients = delivered es cs; retained = kept }) (nothing_of i (delivered es cs))
-    ∙ ap (turns i f on) seen
+-- of a client, though publishes are on their way to it
+pub seen_changed : (g : ClientState → ClientState) → ((ps : List Publish) (c : ClientState) → gets ps (g c) ≡ g (gets ps c))
+    → (i : ℕ) (es : List Coming) (cs : List ClientState) (kept : List Publish) (s : Sessions) (c d : ClientState) → i < length cs → c ≡ slice_index_or cs i c → d ≡ g c
+    → record { clients = delivered es cs; retained = kept } ≡ s → record { clients = delivered es (set cs i d); retained = kept } ≡ changes i g (λ c. []) s
+seen_changed g same i es cs kept s c d below is new seen =
+    (λ j. record { clients = delivered es (with_to i g cs c d below is new j); retained = kept })
+    ∙ (λ j. record { clients = change_delivered g same i es cs j; retained = kept })
+    ∙ changes_none i g (λ c. []) (record { clients = delivered es cs; retained = kept }) (nothing_of i (delivered es cs))
+    ∙ ap (changes i g (λ c. [])) seen
 
-pub seen_unturned : (i : ℕ) (f : Utf8) (on : Bool) (es : List Coming) (cs : List ClientState) (kept : List Publish) (s : Sessions) → length cs ≤ i
-    → record { clients = delivered es cs; retained = kept } ≡ s → s ≡ turns i f on s
-seen_unturned i f on es cs kept s past seen =
-    sym seen ∙ seen_past_all i (with_turn_of f on) (λ c. []) cs kept es past ∙ ap (turns i f on) seen
+-- of one that isn't there
+pub seen_unchanged : (g : ClientState → ClientState) (i : ℕ) (es : List Coming) (cs : List ClientState) (kept : List Publish) (s : Sessions) → length cs ≤ i
+    → record { clients = delivered es cs; retained = kept } ≡ s → s ≡ changes i g (λ c. []) s
+seen_unchanged g i es cs kept s past seen =
+    sym seen ∙ seen_past_all i g (λ c. []) cs kept es past ∙ ap (changes i g (λ c. [])) seen
+
+-- ---- the interval of a will
+
+interval_back : (n : Option ℕ) (o : Option PublishProperties) → option_map (expiring_in (expiry_in o)) (option_map (expiring_in n) o) ≡ o
+interval_back n None = refl
+interval_back n (Some set) = refl
+
+will_back : (n : Option ℕ) (w : Option Will) → option_map (expiring (expiry_of_will w)) (option_map (expiring n) w) ≡ w
+will_back n None = refl
+will_back n (Some w) = λ j. Some (record w { publish = record w.publish { properties = interval_back n w.publish.properties j } })
+
+with_back : (i : ℕ) (n : Option ℕ) (d : ClientState) (cs : List ClientState) → with_client i (with_dated_will (expiry_of_will (slice_index_or cs i d).will)) (with_client i (with_dated_will n) cs) ≡ cs
+with_back i n d [] = refl
+with_back zero n d (c ∷ cs) = λ j. record c { will = will_back n c.will j } ∷ cs
+with_back (suc i) n d (c ∷ cs) = ap (λ xs. c ∷ xs) (with_back i n d cs)
+
+-- another one, and then the one before
+pub dated_back : (i : ℕ) (n : Option ℕ) (s : Sessions) → dates i (will_expiry i s) (dates i n s) ≡ s
+dated_back i n s =
+    let t : Sessions = record s { clients = with_client i (with_dated_will n) s.clients } in
+    let m : Option ℕ = will_expiry i s in
+    ap (dates i m) (sym (changes_none i (with_dated_will n) (λ c. []) s (nothing_of i s.clients)))
+    ∙ sym (changes_none i (with_dated_will m) (λ c. []) t (nothing_of i t.clients))
+    ∙ (λ j. record s { clients = with_back i n (new_state 0) s.clients j })
+
+-- what is sent again doesn't look at it
+to_client_with : (i : ℕ) (f : ClientState → List Packet) (g : ClientState → ClientState) (cs : List ClientState) → ((c : ClientState) → f (g c) ≡ f c) → to_client i f (with_client i g cs) ≡ to_client i f cs
+to_client_with i f g [] same = refl
+to_client_with zero f g (c ∷ cs) same = same c
+to_client_with (suc i) f g (c ∷ cs) same = to_client_with i f g cs same
+
+pub sent_dated : (i : ℕ) (n m : Option ℕ) (s : Sessions) → sent_again i m (dates i n s) ≡ sent_again i m s
+sent_dated i n m s =
+    ap (sent_again i m) (sym (changes_none i (with_dated_will n) (λ c. []) s (nothing_of i s.clients)))
+    ∙ to_client_with i (λ (c : ClientState). sent_in (resume_of (connected m c.kept.sender) 0)) (with_dated_will n) s.clients (λ c. refl)
 
 -- ---- the first of a queue
 

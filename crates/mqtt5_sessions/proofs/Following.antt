@@ -22,7 +22,7 @@ use Rattle.mqtt5_network.specs.Network.{Network, changed, new_of, newly, routes,
 use Rattle.mqtt5_router.specs.Kept.{Kept, new_kept, without_events, without_first, kept_of, after_packet}
 use Rattle.mqtt5_router.proofs.Alone.{packet_kept, packet_handed, pass_kept}
 use Rattle.mqtt5_sessions.proofs.Quiet.{heard_kept, heard_handed, passed_kept, taken_kept}
-use Rattle.mqtt5_sessions.specs.Sessions.{ClientState, state_of, sessions_of, gets, queues, queues_all, with_client, of_client, changes, arrives, passes_here, passes, takes_out, loses, is_due, with_turn_of, turns, leaves, taken_up, comes, ends}
+use Rattle.mqtt5_sessions.specs.Sessions.{ClientState, state_of, sessions_of, gets, queues, queues_all, with_client, of_client, changes, arrives, passes_here, passes, takes_out, loses, is_due, with_dated_will, dates, with_turn_of, turns, leaves, taken_up, comes, ends}
 
 -- ---- the clients
 
@@ -164,6 +164,11 @@ pub follows_due : (n : Network) (i : ℕ) → sessions_of (happens_in n (record 
 follows_due n i =
     follows n i events.Due (λ (c : ClientState). record c { will = not_due c.here c.will }) (λ (c : ClientState). due_message c.here c.will)
     (λ p h. record { state = none (state_of (happens_at p events.Due)); new = willed_new p (happens_at p events.Due) (due_message p.here p.will) refl refl })
+
+pub follows_dated : (n : Network) (i : ℕ) (interval : Option ℕ) → sessions_of (happens_in n (record { client = i; what = events.Dated interval })) ≡ dates i interval (sessions_of n)
+follows_dated n i interval =
+    follows n i (events.Dated interval) (with_dated_will interval) (λ c. [])
+    (λ p h. record { state = none (state_of (happens_at p (events.Dated interval))); new = nothing_new p (happens_at p (events.Dated interval)) refl refl })
 
 pub follows_turn : (n : Network) (i : ℕ) (f : Utf8) (turn : Bool) → sessions_of (happens_in n (record { client = i; what = events.Turn f turn })) ≡ turns i f turn (sessions_of n)
 follows_turn n i f turn =

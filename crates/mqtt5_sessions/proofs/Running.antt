@@ -24,9 +24,9 @@ use Rattle.mqtt5_router.specs.Kept.{Kept, new_kept, without_events, without_firs
 use Rattle.mqtt5_router.proofs.Alone.{packet_reply, pass_sent}
 use Rattle.mqtt5_sessions.proofs.Delivered.{with_past, with_same, of_client_past, none_queued}
 use Rattle.mqtt5_sessions.proofs.Quiet.{heard_reply, passed_sent, sent_same}
-use Rattle.mqtt5_sessions.proofs.Following.{follows, none, nothing_new, follows_up, follows_pass, follows_expire, follows_lost, follows_due, follows_turn, follows_left, follows_back, follows_ends}
-use Rattle.mqtt5_sessions.specs.Sessions.{ClientState, new_state, state_of, Sessions, sessions_of, gets, queues, queues_all, with_client, of_client, to_client, changes, joins, arrives, replies, passes_here, sent_here, passed, passes, takes_out, loses, is_due, with_turn_of, turns, leaves, taken_up, comes, sent_again, ends}
-use Rattle.mqtt5_sessions.specs.Runs.{SessionEvent, Joins, Arrives, Passes, TakesOut, Loses, IsDue, Turns, Leaves, Comes, Ends, after_event, after_events, no_sessions, RunEvent, AtBroker, AtClient, IsOfClient, at_broker, limit_of, limits_in, with_new, all_lost, before, HaveNone, within, in_network, all_in_network, IsFirst, IsRun}
+use Rattle.mqtt5_sessions.proofs.Following.{follows, none, nothing_new, follows_up, follows_pass, follows_expire, follows_lost, follows_due, follows_dated, follows_turn, follows_left, follows_back, follows_ends}
+use Rattle.mqtt5_sessions.specs.Sessions.{ClientState, new_state, state_of, Sessions, sessions_of, gets, queues, queues_all, with_client, of_client, to_client, changes, joins, arrives, replies, passes_here, sent_here, passed, passes, takes_out, loses, is_due, with_dated_will, dates, with_turn_of, turns, leaves, taken_up, comes, sent_again, ends}
+use Rattle.mqtt5_sessions.specs.Runs.{SessionEvent, Joins, Arrives, Passes, TakesOut, Loses, IsDue, Dates, Turns, Leaves, Comes, Ends, after_event, after_events, no_sessions, RunEvent, AtBroker, AtClient, IsOfClient, at_broker, limit_of, limits_in, with_new, all_lost, before, HaveNone, within, in_network, all_in_network, IsFirst, IsRun}
 
 -- ---- lists of events
 
@@ -157,6 +157,8 @@ one_event (Loses i) n s limits is first =
     known n s limits is i events.Lost (λ (c : ClientState). record c { here = false; will = waiting c.will }) (λ (c : ClientState). lost_message c.will) (follows_lost n i ∙ ap (loses i) is)
 one_event (IsDue i) n s limits is first =
     known n s limits is i events.Due (λ (c : ClientState). record c { will = not_due c.here c.will }) (λ (c : ClientState). due_message c.here c.will) (follows_due n i ∙ ap (is_due i) is)
+one_event (Dates i interval) n s limits is first =
+    known n s limits is i (events.Dated interval) (with_dated_will interval) (λ (c : ClientState). []) (follows_dated n i interval ∙ ap (dates i interval) is)
 one_event (Turns i f turn) n s limits is first =
     known n s limits is i (events.Turn f turn) (with_turn_of f turn) (λ (c : ClientState). []) (follows_turn n i f turn ∙ ap (turns i f turn) is)
 one_event (Leaves i) n s limits is first =
@@ -246,6 +248,7 @@ of_client_alone n i events.PassOn is = absurd is
 of_client_alone n i events.Lost is = absurd is
 of_client_alone n i events.Expire is = absurd is
 of_client_alone n i events.Due is = absurd is
+of_client_alone n i (events.Dated interval) is = absurd is
 of_client_alone n i (events.Turn f turn) is = absurd is
 of_client_alone n i events.Left is = absurd is
 of_client_alone n i (events.Back a b will) is = absurd is

@@ -11,14 +11,15 @@ use Rattle.mqtt5_network.specs.declared.event.Will.{Will}
 use Rattle.mqtt5_network.specs.Place.{Place}
 use Rattle.mqtt5_network.specs.Network.{Network, Profile, start_network, happens_in, run_network}
 use Rattle.mqtt5_sessions.specs.Sessions.{Sessions, new_state, joins, arrives, passes, takes_out, loses}
-use Rattle.mqtt5_sessions.specs.Sessions.{is_due, turns, leaves, comes, ends}
+use Rattle.mqtt5_sessions.specs.Sessions.{is_due, dates, turns, leaves, comes, ends}
 
 -- ---- at the broker
 
 -- what happens to the sessions, each to a client by its number: one more comes to be known, with the
 -- greatest identifier to it; a packet of it arrives; the first of its queue is passed on, or has
--- expired; its connection is lost; the delay of its will has passed; it is given the turn in a shared
--- subscription, or that is taken from it; it leaves; it comes on a new connection; its session ends
+-- expired; its connection is lost; the delay of its will has passed; its will has another Message
+-- Expiry Interval; it is given the turn in a shared subscription, or that is taken from it; it leaves;
+-- it comes on a new connection; its session ends
 pub data SessionEvent : Type 0 where
   Joins : (limit : ℕ) → SessionEvent
   Arrives : (client : ℕ) (packet : Packet) → SessionEvent
@@ -26,6 +27,7 @@ pub data SessionEvent : Type 0 where
   TakesOut : (client : ℕ) → SessionEvent
   Loses : (client : ℕ) → SessionEvent
   IsDue : (client : ℕ) → SessionEvent
+  Dates : (client : ℕ) (interval : Option ℕ) → SessionEvent
   Turns : (client : ℕ) (topic_filter : Utf8) (turn : Bool) → SessionEvent
   Leaves : (client : ℕ) → SessionEvent
   Comes : (client : ℕ) (receive_max : Option ℕ) (will : Option Will) → SessionEvent
@@ -39,6 +41,7 @@ after_event (Passes i) s = passes i s
 after_event (TakesOut i) s = takes_out i s
 after_event (Loses i) s = loses i s
 after_event (IsDue i) s = is_due i s
+after_event (Dates i n) s = dates i n s
 after_event (Turns i f turn) s = turns i f turn s
 after_event (Leaves i) s = leaves i s
 after_event (Comes i m will) s = comes i m will s
@@ -118,6 +121,7 @@ in_network count (Passes i) = to_client_in count i events.PassOn
 in_network count (TakesOut i) = to_client_in count i events.Expire
 in_network count (Loses i) = to_client_in count i events.Lost
 in_network count (IsDue i) = to_client_in count i events.Due
+in_network count (Dates i n) = to_client_in count i (events.Dated n)
 in_network count (Turns i f turn) = to_client_in count i (events.Turn f turn)
 in_network count (Leaves i) = to_client_in count i events.Left
 in_network count (Comes i m will) = to_client_in count i (events.Back None m will)

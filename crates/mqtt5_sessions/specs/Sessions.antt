@@ -1,7 +1,8 @@
 -- What a broker keeps of all its clients, by itself, and what is made of it by a packet that comes, by
 -- what it sends, and by connections that are lost and begin (MQTT 5.0 sections 3.1.2.4, 3.1.2.5,
--- 3.1.3.2.2, 3.3.4, 3.8, 4.1, 4.3, 4.4 and 4.8.2).
+-- 3.1.3.2.2, 3.1.3.2.4, 3.3.4, 3.8, 4.1, 4.3, 4.4 and 4.8.2).
 use Rattle.std.specs.Prelude.{ℕ, zero, suc, Bool, true, false, List, [], ◌∷◌, ◌++◌, map, Option, None}
+use Rattle.std.specs.Prelude.{option_map}
 use Rattle.std.specs.List.{filter_map}
 use Rattle.mqtt5_base.specs.Texts.{Utf8}
 use Rattle.mqtt5_publish.specs.declared.publish.Publish.{Publish}
@@ -13,7 +14,7 @@ use Rattle.mqtt5_network.specs.Connection.{connected, sent_in}
 use Rattle.mqtt5_network.specs.Subscriptions.{turned, forwarded_to}
 use Rattle.mqtt5_network.specs.Retained.{retained_after, retained_of, copies_for}
 use Rattle.mqtt5_network.specs.Place.{Place, lost_message, waiting, replaced_message, due_message}
-use Rattle.mqtt5_network.specs.Place.{not_due, left_will, message_of}
+use Rattle.mqtt5_network.specs.Place.{not_due, left_will, message_of, expiring}
 use Rattle.mqtt5_network.specs.Network.{Network}
 use Rattle.mqtt5_router.specs.Kept.{Kept, new_kept, without_events, without_first, kept_of}
 use Rattle.mqtt5_router.specs.Kept.{after_packet, after_pass}
@@ -134,6 +135,13 @@ abbrev pub is_due : ℕ → Sessions → Sessions
 is_due i s =
     changes i (λ (c : ClientState). record c { will = not_due c.here c.will })
     (λ (c : ClientState). due_message c.here c.will) s
+
+-- its will has another Message Expiry Interval, before it is published (3.1.3.2.4)
+abbrev pub with_dated_will : Option ℕ → ClientState → ClientState
+with_dated_will interval c = record c { will = option_map (expiring interval) c.will }
+
+abbrev pub dates : ℕ → Option ℕ → Sessions → Sessions
+dates i interval s = changes i (with_dated_will interval) (λ c. []) s
 
 -- whether it is connected: not one that isn't there
 abbrev pub here_in : ℕ → List ClientState → Bool

@@ -10,15 +10,15 @@ ghost use Rattle.mqtt5_network.specs.Retained.{copies_for};
 ghost use Rattle.mqtt5_network.specs.Place.{lost_message, waiting, replaced_message, due_message};
 ghost use Rattle.mqtt5_network.specs.Place.{not_due, left_will, message_of};
 ghost use Rattle.mqtt5_router.specs.Kept.{new_kept, without_events, without_first, kept_of, after_packet};
-ghost use Rattle.mqtt5_sessions.specs.Sessions.{new_state, gets, passes_here, sent_here, with_turn_of, taken_up};
+ghost use Rattle.mqtt5_sessions.specs.Sessions.{new_state, gets, passes_here, sent_here, with_dated_will, with_turn_of, taken_up};
 ghost use Rattle.mqtt5_sessions.specs.Counts.{counts_of};
-ghost use Rattle.mqtt5_sessions.specs.Expiry.{expiry_of, first_expiry};
-ghost use Rattle.mqtt5_sessions.specs.Shedding.{surplus};
+ghost use Rattle.mqtt5_sessions.specs.Expiry.{expiry_of, first_expiry, expiry_of_will, delays};
+ghost use Rattle.mqtt5_sessions.specs.Shedding.{surplus, without_firsts};
 
 use crate::counts::{Counts, sizes, surplus};
 use mqtt5_base::Text;
 use mqtt5_codec::Packet;
-use mqtt5_network::Will;
+use mqtt5_network::{Will, dated_will};
 use mqtt5_publish::Publish;
 use mqtt5_router::{Arrived, Kept, forwarded};
 use mqtt5_session::StateError;
@@ -87,11 +87,19 @@ impl ClientState {
         }
     }
 
-    /// How many of the first of its queue are let go, where no more may wait than so many, nor more bytes of them. Takes no memory.
-    pub(super) fn surplus(&self, most: usize, bytes: u64) -> usize
-        ensures { result ≡ surplus most bytes self.now.kept.queue }
+    /// The first of its queue are let go, where no more may wait than so many, nor more bytes of them: how many. Takes no memory.
+    #[tactic(auto, using(crate::proofs::Shedding::first_taken))]
+    pub(super) fn shed(&mut self, any: bool, most: usize, bytes: u64) -> usize
+        ensures count { result ≡ surplus any most bytes self.old.kept.queue }
+        ensures now { self.new ≡ without_firsts result self.old }
     {
-        surplus(self.kept.queue(), most, bytes)
+        let count = surplus(self.kept.queue(), any, most, bytes);
+        let mut left = count;
+        while left > 0 {
+            self.expire();
+            left -= 1;
+        }
+        count
     }
 
     /// A packet comes from it: what is sent back, and what is handed on.
@@ -221,6 +229,33 @@ impl ClientState {
             Some(will) => Some(will.publish),
             None => None,
         }
+    }
+
+    /// The Message Expiry Interval of its will, if there is one and it has one.
+    pub(super) fn will_expiry(&self) -> Option<u32>
+        ensures { result ≡ expiry_of_will self.now.will }
+    {
+        match &self.will {
+            Some(will) => expiry_of(&will.publish),
+            None => None,
+        }
+    }
+
+    /// Whether its will waits once its connection is lost: not where there is none.
+    pub(super) fn will_is_delayed(&self) -> bool
+        ensures { result ≡ delays self.now.will }
+    {
+        match &self.will {
+            Some(will) => will.delayed,
+            None => false,
+        }
+    }
+
+    /// Its will has another Message Expiry Interval, if there is one with properties (3.1.3.2.4).
+    pub(super) fn set_will_expiry(&mut self, interval: Option<u32>)
+        ensures { self.new ≡ with_dated_will interval self.old }
+    {
+        self.will = dated_will(self.will.take(), interval);
     }
 
     /// Whether it is connected.

@@ -2,7 +2,7 @@
 
 ghost use Rattle.std.specs.Prelude.{◌≡◌, ◌+◌, ◌<◌, ◌≤◌, drop, length};
 ghost use Rattle.mqtt5_sessions.specs.Counts.{sizes_after};
-ghost use Rattle.mqtt5_sessions.specs.Shedding.{is_at_most_once, is_over, surplus};
+ghost use Rattle.mqtt5_sessions.specs.Shedding.{is_at_most_once, is_over, may_go, surplus};
 
 use mqtt5_base::QoS;
 use mqtt5_publish::Publish;
@@ -61,16 +61,23 @@ fn is_at_most_once(quality: QoS) -> bool
     }
 }
 
-/// How many publishes of QoS 0 at the front of a queue are let go, where more wait than so many, or more bytes of them. Takes no
-/// memory.
-pub(super) fn surplus(publishes: &VecDeque<Publish>, most: usize, bytes: u64) -> usize
-    ensures { result ≡ surplus most bytes publishes.now.items }
+/// Whether a message may be let go: any, or one that is handed on at most once.
+fn may_go(any: bool, quality: QoS) -> bool
+    ensures { result ≡ may_go any quality }
+{
+    any || is_at_most_once(quality)
+}
+
+/// How many publishes at the front of a queue are let go, where more wait than so many, or more bytes of them: those of QoS 0, or
+/// of any. Takes no memory.
+pub(super) fn surplus(publishes: &VecDeque<Publish>, any: bool, most: usize, bytes: u64) -> usize
+    ensures { result ≡ surplus any most bytes publishes.now.items }
 {
     let mut count = 0;
     let mut sum = sizes(publishes, 0);
     while count < publishes.len()
         && is_over(publishes, count, sum, most, bytes)
-        && is_at_most_once(publishes[count].qos)
+        && may_go(any, publishes[count].qos)
     {
         sum = behind(publishes, count, sum);
         count += 1;

@@ -13,7 +13,7 @@ ghost use Rattle.mqtt5_network.specs.Place.{Place};
 ghost use Rattle.mqtt5_network.specs.Network.{Network, Profile, happens_in, run_network, IsReached};
 ghost use Rattle.mqtt5_router.specs.Kept.{Kept, without_events, kept_of, after_packet, after_pass};
 ghost use Rattle.mqtt5_sessions.specs.Sessions.{sessions_of, arrives, passes, takes_out, loses, is_due};
-ghost use Rattle.mqtt5_sessions.specs.Sessions.{turns, leaves, taken_up, comes, ends};
+ghost use Rattle.mqtt5_sessions.specs.Sessions.{dates, turns, leaves, taken_up, comes, ends};
 ghost use Rattle.mqtt5_sessions.specs.Sessions.{Sessions, replies, passed, sent_again};
 ghost use Rattle.mqtt5_sessions.specs.Runs.{after_events, no_sessions, RunEvent, IsOfClient, at_broker};
 ghost use Rattle.mqtt5_sessions.specs.Runs.{limits_in, with_new, before, HaveNone, all_in_network, IsRun};
@@ -42,6 +42,10 @@ pub fn sessions_law()
     ensures due { (n : Network) (i : ℕ)
         → sessions_of (happens_in n (record { client = i; what = events.Due }))
         ≡ is_due i (sessions_of n) }
+    // Its will has another Message Expiry Interval.
+    ensures dated { (n : Network) (i : ℕ) (interval : Option ℕ)
+        → sessions_of (happens_in n (record { client = i; what = events.Dated interval }))
+        ≡ dates i interval (sessions_of n) }
     // It is given the turn in a shared subscription, or that is taken from it (4.8.2).
     ensures turn { (n : Network) (i : ℕ) (f : Utf8) (turn : Bool)
         → sessions_of (happens_in n (record { client = i; what = events.Turn f turn }))

@@ -4,9 +4,9 @@ ghost use Rattle.std.specs.Prelude.{◌≡◌, [], IfOk, IfErr, OnOk, OnErr, len
 ghost use Rattle.std.specs.Option.{option_to_list};
 ghost use Rattle.std.specs.NonZero.{non_zero_u16_get};
 ghost use Rattle.mqtt5_sessions.specs.Sessions.{joins, arrives, replies, passes, passed, takes_out, loses};
-ghost use Rattle.mqtt5_sessions.specs.Sessions.{is_due, is_here, turns, leaves, comes, sent_again, ends};
+ghost use Rattle.mqtt5_sessions.specs.Sessions.{is_due, dates, is_here, turns, leaves, comes, sent_again, ends};
 ghost use Rattle.mqtt5_sessions.specs.Counts.{counts};
-ghost use Rattle.mqtt5_sessions.specs.Expiry.{message_expiry};
+ghost use Rattle.mqtt5_sessions.specs.Expiry.{message_expiry, will_expiry, will_is_delayed};
 ghost use Rattle.mqtt5_sessions.specs.Shedding.{sheds, surplus_of};
 
 use crate::client::ClientState;
@@ -193,43 +193,27 @@ impl Sessions {
         Ok(())
     }
 
-    /// How many of the first of a client's queue `shed` lets go. S12.
-    fn surplus(
+    /// Of a client's queue the first publishes are let go, as long as more than `most` wait, or more bytes of their frames than
+    /// `bytes`, and they are of QoS 0 (4.3.1), or of any QoS where `any` says so: how many. S12, which leaves all as it was.
+    pub fn shed(
         &mut self,
         alloc: Global,
         client: usize,
+        any: bool,
         most: usize,
         bytes: u64,
     ) -> Result<usize, StateError>
-        ensures ok { IfOk result (λ n. n ≡ surplus_of most bytes client self.old) }
+        ensures ok { OnOk result (self.new ≡ sheds any most bytes client self.old) }
+        ensures count { IfOk result (λ n. n ≡ surplus_of any most bytes client self.old) }
         ensures memory { IfErr result (λ e. e ≡ StateError.OutOfMemory) }
-        ensures same { self.new ≡ self.old }
+        ensures left { OnErr result (self.new ≡ self.old) }
     {
         deliver_all(alloc, &mut self.coming, &mut self.clients)?;
         if client >= self.clients.len() {
             return Ok(0);
         }
-        Ok(self.clients[client].surplus(most, bytes))
-    }
-
-    /// Of a client's queue the first publishes are let go, as long as more than `most` wait, or more bytes of their frames than
-    /// `bytes`, and they are of QoS 0 (4.3.1). S12.
-    pub fn shed(
-        &mut self,
-        alloc: Global,
-        client: usize,
-        most: usize,
-        bytes: u64,
-    ) -> Result<(), StateError>
-        ensures ok { OnOk result (self.new ≡ sheds most bytes client self.old) }
-        ensures memory { IfErr result (λ e. e ≡ StateError.OutOfMemory) }
-    {
-        let mut left = self.surplus(alloc, client, most, bytes)?;
-        while left > 0 {
-            self.expire(alloc, client)?;
-            left -= 1;
-        }
-        Ok(())
+        let count = self.clients[client].shed(any, most, bytes);
+        Ok(count)
     }
 
     /// A client's connection is lost: its will is published, or waits, if it has a delay (3.1.2.5, 3.1.3.2.2). S12, which leaves
@@ -266,6 +250,38 @@ impl Sessions {
         let handed = self.clients[client].publish_waiting();
         hand_on(handed, made, &mut self.coming, &mut self.retained);
         Ok(())
+    }
+
+    /// The Message Expiry Interval of a client's will, the one of its connection or the one that waits, if there is one and it has one
+    /// (3.1.3.2.4).
+    pub fn will_expiry(&self, client: usize) -> Option<u32>
+        ensures { result ≡ will_expiry client self.now }
+    {
+        if client >= self.clients.len() {
+            return None;
+        }
+        self.clients[client].will_expiry()
+    }
+
+    /// Whether a client's will waits once its connection is lost, since it has a delay (3.1.3.2.2): not where there is none.
+    pub fn will_is_delayed(&self, client: usize) -> bool
+        ensures { result ≡ will_is_delayed client self.now }
+    {
+        if client >= self.clients.len() {
+            return false;
+        }
+        self.clients[client].will_is_delayed()
+    }
+
+    /// A client's will has this Message Expiry Interval from now on, or none; nothing changes where there is no will, or one without
+    /// properties. A broker counts it down from the moment at which it publishes the will (3.1.3.2.4). Takes no memory.
+    pub fn set_will_expiry(&mut self, client: usize, interval: Option<u32>)
+        ensures { self.new ≡ dates client interval self.old }
+    {
+        if client >= self.clients.len() {
+            return;
+        }
+        self.clients[client].set_will_expiry(interval);
     }
 
     /// Whether a client is connected: not one that isn't there.

@@ -17,13 +17,16 @@ use std::test::Fail;
 
 /// `join` is one more client; `up` a packet of it; `pass` what is sent of its queue; `lose`, `leave` and `end` are of its connection
 /// and its session; `come` is a new connection with a receive maximum, and a will, which waits in `late` until it is `due`. `until` is
-/// the Message Expiry Interval of the first of its queue, which `expire` takes out.
+/// the Message Expiry Interval of the first of its queue, which `expire` takes out; `will` is that of its will, `date` writes
+/// another one into this, and `waits` is whether the will has a delay. `shed` lets the first of its queue go: any (1) or those of
+/// QoS 0 (0), as long as more wait than so many.
 ///
 /// The first row: a publish of QoS 2 that comes twice is handed on once, to one subscriber at QoS 2, and to another, which is away, at
 /// QoS 1, when it is back; each is sent again until it is acked. The second: one more publish waits for its identifier, as the
 /// client takes one at a time (3.1.2.11.3). Then wills: one that is retained, which a later Subscribe brings, one with a delay, one of a
 /// connection that is replaced, and one that a Disconnect drops. Then a session that ends, with its subscriptions; a retained
-/// message that is taken out; No Local; messages of which the first expires; and a client that isn't there.
+/// message that is taken out; No Local; messages of which the first expires; a will whose interval is another one when it is
+/// published; a queue of which some are let go; and a client that isn't there.
 const EVENTS: &str =
     "join=0; join=1; join=2; come:0:-=-; come:1:-=-; come:2:-=-; up:1:82090001000003612F2302=900400010002; up:2:82090001000003612F2B01=900400010001; leave:2; up:0:34090003612F6200050078=50020005; up:0:3C090003612F6200050078=50020005; pass:1=34090003612F6200010078; pass:1=-; pass:2=-; come:2:10=-; pass:2=32090003612F6200010078; up:1:50020001=62020001; up:1:70020001=-; up:0:62020005=70020005; up:0:62020005=700400059200; lose:2; come:2:10=3A090003612F6200010078; up:2:40020001=-; lose:2; come:2:10=-
 join=0; join=1; come:0:-=-; come:1:1=-; up:1:82090001000003612F2301=900400010001; up:0:32090003612F6200010078=40020001; up:0:32090003612F6200020079=40020002; pass:1=32090003612F6200010078; pass:1=-; pass:1=-; up:1:40020001=32090003612F6200010079; pass:1=-
@@ -35,6 +38,8 @@ join=0; join=1; come:0:-:32090003772F3000070067=-; come:1:-=-; up:1:820900010000
 join=0; join=1; come:0:-=-; come:1:-=-; up:0:31070003772F300067=-; up:0:31060003772F3000=-; up:1:82090001000003772F2300=900400010000; pass:1=-
 join=0; join=1; come:0:-=-; come:1:-=-; up:0:82090001000003772F2304=900400010000; up:1:82090001000003772F2304=900400010000; up:0:30070003772F300067=-; pass:0=-; pass:1=30070003772F300067
 join=0; join=1; come:0:-=-; come:1:-=-; up:1:82090001000003772F2301=900400010001; until:1=-; up:0:300C0003772F3005020000000967=-; up:0:30070003772F300068=-; until:1=9; lose:1; until:1=9; expire:1; until:1=-; come:1:-=-; pass:1=30070003772F300068; expire:1; pass:1=-; until:7=-; expire:7
+join=0; join=1; late:0:-:300C0003772F3005020000000967=-; come:1:-=-; up:1:82090001000003772F2300=900400010000; will:0=9; waits:0=1; will:1=-; waits:1=0; date:1:5; will:1=-; lose:0; will:0=9; date:0:3; will:0=3; waits:0=1; due:0; will:0=-; waits:0=0; pass:1=300C0003772F3005020000000367; will:7=-; waits:7=0; date:7:1; come:0:-:30070003772F300067=-; waits:0=0
+join=0; join=1; come:0:-=-; come:1:-=-; up:1:82090001000003772F2301=900400010001; up:0:30070003772F300067=-; up:0:32090003772F3000010068=40020001; up:0:30070003772F300069=-; up:0:32090003772F300002006A=40020002; shed:1:0:4=0; shed:1:0:3=1; shed:1:0:1=0; shed:1:1:2=1; shed:7:1:0=0; pass:1=30070003772F300069; pass:1=32090003772F300001006A; pass:1=-
 join=0; up:1:C000=-; pass:1=-; lose:1; leave:1; due:1; end:1; come:1:-=-; up:0:C000=-
 ";
 
@@ -128,6 +133,28 @@ fn comes(
     Ok(add_frames(alloc, &packets, text)?)
 }
 
+/// The first of a queue are let go: those of any QoS, or of QoS 0, as long as more wait than so many.
+fn sheds(
+    alloc: Global,
+    sessions: &mut Sessions,
+    client: usize,
+    with: &str,
+    text: &mut String,
+) -> Result<(), StateError> {
+    let (any, most) = cut(with, ':');
+    let most = usize::from(number_of(most)?);
+    let count = sessions.shed(alloc, client, any == "1", most, u64::MAX)?;
+    Ok(write!(text, "={count}")?)
+}
+
+/// Adds an interval, or that there is none.
+fn add_interval(interval: Option<u32>, text: &mut String) -> Result<(), StateError> {
+    match interval {
+        Some(interval) => Ok(write!(text, "={interval}")?),
+        None => Ok(text.push_str("=-")?),
+    }
+}
+
 /// Makes a call, and adds its answer.
 fn calls(
     alloc: Global,
@@ -151,10 +178,18 @@ fn calls(
             let sent = sessions.pass(alloc, client)?;
             Ok(add_frame(alloc, sent, text)?)
         }
-        "until" => match sessions.message_expiry(alloc, client)? {
-            Some(interval) => Ok(write!(text, "={interval}")?),
-            None => Ok(text.push_str("=-")?),
-        },
+        "until" => add_interval(sessions.message_expiry(alloc, client)?, text),
+        "will" => add_interval(sessions.will_expiry(client), text),
+        "waits" => Ok(text.push_str(if sessions.will_is_delayed(client) {
+            "=1"
+        } else {
+            "=0"
+        })?),
+        "date" => {
+            sessions.set_will_expiry(client, Some(u32::from(number_of(with)?)));
+            Ok(())
+        }
+        "shed" => sheds(alloc, sessions, client, with, text),
         "expire" => sessions.expire(alloc, client),
         "come" => comes(alloc, sessions, client, with, false, text),
         "late" => comes(alloc, sessions, client, with, true, text),

@@ -1,4 +1,4 @@
-use Rattle.mqtt5_broker.proofs.Acting.{receives_done, passes_done, ticks_done, trims_all_done, shuts_down_done}
+use Rattle.mqtt5_broker.proofs.Acting.{receives_done, passes_done, ticks_done, trims_at_done, shuts_down_done}
 use Rattle.mqtt5_broker.proofs.Made.{done_made}
 use Rattle.mqtt5_broker.proofs.Sending.{all_events, closes_lost, all_sends}
 use Rattle.mqtt5_broker.proofs.laws.acts_law.Goals as goal
@@ -16,7 +16,7 @@ pub returns-clause-tick : goal.returns-clause-tick
 returns-clause-tick c = λ at b. done_made b _ (ticks_done at b)
 
 pub returns-clause-trim : goal.returns-clause-trim
-returns-clause-trim c = λ b. done_made b _ (trims_all_done b)
+returns-clause-trim c = λ b at. done_made b _ (trims_at_done at b)
 
 pub returns-clause-shut_down : goal.returns-clause-shut_down
 returns-clause-shut_down c = λ at b. done_made b _ (shuts_down_done at b)

@@ -1,7 +1,7 @@
 use Rattle.std.proofs.Common.{List, sym, subst}
 use Rattle.mqtt5_broker.specs.Connection.{Connection}
 use Rattle.mqtt5_broker.specs.Standing.{Stands}
-use Rattle.mqtt5_broker.proofs.Standing.{new_standing, opens_standing, receives_standing, passes_standing, sent_standing, closes_standing, ticks_standing, trims_all_standing, shuts_down_standing}
+use Rattle.mqtt5_broker.proofs.Standing.{new_standing, opens_standing, receives_standing, passes_standing, sent_standing, closes_standing, ticks_standing, trims_at_standing, shuts_down_standing}
 use Rattle.mqtt5_broker.proofs.laws.connections_law.Goals as goal
 
 pub returns-clause-new : goal.returns-clause-new
@@ -26,7 +26,7 @@ pub returns-clause-tick : goal.returns-clause-tick
 returns-clause-tick c = λ at b s. ticks_standing at b s
 
 pub returns-clause-trim : goal.returns-clause-trim
-returns-clause-trim c = λ b s. trims_all_standing b s
+returns-clause-trim c = λ b at s. trims_at_standing at b s
 
 pub returns-clause-shut_down : goal.returns-clause-shut_down
 returns-clause-shut_down c = λ at b s. shuts_down_standing at b s

@@ -7,7 +7,7 @@ abbrev pub invariant-loop-count : goal.invariant-loop-count
 invariant-loop-count l =
     (l.count ≤ length l.publishes.items)
     × (l.sum ≡ sizes_after 0 (drop l.count l.publishes.items))
-    × (l.count + surplus l.most l.bytes (drop l.count l.publishes.items) ≡ surplus l.most l.bytes l.publishes.items)
+    × (l.count + surplus l.any l.most l.bytes (drop l.count l.publishes.items) ≡ surplus l.any l.most l.bytes l.publishes.items)
 
 abbrev pub decreases-loop-count : goal.decreases-loop-count
 decreases-loop-count l = length l.publishes.items - l.count

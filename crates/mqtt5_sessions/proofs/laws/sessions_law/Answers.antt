@@ -1,4 +1,4 @@
-use Rattle.mqtt5_sessions.proofs.Following.{follows_up, follows_pass, follows_expire, follows_lost, follows_due, follows_turn, follows_left, follows_back, follows_ends}
+use Rattle.mqtt5_sessions.proofs.Following.{follows_up, follows_pass, follows_expire, follows_lost, follows_due, follows_dated, follows_turn, follows_left, follows_back, follows_ends}
 use Rattle.mqtt5_sessions.proofs.laws.sessions_law.Goals as goal
 
 pub returns-clause-up : goal.returns-clause-up
@@ -15,6 +15,9 @@ returns-clause-lost c = follows_lost
 
 pub returns-clause-due : goal.returns-clause-due
 returns-clause-due c = follows_due
+
+pub returns-clause-dated : goal.returns-clause-dated
+returns-clause-dated c = follows_dated
 
 pub returns-clause-turn : goal.returns-clause-turn
 returns-clause-turn c = follows_turn

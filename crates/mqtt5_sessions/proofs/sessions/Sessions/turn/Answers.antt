@@ -1,18 +1,18 @@
-use Rattle.std.proofs.Common.{List, arith}
+use Rattle.std.proofs.Common.{List, refl, arith}
 use Rattle.mqtt5_publish.specs.declared.publish.Publish.{Publish}
-use Rattle.mqtt5_sessions.specs.Sessions.{ClientState}
-use Rattle.mqtt5_sessions.proofs.Delivered.{seen_turned, seen_unturned}
+use Rattle.mqtt5_sessions.specs.Sessions.{ClientState, with_turn_of}
+use Rattle.mqtt5_sessions.proofs.Delivered.{seen_changed, seen_unchanged}
 use Rattle.mqtt5_sessions.proofs.sessions.Sessions.turn.Goals as goal
 
 pub returns-then-client-len : goal.returns-then-client-len
 returns-then-client-len c =
     let cs : List ClientState = c.self.inside.clients.items in
     let kept : List Publish = c.self.inside.retained.items in
-    seen_unturned c.args.client c.args.topic_filter.now c.args.turn c.self.inside.coming.items cs kept c.args.self.now (omega (arith, c.if-client-len.true, c.len.ensures)) c.self.view_is
+    seen_unchanged (with_turn_of c.args.topic_filter.now c.args.turn) c.args.client c.self.inside.coming.items cs kept c.args.self.now (omega (arith, c.if-client-len.true, c.len.ensures)) c.self.view_is
 
 pub returns : goal.returns
 returns c =
     let cs : List ClientState = c.self.inside.clients.items in
     let kept : List Publish = c.self.inside.retained.items in
-    seen_turned c.args.client c.args.topic_filter.now c.args.turn c.self.inside.coming.items cs kept c.args.self.now c.index_mut.result.now c.turn.new.self
+    seen_changed (with_turn_of c.args.topic_filter.now c.args.turn) (λ ps x. refl) c.args.client c.self.inside.coming.items cs kept c.args.self.now c.index_mut.result.now c.turn.new.self
     (omega (arith, c.if-client-len.false, c.len.ensures)) c.index_mut.ensures.value c.turn.ensures c.self.view_is

@@ -1,0 +1,40 @@
+use Rattle.std.proofs.Common.{List, arith}
+use Rattle.mqtt5_publish.specs.declared.publish.Publish.{Publish}
+use Rattle.mqtt5_sessions.specs.Sessions.{ClientState}
+use Rattle.mqtt5_sessions.proofs.Delivered.{settled}
+use Rattle.mqtt5_sessions.proofs.Shedding.{none_shed, sheds_past, some_shed, sheds_of}
+use Rattle.mqtt5_sessions.proofs.sessions.Sessions.shed.Goals as goal
+
+pub returns-then-client-len-clause-ok : goal.returns-then-client-len-clause-ok
+returns-then-client-len-clause-ok c =
+    let cs : List ClientState = c.deliver_all.new.clients.items in
+    let kept : List Publish = c.self.inside.retained.items in
+    let none = c.in_ok-deliver_all.ensures.none in
+    let seen = settled c.self.inside.coming.items c.deliver_all.new.coming.items c.self.inside.clients.items cs kept c.args.self.now none c.in_ok-deliver_all.ensures.same c.self.view_is in
+    sheds_past c.args.any c.args.most c.args.bytes c.args.client cs kept c.args.self.now seen c.deliver_all.new.coming.items none (omega (arith, c.if-client-len.true, c.len.ensures))
+
+pub returns-then-client-len-clause-count : goal.returns-then-client-len-clause-count
+returns-then-client-len-clause-count c =
+    let cs : List ClientState = c.deliver_all.new.clients.items in
+    let kept : List Publish = c.self.inside.retained.items in
+    let none = c.in_ok-deliver_all.ensures.none in
+    let seen = settled c.self.inside.coming.items c.deliver_all.new.coming.items c.self.inside.clients.items cs kept c.args.self.now none c.in_ok-deliver_all.ensures.same c.self.view_is in
+    none_shed c.args.any c.args.most c.args.bytes c.args.client cs kept c.args.self.now seen (omega (arith, c.if-client-len.true, c.len.ensures))
+
+pub returns-clause-ok : goal.returns-clause-ok
+returns-clause-ok c =
+    let cs : List ClientState = c.deliver_all.new.clients.items in
+    let kept : List Publish = c.self.inside.retained.items in
+    let none = c.in_ok-deliver_all.ensures.none in
+    let seen = settled c.self.inside.coming.items c.deliver_all.new.coming.items c.self.inside.clients.items cs kept c.args.self.now none c.in_ok-deliver_all.ensures.same c.self.view_is in
+    sheds_of c.args.any c.args.most c.args.bytes c.args.client cs kept c.args.self.now seen c.index_mut.result.now c.shed-count.new.self c.shed-count.result c.deliver_all.new.coming.items none
+    (omega (arith, c.if-client-len.false, c.len.ensures)) c.index_mut.ensures.value c.shed-count.ensures.count c.shed-count.ensures.now
+
+pub returns-clause-count : goal.returns-clause-count
+returns-clause-count c =
+    let cs : List ClientState = c.deliver_all.new.clients.items in
+    let kept : List Publish = c.self.inside.retained.items in
+    let none = c.in_ok-deliver_all.ensures.none in
+    let seen = settled c.self.inside.coming.items c.deliver_all.new.coming.items c.self.inside.clients.items cs kept c.args.self.now none c.in_ok-deliver_all.ensures.same c.self.view_is in
+    some_shed c.args.any c.args.most c.args.bytes c.args.client cs kept c.args.self.now seen c.index_mut.result.now c.shed-count.result
+    (omega (arith, c.if-client-len.false, c.len.ensures)) c.index_mut.ensures.value c.shed-count.ensures.count
