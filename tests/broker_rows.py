@@ -1988,14 +1988,15 @@ async def discard_oldest(_):
             away = b.client(f"oldest-{qos}")
             await away.connect(**KEPT)
             await away.subscribe((f"oldest/{qos}", qos))
-            away.cut()
+            await away.disconnect()
             for i in range(120):
                 await pub.publish(f"oldest/{qos}", i.to_bytes(4, "big") + bytes(payload - 4), qos)
             await asyncio.sleep(2.5)
             assert await away.connect(**KEPT) == 1
             got = [int.from_bytes((await away.take()).payload[:4], "big") for _ in range(kept)]
             assert got == list(range(120 - kept, 120)), got
-            await away.is_quiet(0.1)
+            await away.ping()
+            assert not away.inbox, away.inbox
             await away.disconnect()
         await b.says(", 171 in all")
 
