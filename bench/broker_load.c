@@ -1,8 +1,8 @@
 /* Load for an MQTT 5.0 broker on this machine, for bench/broker: one thread, poll and sockets that never block.
    broker_load PORT flow QOS SUBSCRIBERS MESSAGES: one publisher, and so many subscribers to its topic, which take each message
        at its QoS. Prints the seconds from the first publish until every subscriber has every message.
-   broker_load PORT idle COUNT: so many clients that say nothing. Prints a line once all are connected, and goes on until its input
-       ends. */
+   broker_load PORT idle COUNT [filters]: so many clients that say nothing, or that each subscribe to a filter of their own. Prints a
+       line once all are connected, and goes on until its input ends. */
 #define _POSIX_C_SOURCE 200809L
 #include <arpa/inet.h>
 #include <errno.h>
@@ -38,7 +38,8 @@ static client *clients;
 static struct pollfd *polled;
 static size_t count;
 static int port, qos;
-static size_t acked; /* of the publisher: how many messages the broker has */
+static size_t acked;               /* of the publisher: how many messages the broker has */
+static const char *prefix = "load"; /* of the names of the clients */
 
 static void fail(const char *what) {
     fprintf(stderr, "broker_load: %s: %s\n", what, strerror(errno));
@@ -74,15 +75,20 @@ static void put_ack(client *c, uint8_t first, const uint8_t *id) { put(c, (uint8
 static void put_connect(client *c, size_t number) {
     char name[32];
     uint8_t frame[64] = {0x10, 0, 0, 4, 'M', 'Q', 'T', 'T', 5, 2, 0, 0, 3, 0x21, 0xFF, 0xFF, 0};
-    int len = snprintf(name, sizeof name, "load-%zu", number);
+    int len = snprintf(name, sizeof name, "%s-%zu", prefix, number);
     frame[1] = (uint8_t)(16 + len);
     frame[17] = (uint8_t)len;
     memcpy(frame + 18, name, (size_t)len);
     put(c, frame, 18 + (size_t)len);
 }
 
-/* A Subscribe (3.8), and a Publish (3.3). */
-static void put_subscribe(client *c) { put(c, (uint8_t[]){0x82, 10, 0, 1, 0, 0, 4, 'l', 'o', 'a', 'd', (uint8_t)qos}, 12); }
+/* A Subscribe (3.8) to a filter of at most 121 bytes, and a Publish (3.3). */
+static void put_subscribe(client *c, const char *filter) {
+    size_t len = strlen(filter);
+    put(c, (uint8_t[]){0x82, (uint8_t)(6 + len), 0, 1, 0, 0, (uint8_t)len}, 7);
+    put(c, filter, len);
+    put(c, (uint8_t[]){(uint8_t)qos}, 1);
+}
 static void put_publish(client *c, size_t number) {
     uint8_t frame[16 + PAYLOAD] = {(uint8_t)(0x30 | qos << 1), (uint8_t)(7 + (qos ? 2 : 0) + PAYLOAD), 0, 4, 'l', 'o', 'a', 'd'};
     size_t at = 8;
@@ -116,7 +122,13 @@ static void take(client *c, uint8_t first, const uint8_t *body, size_t len) {
         case 5: put_ack(c, 0x62, body); break;
         case 6: put_ack(c, 0x70, body); break;
         case 7: acked++; break;
-        case 9: c->subscribed = true; break;
+        case 9:
+            if (len < 1 || body[len - 1] >= 0x80) {
+                fprintf(stderr, "broker_load: no subscription\n");
+                exit(1);
+            }
+            c->subscribed = true;
+            break;
         default:
             fprintf(stderr, "broker_load: a packet of type %d\n", first >> 4);
             exit(1);
@@ -203,6 +215,22 @@ static void connect_all(size_t all) {
     }
 }
 
+static void await_subscribed(size_t first) {
+    for (size_t i = first; i < count; i++)
+        while (!clients[i].subscribed) turn(i);
+}
+
+/* Each to a filter of its own. */
+static void subscribe_apart(void) {
+    char filter[32];
+    for (size_t i = 0; i < count; i++) {
+        snprintf(filter, sizeof filter, "idle/%zu/+", i);
+        put_subscribe(&clients[i], filter);
+        say(&clients[i]);
+    }
+    await_subscribed(0);
+}
+
 static size_t least(void) {
     size_t came = SIZE_MAX;
     for (size_t i = 1; i < count; i++)
@@ -212,9 +240,8 @@ static size_t least(void) {
 
 static void flow(size_t subscribers, size_t messages) {
     connect_all(subscribers + 1);
-    for (size_t i = 1; i < count; i++) put_subscribe(&clients[i]);
-    for (size_t i = 1; i < count; i++)
-        while (!clients[i].subscribed) turn(i);
+    for (size_t i = 1; i < count; i++) put_subscribe(&clients[i], "load");
+    await_subscribed(1);
     double begun = now();
     size_t sent = 0;
     clients[0].subscribed = true;
@@ -236,14 +263,16 @@ int main(int argc, char **argv) {
         port = atoi(argv[1]);
         qos = atoi(argv[3]);
         flow(strtoul(argv[4], NULL, 10), strtoul(argv[5], NULL, 10));
-    } else if (argc == 4 && !strcmp(argv[2], "idle")) {
+    } else if ((argc == 4 || (argc == 5 && !strcmp(argv[4], "filters"))) && !strcmp(argv[2], "idle")) {
         port = atoi(argv[1]);
+        prefix = "idle";
         connect_all(strtoul(argv[3], NULL, 10));
+        if (argc == 5) subscribe_apart();
         printf("all are connected\n");
         fflush(stdout);
         while (getchar() != EOF) {}
     } else {
-        fprintf(stderr, "usage: broker_load PORT flow QOS SUBSCRIBERS MESSAGES | PORT idle COUNT\n");
+        fprintf(stderr, "usage: broker_load PORT flow QOS SUBSCRIBERS MESSAGES | PORT idle COUNT [filters]\n");
         return 2;
     }
     return 0;

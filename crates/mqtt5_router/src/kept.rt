@@ -436,6 +436,8 @@ impl Kept {
         ensures sent { IfOk result
             (λ way. way.items ≡ sent_in (resume_of (connected receive_max self.old.sender) 0)) }
         ensures memory { IfErr result (λ e. e ≡ StateError.OutOfMemory) }
+        // What isn't the sender's is as it was.
+        ensures left { OnErr result (self.new ≡ record self.old { sender = self.new.sender }) }
     {
         connect(&mut self.sender, alloc, receive_max)?;
         take_up(&mut self.sender, alloc)

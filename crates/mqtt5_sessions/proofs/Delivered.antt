@@ -1,14 +1,13 @@
 -- Publishes on their way into the queues of clients, and the clients once they are there.
-use Rattle.std.proofs.Common.{◌≡◌, ℕ, zero, suc, ◌+◌, ◌<◌, ◌≤◌, ◌==◌, cond, Bool, true, false, List, [], ◌∷◌, ◌++◌, length, drop, map, Option, Some, None, refl, sym, ap, ◌∙◌, arith, append-nil, append_assoc, add-one, slice_index_or}
+use Rattle.std.proofs.Common.{◌≡◌, ℕ, zero, suc, ◌<◌, ◌≤◌, ◌==◌, cond, Bool, true, false, List, [], ◌∷◌, ◌++◌, length, map, Option, Some, None, refl, sym, ap, ◌∙◌, arith, append-nil, append_assoc, slice_index_or}
 use Rattle.std.specs.Prelude.{option_map}
 use Rattle.std.specs.List.{filter_map}
 use Rattle.std.specs.FinSet as set_of
 use Rattle.std.specs.Option.{option_to_list}
 use Rattle.std.proofs.Math.ListN.{set}
 use Rattle.std.proofs.Math.Dec.{eqb-suc-suc, eqb-suc-zero, eqb-zero-suc}
-use Rattle.std.proofs.Math.Seq.{drop-cons}
 use Rattle.std.proofs.lemmas.Bool.{eqb-true}
-use Rattle.std.proofs.lemmas.List.{drop_all, nil_from_length}
+use Rattle.std.proofs.lemmas.List.{nil_from_length}
 use Rattle.mqtt5_base.specs.declared.quality.QoS.{QoS}
 use Rattle.mqtt5_base.specs.declared.quality.QoS.TheVariants.{AtMostOnce, AtLeastOnce, ExactlyOnce}
 use Rattle.mqtt5_publish.specs.declared.publish.Publish.{Publish}
@@ -235,22 +234,6 @@ from_kept : (k : ℕ) (own : ℕ → Bool) (p : Publish) (i : ℕ) (g : ClientSt
 from_kept k own p i g [] same = refl
 from_kept k own p zero g (c ∷ cs) same = ap (λ ss. coming_to k (option_to_list (forwarded_to (own k) ss p)) ++ coming_from (suc k) own p cs) (sym (same c))
 from_kept k own p (suc i) g (c ∷ cs) same = ap (λ es. coming_to k (option_to_list (forwarded_to (own k) c.kept.subscriptions p)) ++ es) (from_kept (suc k) own p i g cs same)
-
--- as it is made, from the last client on
-pub from_next : (own : ℕ → Bool) (p : Publish) (cs : List ClientState) (n m : ℕ) (c : ClientState) → m ≡ n + 1 → n < length cs → c ≡ slice_index_or cs n c
-    → coming_to n (option_to_list (forwarded_to (own n) c.kept.subscriptions p)) ++ coming_from m own p (drop m cs) ≡ coming_from n own p (drop n cs)
-from_next own p cs n m c next below is =
-    ap (λ k. coming_to n (option_to_list (forwarded_to (own n) c.kept.subscriptions p)) ++ coming_from k own p (drop k cs)) (next ∙ add-one n)
-    ∙ ap (λ (d : ClientState). coming_from n own p (d ∷ drop (suc n) cs)) is
-    ∙ ap (coming_from n own p) (sym (drop-cons cs n c below))
-
-pub of_next : (i : ℕ) (p : Publish) (cs : List ClientState) (n m : ℕ) (c : ClientState) (o : Option Publish) → m ≡ n + 1 → n < length cs → c ≡ slice_index_or cs n c → o ≡ forwarded_to (n == i) c.kept.subscriptions p
-    → coming_to n (option_to_list o) ++ coming_from m (λ k. k == i) p (drop m cs) ≡ coming_from n (λ k. k == i) p (drop n cs)
-of_next i p cs n m c o next below is some =
-    ap (λ o. coming_to n (option_to_list o) ++ coming_from m (λ k. k == i) p (drop m cs)) some ∙ from_next (λ k. k == i) p cs n m c next below is
-
-pub of_none : (i : ℕ) (p : Publish) (cs : List ClientState) (n : ℕ) → length cs ≤ n → [] ≡ coming_from n (λ k. k == i) p (drop n cs)
-of_none i p cs n past = ap (coming_from n (λ k. k == i) p) (sym (drop_all n cs past))
 
 -- ---- an event
 

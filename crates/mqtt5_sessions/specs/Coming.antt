@@ -1,5 +1,5 @@
 -- This file serves the logic alone: publishes on their way into the queues of clients.
-use Rattle.std.specs.Prelude.{ℕ, suc, ◌==◌, Bool, true, false, List, [], ◌∷◌, ◌++◌, map, Option, Some, None}
+use Rattle.std.specs.Prelude.{ℕ, suc, ◌==◌, Bool, true, false, List, [], ◌∷◌, ◌++◌, map, Option, Some, None, slice_index_or}
 use Rattle.std.specs.Option.{option_to_list}
 use Rattle.mqtt5_publish.specs.declared.publish.Publish.{Publish}
 use Rattle.mqtt5_codec.specs.declared.packet.Packet.{Packet}
@@ -7,7 +7,7 @@ use Rattle.mqtt5_codec.specs.declared.packet.Packet.TheVariants as packets
 use Rattle.mqtt5_network.specs.Subscriptions.{forwarded_to}
 use Rattle.mqtt5_network.specs.Retained.{copies_for}
 use Rattle.mqtt5_sessions.specs.declared.coming.Coming.{Coming}
-use Rattle.mqtt5_sessions.specs.Sessions.{ClientState, gets, with_client, of_client}
+use Rattle.mqtt5_sessions.specs.Sessions.{ClientState, new_state, gets, with_client, of_client}
 
 -- the clients, once these publishes are in their queues
 abbrev pub delivered : List Coming → List ClientState → List ClientState
@@ -24,6 +24,17 @@ coming_from k own p [] = []
 coming_from k own p (c ∷ cs) =
     coming_to k (option_to_list (forwarded_to (own k) c.kept.subscriptions p))
     ++ coming_from (suc k) own p cs
+
+-- of one of the client at a place, to the one of a number: nothing, if that isn't there
+abbrev pub forwarded_at : ℕ → Publish → List ClientState → ℕ → Option Publish
+forwarded_at i p cs k =
+    forwarded_to (k == i) (slice_index_or cs k (new_state 0)).kept.subscriptions p
+
+-- to those of some numbers, in order
+abbrev pub coming_among : ℕ → Publish → List ClientState → List ℕ → List Coming
+coming_among i p cs [] = []
+coming_among i p cs (k ∷ ks) =
+    coming_to k (option_to_list (forwarded_at i p cs k)) ++ coming_among i p cs ks
 
 -- of a publish of the client at a place
 abbrev pub coming_of : ℕ → Publish → List ClientState → List Coming

@@ -1,4 +1,5 @@
 pub mod Coming
+pub mod Indexed
 pub mod Sessions
 pub mod Counts
 pub mod Expiry

@@ -18,7 +18,7 @@ ghost use Rattle.mqtt5_sessions.specs.Shedding.{surplus, without_firsts};
 use crate::counts::{Counts, sizes, surplus};
 use mqtt5_base::Text;
 use mqtt5_codec::Packet;
-use mqtt5_network::{Will, dated_will};
+use mqtt5_network::{Subscription, Will, dated_will};
 use mqtt5_publish::Publish;
 use mqtt5_router::{Arrived, Kept, forwarded};
 use mqtt5_session::StateError;
@@ -100,6 +100,13 @@ impl ClientState {
             left -= 1;
         }
         count
+    }
+
+    /// Its subscriptions.
+    pub(super) fn subscriptions(&self) -> &[Subscription]
+        ensures { result.now ≡ self.now.kept.subscriptions }
+    {
+        self.kept.subscriptions()
     }
 
     /// A packet comes from it: what is sent back, and what is handed on.
@@ -301,6 +308,7 @@ impl ClientState {
         ensures published { IfOk result (λ a. option_to_list a.1
             ≡ replaced_message self.old.here self.old.will) }
         ensures memory { IfErr result (λ e. e ≡ StateError.OutOfMemory) }
+        ensures left { OnErr result (self.new.kept.subscriptions ≡ self.old.kept.subscriptions) }
     {
         let way = self.kept.take_up(alloc, receive_max)?;
         self.kept.forget_events();

@@ -10,13 +10,15 @@ ghost use Rattle.std.specs.Option.{option_to_list};
 ghost use Rattle.mqtt5_network.specs.Retained.{is_to, retains, retained_after};
 ghost use Rattle.mqtt5_network.specs.Place.{message_of};
 ghost use Rattle.mqtt5_sessions.specs.Sessions.{ClientState, gets, with_client, of_client};
-ghost use Rattle.mqtt5_sessions.specs.Coming.{delivered, coming_to, coming_from, coming_of};
+ghost use Rattle.mqtt5_sessions.specs.Coming.{delivered, coming_to, forwarded_at, coming_of};
 ghost use Rattle.mqtt5_sessions.specs.Coming.{coming_of_will, is_publish, coming_for, chosen};
+ghost use Rattle.mqtt5_sessions.specs.Indexed.{IsIndexed};
 
 use crate::client::ClientState;
 use mqtt5_base::copied;
 use mqtt5_codec::Packet;
 use mqtt5_publish::Publish;
+use mqtt5_topic_index::TopicIndex;
 use std::alloc::{AllocError, Global};
 use std::collections::VecDeque;
 
@@ -70,37 +72,57 @@ fn deliver(
     Ok(())
 }
 
-/// What is forwarded of a publish of a client to each client (3.3.4).
-#[tactic(auto, using(crate::proofs::Delivered::of_none, crate::proofs::Delivered::of_next))]
+/// What is forwarded of a publish of a client to each client (3.3.4): those are asked that are found in the index.
+#[tactic(auto, using(crate::proofs::Found::all_found))]
 fn of_publish(
     alloc: Global,
     client: usize,
     publish: &Publish,
     clients: &[ClientState],
+    index: &TopicIndex,
 ) -> Result<VecDeque<Coming>, AllocError>
+    requires { IsIndexed index.now clients.now }
     ensures { IfOk result (λ es. es.items ≡ coming_of client publish.now clients.now) }
 {
+    let found = index.find(alloc, publish.topic.as_slice())?;
     let mut coming = VecDeque::new(alloc);
-    let mut left = clients.len();
-    while left > 0 {
-        left -= 1;
-        let forwarded = clients[left].forwarded(alloc, left == client, publish)?;
-        push_front(left, forwarded, &mut coming)?;
+    for number in &found {
+        push_forwarded(alloc, client, publish, clients, *number, &mut coming)?;
     }
     Ok(coming)
 }
 
-/// Puts a publish for a client before others, if there is one.
-fn push_front(
+/// Adds what is forwarded of it to the client with a number, if there is such a client and anything is.
+fn push_forwarded(
+    alloc: Global,
+    client: usize,
+    publish: &Publish,
+    clients: &[ClientState],
+    number: usize,
+    coming: &mut VecDeque<Coming>,
+) -> Result<(), AllocError>
+    ensures { OnOk result (coming.new.items ≡ coming.old.items
+        ++ coming_to number (option_to_list (forwarded_at client publish.now clients.now number))) }
+{
+    if number >= clients.len() {
+        return Ok(());
+    }
+    let forwarded = clients[number].forwarded(alloc, number == client, publish)?;
+    push_back(number, forwarded, coming)?;
+    Ok(())
+}
+
+/// Adds a publish for a client, if there is one.
+fn push_back(
     client: usize,
     publish: Option<Publish>,
     coming: &mut VecDeque<Coming>,
 ) -> Result<(), AllocError>
     ensures { OnOk result
-        (coming.new.items ≡ coming_to client (option_to_list publish) ++ coming.old.items) }
+        (coming.new.items ≡ coming.old.items ++ coming_to client (option_to_list publish)) }
 {
     if let Some(publish) = publish {
-        coming.push_front(Coming { client, publish })?;
+        coming.push_back(Coming { client, publish })?;
     }
     Ok(())
 }
@@ -110,13 +132,15 @@ pub(super) fn of_will(
     alloc: Global,
     client: usize,
     clients: &[ClientState],
+    index: &TopicIndex,
 ) -> Result<VecDeque<Coming>, AllocError>
-    requires { client < length clients.now }
+    requires there { client < length clients.now }
+    requires indexed { IsIndexed index.now clients.now }
     ensures { IfOk result (λ es. es.items ≡ coming_of_will client clients.now
         (of_client client (λ c. message_of c.will) clients.now)) }
 {
     match clients[client].will() {
-        Some(publish) => Ok(of_publish(alloc, client, publish, clients)?),
+        Some(publish) => Ok(of_publish(alloc, client, publish, clients, index)?),
         None => Ok(VecDeque::new(alloc)),
     }
 }
@@ -134,14 +158,16 @@ pub(super) fn of_packet(
     client: usize,
     packet: &Packet,
     clients: &[ClientState],
+    index: &TopicIndex,
     retained: &[Publish],
 ) -> Result<VecDeque<Coming>, AllocError>
-    requires { client < length clients.now }
+    requires there { client < length clients.now }
+    requires indexed { IsIndexed index.now clients.now }
     ensures { IfOk result
         (λ es. es.items ≡ coming_for client retained.now clients.now packet.now) }
 {
     match packet {
-        Packet::Publish(publish) => of_publish(alloc, client, publish, clients),
+        Packet::Publish(publish) => of_publish(alloc, client, publish, clients, index),
         other => {
             let copies = clients[client].copies(alloc, retained, other)?;
             Ok(to_client(alloc, client, copies)?)

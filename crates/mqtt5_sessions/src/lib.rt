@@ -6,6 +6,7 @@ mod client;
 mod coming;
 mod counts;
 mod laws;
+mod marks;
 mod sessions;
 #[cfg(test)]
 mod tests;

@@ -12,11 +12,13 @@ ghost use Rattle.mqtt5_sessions.specs.Shedding.{sheds, surplus_of};
 use crate::client::ClientState;
 use crate::coming::{Coming, deliver_all, hand_on, is_publish, of_packet, of_will};
 use crate::counts::Counts;
+use crate::marks::{arrive, leave};
 use mqtt5_base::Text;
 use mqtt5_codec::Packet;
 use mqtt5_network::Will;
 use mqtt5_publish::Publish;
 use mqtt5_session::StateError;
+use mqtt5_topic_index::TopicIndex;
 use std::alloc::Global;
 use std::collections::VecDeque;
 use std::marker::Model;
@@ -29,6 +31,7 @@ pub struct Sessions {
     clients: Vec<ClientState>,
     retained: Vec<Publish>,
     coming: VecDeque<Coming>,
+    index: TopicIndex,
 }
 
 impl Model for Sessions {
@@ -42,6 +45,7 @@ impl Model for Sessions {
     ghost use Rattle.mqtt5_network.specs.contracts.subscription.Subscription as subscription;
     ghost use Rattle.mqtt5_sessions.specs.Sessions as model;
     ghost use Rattle.mqtt5_sessions.specs.Coming.{delivered};
+    ghost use Rattle.mqtt5_sessions.specs.Indexed.{IsIndexed};
 
     ghost Value = { model.Sessions };
 
@@ -51,6 +55,8 @@ impl Model for Sessions {
       clients = delivered a.coming.items a.clients.items;
       retained = a.retained.items;
     } };
+
+    ghost invariant = { λ a. IsIndexed a.index a.clients.items };
 }
 
 impl Sessions {
@@ -62,6 +68,7 @@ impl Sessions {
             clients: Vec::new(alloc),
             retained: Vec::new(alloc),
             coming: VecDeque::new(alloc),
+            index: TopicIndex::new(alloc),
         }
     }
 
@@ -128,11 +135,18 @@ impl Sessions {
             client,
             &packet,
             self.clients.as_slice(),
+            &self.index,
             self.retained.as_slice(),
         )?;
         self.retained.reserve(1)?;
         let publishes = is_publish(&packet);
-        let arrived = self.clients[client].arrive(alloc, packet)?;
+        let arrived = arrive(
+            alloc,
+            client,
+            packet,
+            &mut self.clients[client],
+            &mut self.index,
+        )?;
         let reply = arrived.reply;
         let handed = arrived.handed;
         if publishes {
@@ -227,7 +241,7 @@ impl Sessions {
         if client >= self.clients.len() {
             return Ok(());
         }
-        let made = of_will(alloc, client, self.clients.as_slice())?;
+        let made = of_will(alloc, client, self.clients.as_slice(), &self.index)?;
         self.retained.reserve(1)?;
         let handed = self.clients[client].lose();
         hand_on(handed, made, &mut self.coming, &mut self.retained);
@@ -245,7 +259,7 @@ impl Sessions {
         if client >= self.clients.len() {
             return Ok(());
         }
-        let made = of_will(alloc, client, self.clients.as_slice())?;
+        let made = of_will(alloc, client, self.clients.as_slice(), &self.index)?;
         self.retained.reserve(1)?;
         let handed = self.clients[client].publish_waiting();
         hand_on(handed, made, &mut self.coming, &mut self.retained);
@@ -337,7 +351,7 @@ impl Sessions {
         if client >= self.clients.len() {
             return Ok(VecDeque::new(alloc));
         }
-        let made = of_will(alloc, client, self.clients.as_slice())?;
+        let made = of_will(alloc, client, self.clients.as_slice(), &self.index)?;
         self.retained.reserve(1)?;
         let (way, handed) = self.clients[client].come(alloc, receive_max, will)?;
         hand_on(handed, made, &mut self.coming, &mut self.retained);
@@ -359,8 +373,9 @@ impl Sessions {
         let renewed = self.clients[client].renewed(alloc)?;
         // (its own subscriptions have ended when its will is published)
         let kept = self.clients[client].swap(renewed);
-        match of_will(alloc, client, self.clients.as_slice()) {
+        match of_will(alloc, client, self.clients.as_slice(), &self.index) {
             Ok(made) => {
+                leave(&mut self.index, client, kept.subscriptions());
                 drop(kept);
                 let handed = self.clients[client].end();
                 hand_on(handed, made, &mut self.coming, &mut self.retained);

@@ -1,4 +1,4 @@
-use Rattle.std.proofs.Common.{List, sym, ap, ◌∙◌, arith}
+use Rattle.std.proofs.Common.{List, sym, ap, ◌∙◌, arith, subst}
 use Rattle.std.specs.Option.{option_to_list}
 use Rattle.mqtt5_publish.specs.declared.publish.Publish.{Publish}
 use Rattle.mqtt5_network.specs.Retained.{retained_after, copies_for}
@@ -6,6 +6,8 @@ use Rattle.mqtt5_router.specs.Kept.{without_events, kept_of, after_packet}
 use Rattle.mqtt5_sessions.specs.Sessions.{ClientState, gets, arrives, replies}
 use Rattle.mqtt5_sessions.specs.Coming.{coming_for}
 use Rattle.mqtt5_sessions.proofs.Delivered.{settled, seen_past, seen_publish, seen_other, sent_to, sent_past}
+use Rattle.mqtt5_sessions.specs.Indexed.{IsIndexed}
+use Rattle.mqtt5_sessions.proofs.Indexed.{indexed_delivered, indexed_set}
 use Rattle.mqtt5_sessions.proofs.sessions.Sessions.arrive.Goals as goal
 
 pub returns-then-client-len-clause-ok : goal.returns-then-client-len-clause-ok
@@ -38,7 +40,7 @@ returns-then-publishes-clause-ok c =
     let x : ClientState = c.index_mut.result.now in
     let o = c.in_ok-arrived.arrived.handed in
     let made = c.in_ok-made.made.items in
-    seen_publish i cs kept x c.arrive.new.self y o made c.hand_on.new.coming.items c.hand_on.new.retained.items (sym c.is_publish-publishes.ensures ∙ c.if-publishes.true)
+    seen_publish i cs kept x c.arrive.new.client y o made c.hand_on.new.coming.items c.hand_on.new.retained.items (sym c.is_publish-publishes.ensures ∙ c.if-publishes.true)
     (omega (arith, c.if-client-len.false, c.len.ensures)) c.index_mut.ensures.value c.in_ok-arrived.ensures.kept c.in_ok-arrived.ensures.handed
     (c.in_ok-made.ensures ∙ (λ j. coming_for i (c.as_slice-2.ensures.value j) (c.as_slice.ensures.value j) y))
     c.hand_on.ensures.coming
@@ -66,7 +68,7 @@ returns-clause-ok c =
     let y = c.args.packet in
     let x : ClientState = c.index_mut.result.now in
     let made = c.in_ok-made.made.items in
-    seen_other i cs kept x c.arrive.new.self y made c.reserve.new.self.items (sym c.is_publish-publishes.ensures ∙ c.if-publishes.false)
+    seen_other i cs kept x c.arrive.new.client y made c.reserve.new.self.items (sym c.is_publish-publishes.ensures ∙ c.if-publishes.false)
     (omega (arith, c.if-client-len.false, c.len.ensures)) c.index_mut.ensures.value c.in_ok-arrived.ensures.kept
     (c.in_ok-made.ensures ∙ (λ j. coming_for i (c.as_slice-2.ensures.value j) (c.as_slice.ensures.value j) y))
     c.reserve.ensures.items
@@ -82,3 +84,36 @@ returns-clause-reply c =
     c.in_ok-arrived.ensures.reply
     ∙ sent_to i (λ (x : ClientState). (after_packet x.kept c.args.packet).down) cs c.index_mut.result.now (omega (arith, c.if-client-len.false, c.len.ensures)) c.index_mut.ensures.value
     ∙ ap (λ s. replies i c.args.packet s) seen
+
+pub invariant_of-self : goal.invariant_of-self
+invariant_of-self c = indexed_delivered c.self.inside.index c.self.inside.clients.items c.self.invariant c.self.inside.coming.items c.deliver_all.new.coming.items c.deliver_all.new.clients.items c.deliver_all.ensures.same
+
+pub invariant_of-self-then-client-len : goal.invariant_of-self-then-client-len
+invariant_of-self-then-client-len c = indexed_delivered c.self.inside.index c.self.inside.clients.items c.self.invariant c.self.inside.coming.items c.deliver_all.new.coming.items c.deliver_all.new.clients.items c.deliver_all.ensures.same
+
+pub of_packet-requires-clause-indexed : goal.of_packet-requires-clause-indexed
+of_packet-requires-clause-indexed c = subst (IsIndexed c.self.inside.index) (sym c.as_slice.ensures.value) (indexed_delivered c.self.inside.index c.self.inside.clients.items c.self.invariant c.self.inside.coming.items c.deliver_all.new.coming.items c.deliver_all.new.clients.items c.deliver_all.ensures.same)
+
+pub invariant_of-self-in_err-made : goal.invariant_of-self-in_err-made
+invariant_of-self-in_err-made c = indexed_delivered c.self.inside.index c.self.inside.clients.items c.self.invariant c.self.inside.coming.items c.deliver_all.new.coming.items c.deliver_all.new.clients.items c.deliver_all.ensures.same
+
+pub invariant_of-self-in_err-reserve : goal.invariant_of-self-in_err-reserve
+invariant_of-self-in_err-reserve c = indexed_delivered c.self.inside.index c.self.inside.clients.items c.self.invariant c.self.inside.coming.items c.deliver_all.new.coming.items c.deliver_all.new.clients.items c.deliver_all.ensures.same
+
+pub invariant_of-self-in_err-arrived : goal.invariant_of-self-in_err-arrived
+invariant_of-self-in_err-arrived c =
+    let indexed = indexed_delivered c.self.inside.index c.self.inside.clients.items c.self.invariant c.self.inside.coming.items c.deliver_all.new.coming.items c.deliver_all.new.clients.items c.deliver_all.ensures.same in
+    indexed_set c.self.inside.index c.deliver_all.new.clients.items indexed c.args.client c.index_mut.result.now c.arrive.new.client (omega (arith, c.if-client-len.false, c.len.ensures)) c.index_mut.ensures.value
+    c.arrive.new.index c.arrive.ensures.others c.arrive.ensures.own
+
+pub invariant_of-self-then-publishes : goal.invariant_of-self-then-publishes
+invariant_of-self-then-publishes c =
+    let indexed = indexed_delivered c.self.inside.index c.self.inside.clients.items c.self.invariant c.self.inside.coming.items c.deliver_all.new.coming.items c.deliver_all.new.clients.items c.deliver_all.ensures.same in
+    indexed_set c.self.inside.index c.deliver_all.new.clients.items indexed c.args.client c.index_mut.result.now c.arrive.new.client (omega (arith, c.if-client-len.false, c.len.ensures)) c.index_mut.ensures.value
+    c.arrive.new.index c.arrive.ensures.others c.arrive.ensures.own
+
+pub invariant_of-self-2 : goal.invariant_of-self-2
+invariant_of-self-2 c =
+    let indexed = indexed_delivered c.self.inside.index c.self.inside.clients.items c.self.invariant c.self.inside.coming.items c.deliver_all.new.coming.items c.deliver_all.new.clients.items c.deliver_all.ensures.same in
+    indexed_set c.self.inside.index c.deliver_all.new.clients.items indexed c.args.client c.index_mut.result.now c.arrive.new.client (omega (arith, c.if-client-len.false, c.len.ensures)) c.index_mut.ensures.value
+    c.arrive.new.index c.arrive.ensures.others c.arrive.ensures.own

@@ -1,4 +1,4 @@
-use Rattle.std.proofs.Common.{List, true, refl, ap, ◌∙◌, arith}
+use Rattle.std.proofs.Common.{List, true, refl, ap, ◌∙◌, arith, sym, subst}
 use Rattle.std.specs.Option.{option_to_list}
 use Rattle.mqtt5_session.specs.Resuming.{resume_of}
 use Rattle.mqtt5_network.specs.Connection.{connected, sent_in}
@@ -8,6 +8,8 @@ use Rattle.mqtt5_network.specs.Place.{message_of, replaced_message}
 use Rattle.mqtt5_sessions.specs.Sessions.{ClientState, of_client, taken_up, comes, sent_again}
 use Rattle.mqtt5_sessions.specs.Coming.{coming_of_will}
 use Rattle.mqtt5_sessions.proofs.Delivered.{settled, seen_past, seen_will, replaced_of, sent_to, sent_past}
+use Rattle.mqtt5_sessions.specs.Indexed.{IsIndexed}
+use Rattle.mqtt5_sessions.proofs.Indexed.{indexed_delivered, indexed_kept}
 use Rattle.mqtt5_sessions.proofs.sessions.Sessions.come.Goals as goal
 
 pub returns-then-client-len-clause-ok : goal.returns-then-client-len-clause-ok
@@ -54,3 +56,30 @@ returns-clause-sent c =
     c.in_ok-way.ensures.sent
     ∙ sent_to i (λ (x : ClientState). sent_in (resume_of (connected c.args.receive_max x.kept.sender) 0)) cs c.index_mut.result.now (omega (arith, c.if-client-len.false, c.len.ensures)) c.index_mut.ensures.value
     ∙ ap (λ s. sent_again i c.args.receive_max s) seen
+
+pub invariant_of-self : goal.invariant_of-self
+invariant_of-self c = indexed_delivered c.self.inside.index c.self.inside.clients.items c.self.invariant c.self.inside.coming.items c.deliver_all.new.coming.items c.deliver_all.new.clients.items c.deliver_all.ensures.same
+
+pub invariant_of-self-then-client-len : goal.invariant_of-self-then-client-len
+invariant_of-self-then-client-len c = indexed_delivered c.self.inside.index c.self.inside.clients.items c.self.invariant c.self.inside.coming.items c.deliver_all.new.coming.items c.deliver_all.new.clients.items c.deliver_all.ensures.same
+
+pub of_will-requires-clause-indexed : goal.of_will-requires-clause-indexed
+of_will-requires-clause-indexed c = subst (IsIndexed c.self.inside.index) (sym c.as_slice.ensures.value) (indexed_delivered c.self.inside.index c.self.inside.clients.items c.self.invariant c.self.inside.coming.items c.deliver_all.new.coming.items c.deliver_all.new.clients.items c.deliver_all.ensures.same)
+
+pub invariant_of-self-in_err-made : goal.invariant_of-self-in_err-made
+invariant_of-self-in_err-made c = indexed_delivered c.self.inside.index c.self.inside.clients.items c.self.invariant c.self.inside.coming.items c.deliver_all.new.coming.items c.deliver_all.new.clients.items c.deliver_all.ensures.same
+
+pub invariant_of-self-in_err-reserve : goal.invariant_of-self-in_err-reserve
+invariant_of-self-in_err-reserve c = indexed_delivered c.self.inside.index c.self.inside.clients.items c.self.invariant c.self.inside.coming.items c.deliver_all.new.coming.items c.deliver_all.new.clients.items c.deliver_all.ensures.same
+
+pub invariant_of-self-in_err-way : goal.invariant_of-self-in_err-way
+invariant_of-self-in_err-way c =
+    let indexed = indexed_delivered c.self.inside.index c.self.inside.clients.items c.self.invariant c.self.inside.coming.items c.deliver_all.new.coming.items c.deliver_all.new.clients.items c.deliver_all.ensures.same in
+    indexed_kept c.self.inside.index c.deliver_all.new.clients.items indexed c.args.client c.index_mut.result.now c.come.new.self (omega (arith, c.if-client-len.false, c.len.ensures)) c.index_mut.ensures.value
+    (c.in_err-way.ensures.left)
+
+pub invariant_of-self-2 : goal.invariant_of-self-2
+invariant_of-self-2 c =
+    let indexed = indexed_delivered c.self.inside.index c.self.inside.clients.items c.self.invariant c.self.inside.coming.items c.deliver_all.new.coming.items c.deliver_all.new.clients.items c.deliver_all.ensures.same in
+    indexed_kept c.self.inside.index c.deliver_all.new.clients.items indexed c.args.client c.index_mut.result.now c.come.new.self (omega (arith, c.if-client-len.false, c.len.ensures)) c.index_mut.ensures.value
+    (ap (λ (x : ClientState). x.kept.subscriptions) c.in_ok-way.ensures.kept)

@@ -1,14 +1,17 @@
-use Rattle.std.proofs.Common.{◌<◌, length, List, [], false, refl, sym, ap, ◌∙◌, arith}
+use Rattle.std.proofs.Common.{◌<◌, length, List, [], false, refl, sym, ap, ◌∙◌, arith, subst}
 use Rattle.std.specs.Option.{option_to_list}
 use Rattle.std.specs.Prelude.{None}
 use Rattle.std.proofs.Math.ListN.{set}
 use Rattle.mqtt5_publish.specs.declared.publish.Publish.{Publish}
 use Rattle.mqtt5_network.specs.Retained.{retained_after}
 use Rattle.mqtt5_network.specs.Place.{message_of}
-use Rattle.mqtt5_router.specs.Kept.{new_kept}
+use Rattle.mqtt5_router.specs.Kept.{Kept, new_kept}
 use Rattle.mqtt5_sessions.specs.Sessions.{ClientState, of_client, ends}
 use Rattle.mqtt5_sessions.specs.Coming.{delivered, coming_of_will}
 use Rattle.mqtt5_sessions.proofs.Delivered.{settled, seen_past, seen_will, seen_renewed, set_below, at_set, at_same, set_again}
+use Rattle.mqtt5_network.specs.declared.subscription.Subscription.{Subscription}
+use Rattle.mqtt5_sessions.specs.Indexed.{IsIndexed}
+use Rattle.mqtt5_sessions.proofs.Indexed.{indexed_delivered, indexed_none}
 use Rattle.mqtt5_sessions.proofs.sessions.Sessions.end.Goals as goal
 
 -- its session is renewed, and then it is away without a will
@@ -72,3 +75,62 @@ returns-in-Err-clause-left c =
     ∙ ap (λ k. record x { kept = k }) c.swap-kept.ensures.before in
     let again = set_again i cs x d c.swap.new.self below c.index_mut.ensures.value back in
     (λ j. record { clients = delivered (none j) (again j); retained = c.reserve.ensures.items j }) ∙ seen
+
+pub invariant_of-self : goal.invariant_of-self
+invariant_of-self c = indexed_delivered c.self.inside.index c.self.inside.clients.items c.self.invariant c.self.inside.coming.items c.deliver_all.new.coming.items c.deliver_all.new.clients.items c.deliver_all.ensures.same
+
+pub invariant_of-self-then-client-len : goal.invariant_of-self-then-client-len
+invariant_of-self-then-client-len c = indexed_delivered c.self.inside.index c.self.inside.clients.items c.self.invariant c.self.inside.coming.items c.deliver_all.new.coming.items c.deliver_all.new.clients.items c.deliver_all.ensures.same
+
+pub invariant_of-self-in_err-reserve : goal.invariant_of-self-in_err-reserve
+invariant_of-self-in_err-reserve c = indexed_delivered c.self.inside.index c.self.inside.clients.items c.self.invariant c.self.inside.coming.items c.deliver_all.new.coming.items c.deliver_all.new.clients.items c.deliver_all.ensures.same
+
+pub invariant_of-self-in_err-renewed : goal.invariant_of-self-in_err-renewed
+invariant_of-self-in_err-renewed c = indexed_delivered c.self.inside.index c.self.inside.clients.items c.self.invariant c.self.inside.coming.items c.deliver_all.new.coming.items c.deliver_all.new.clients.items c.deliver_all.ensures.same
+
+abbrev subscriptions : ClientState → List Subscription
+subscriptions x = x.kept.subscriptions
+
+pub of_will-requires-clause-indexed : goal.of_will-requires-clause-indexed
+of_will-requires-clause-indexed c =
+    let i = c.args.client in
+    let cs : List ClientState = c.deliver_all.new.clients.items in
+    let x = c.self.inside.index in
+    let indexed = indexed_delivered c.self.inside.index c.self.inside.clients.items c.self.invariant c.self.inside.coming.items c.deliver_all.new.coming.items c.deliver_all.new.clients.items c.deliver_all.ensures.same in
+    let below : i < length cs = omega (arith, c.if-client-len.false, c.len.ensures) in
+    let x0 : ClientState = c.index_mut.result.now in
+    let d : ClientState = c.swap-kept.new.self in
+    let none = ap subscriptions c.swap-kept.ensures.now ∙ ap (λ (k : Kept). k.subscriptions) c.in_ok-renewed.ensures.ok in
+    let indexed' : IsIndexed x (set cs i d) = indexed_none x cs indexed i x0 d below c.index_mut.ensures.value none x (λ m n other there. there) in
+    subst (IsIndexed x) (sym c.as_slice.ensures.value) indexed'
+
+pub invariant_of-self-in-Ok : goal.invariant_of-self-in-Ok
+invariant_of-self-in-Ok c =
+    let i = c.args.client in
+    let cs : List ClientState = c.deliver_all.new.clients.items in
+    let x = c.self.inside.index in
+    let indexed = indexed_delivered c.self.inside.index c.self.inside.clients.items c.self.invariant c.self.inside.coming.items c.deliver_all.new.coming.items c.deliver_all.new.clients.items c.deliver_all.ensures.same in
+    let below : i < length cs = omega (arith, c.if-client-len.false, c.len.ensures) in
+    let x0 : ClientState = c.index_mut.result.now in
+    let d : ClientState = c.swap-kept.new.self in
+    let none = ap subscriptions c.swap-kept.ensures.now ∙ ap (λ (k : Kept). k.subscriptions) c.in_ok-renewed.ensures.ok in
+    let indexed' : IsIndexed x (set cs i d) = indexed_none x cs indexed i x0 d below c.index_mut.ensures.value none x (λ m n other there. there) in
+    let y : ClientState = c.index_mut-in-Ok.result.now in
+    let none' = ap subscriptions c.end-handed.ensures.left ∙ ap subscriptions (c.index_mut-in-Ok.ensures.value ∙ at_set i cs d y below) ∙ none in
+    indexed_none x (set cs i d) indexed' i y c.end-handed.new.self (set_below i cs x0 d below) c.index_mut-in-Ok.ensures.value none' c.leave.new.index c.leave.ensures.others
+
+pub invariant_of-self-in-Err : goal.invariant_of-self-in-Err
+invariant_of-self-in-Err c =
+    let i = c.args.client in
+    let cs : List ClientState = c.deliver_all.new.clients.items in
+    let indexed = indexed_delivered c.self.inside.index c.self.inside.clients.items c.self.invariant c.self.inside.coming.items c.deliver_all.new.coming.items c.deliver_all.new.clients.items c.deliver_all.ensures.same in
+    let below : i < length cs = omega (arith, c.if-client-len.false, c.len.ensures) in
+    let x : ClientState = c.index_mut.result.now in
+    let d : ClientState = c.swap-kept.new.self in
+    let y : ClientState = c.index_mut-in-Err.result.now in
+    let back =
+    c.swap.ensures.now
+    ∙ ap (λ (y : ClientState). record y { kept = c.swap-kept.result }) (c.index_mut-in-Err.ensures.value ∙ at_set i cs d y below ∙ c.swap-kept.ensures.now)
+    ∙ ap (λ k. record x { kept = k }) c.swap-kept.ensures.before in
+    let again = set_again i cs x d c.swap.new.self below c.index_mut.ensures.value back in
+    subst (IsIndexed c.self.inside.index) (sym again) indexed

@@ -3,6 +3,7 @@ use Rattle.mqtt5_publish.specs.declared.publish.Publish.{Publish}
 use Rattle.mqtt5_network.specs.Place.{left_will}
 use Rattle.mqtt5_sessions.specs.Sessions.{ClientState, leaves}
 use Rattle.mqtt5_sessions.proofs.Delivered.{settled, seen_past, seen_none}
+use Rattle.mqtt5_sessions.proofs.Indexed.{indexed_delivered, indexed_kept}
 use Rattle.mqtt5_sessions.proofs.sessions.Sessions.leave.Goals as goal
 
 abbrev changed : ClientState → ClientState
@@ -27,3 +28,15 @@ returns-clause-ok c =
     seen_none i changed (λ x. []) cs kept c.index_mut.result.now c.leave.new.self c.deliver_all.new.coming.items none
     (omega (arith, c.if-client-len.false, c.len.ensures)) c.index_mut.ensures.value c.leave.ensures refl
     ∙ ap (λ s. leaves i s) seen
+
+pub invariant_of-self : goal.invariant_of-self
+invariant_of-self c = indexed_delivered c.self.inside.index c.self.inside.clients.items c.self.invariant c.self.inside.coming.items c.deliver_all.new.coming.items c.deliver_all.new.clients.items c.deliver_all.ensures.same
+
+pub invariant_of-self-then-client-len : goal.invariant_of-self-then-client-len
+invariant_of-self-then-client-len c = indexed_delivered c.self.inside.index c.self.inside.clients.items c.self.invariant c.self.inside.coming.items c.deliver_all.new.coming.items c.deliver_all.new.clients.items c.deliver_all.ensures.same
+
+pub invariant_of-self-2 : goal.invariant_of-self-2
+invariant_of-self-2 c =
+    let indexed = indexed_delivered c.self.inside.index c.self.inside.clients.items c.self.invariant c.self.inside.coming.items c.deliver_all.new.coming.items c.deliver_all.new.clients.items c.deliver_all.ensures.same in
+    indexed_kept c.self.inside.index c.deliver_all.new.clients.items indexed c.args.client c.index_mut.result.now c.leave.new.self (omega (arith, c.if-client-len.false, c.len.ensures)) c.index_mut.ensures.value
+    (ap (λ (x : ClientState). x.kept.subscriptions) c.leave.ensures)

@@ -1,4 +1,4 @@
-use Rattle.std.proofs.Common.{List, false, refl, ap, ◌∙◌, arith}
+use Rattle.std.proofs.Common.{List, false, refl, ap, ◌∙◌, arith, sym, subst}
 use Rattle.std.specs.Option.{option_to_list}
 use Rattle.mqtt5_publish.specs.declared.publish.Publish.{Publish}
 use Rattle.mqtt5_network.specs.Retained.{retained_after}
@@ -6,6 +6,8 @@ use Rattle.mqtt5_network.specs.Place.{message_of, lost_message, waiting}
 use Rattle.mqtt5_sessions.specs.Sessions.{ClientState, of_client, loses}
 use Rattle.mqtt5_sessions.specs.Coming.{coming_of_will}
 use Rattle.mqtt5_sessions.proofs.Delivered.{settled, seen_past, seen_will, lost_of}
+use Rattle.mqtt5_sessions.specs.Indexed.{IsIndexed}
+use Rattle.mqtt5_sessions.proofs.Indexed.{indexed_delivered, indexed_kept}
 use Rattle.mqtt5_sessions.proofs.sessions.Sessions.lose.Goals as goal
 
 pub returns-then-client-len-clause-ok : goal.returns-then-client-len-clause-ok
@@ -32,3 +34,24 @@ returns-clause-ok c =
     c.hand_on.ensures.coming
     (c.hand_on.ensures.retained ∙ ap (λ ps. retained_after ps (option_to_list c.lose-handed.result)) c.reserve.ensures.items)
     ∙ ap (λ s. loses i s) seen
+
+pub invariant_of-self : goal.invariant_of-self
+invariant_of-self c = indexed_delivered c.self.inside.index c.self.inside.clients.items c.self.invariant c.self.inside.coming.items c.deliver_all.new.coming.items c.deliver_all.new.clients.items c.deliver_all.ensures.same
+
+pub invariant_of-self-then-client-len : goal.invariant_of-self-then-client-len
+invariant_of-self-then-client-len c = indexed_delivered c.self.inside.index c.self.inside.clients.items c.self.invariant c.self.inside.coming.items c.deliver_all.new.coming.items c.deliver_all.new.clients.items c.deliver_all.ensures.same
+
+pub of_will-requires-clause-indexed : goal.of_will-requires-clause-indexed
+of_will-requires-clause-indexed c = subst (IsIndexed c.self.inside.index) (sym c.as_slice.ensures.value) (indexed_delivered c.self.inside.index c.self.inside.clients.items c.self.invariant c.self.inside.coming.items c.deliver_all.new.coming.items c.deliver_all.new.clients.items c.deliver_all.ensures.same)
+
+pub invariant_of-self-in_err-made : goal.invariant_of-self-in_err-made
+invariant_of-self-in_err-made c = indexed_delivered c.self.inside.index c.self.inside.clients.items c.self.invariant c.self.inside.coming.items c.deliver_all.new.coming.items c.deliver_all.new.clients.items c.deliver_all.ensures.same
+
+pub invariant_of-self-in_err-reserve : goal.invariant_of-self-in_err-reserve
+invariant_of-self-in_err-reserve c = indexed_delivered c.self.inside.index c.self.inside.clients.items c.self.invariant c.self.inside.coming.items c.deliver_all.new.coming.items c.deliver_all.new.clients.items c.deliver_all.ensures.same
+
+pub invariant_of-self-2 : goal.invariant_of-self-2
+invariant_of-self-2 c =
+    let indexed = indexed_delivered c.self.inside.index c.self.inside.clients.items c.self.invariant c.self.inside.coming.items c.deliver_all.new.coming.items c.deliver_all.new.clients.items c.deliver_all.ensures.same in
+    indexed_kept c.self.inside.index c.deliver_all.new.clients.items indexed c.args.client c.index_mut.result.now c.lose-handed.new.self (omega (arith, c.if-client-len.false, c.len.ensures)) c.index_mut.ensures.value
+    (ap (λ (x : ClientState). x.kept.subscriptions) c.lose-handed.ensures.left)

@@ -2,6 +2,7 @@ use Rattle.std.proofs.Common.{List, [], refl, ap, ◌∙◌, arith}
 use Rattle.mqtt5_publish.specs.declared.publish.Publish.{Publish}
 use Rattle.mqtt5_sessions.specs.Sessions.{ClientState, passes, passes_here, sent_here, passed}
 use Rattle.mqtt5_sessions.proofs.Delivered.{settled, seen_past, seen_none, sent_to, sent_past}
+use Rattle.mqtt5_sessions.proofs.Indexed.{indexed_delivered, indexed_kept, passed_marks}
 use Rattle.mqtt5_sessions.proofs.sessions.Sessions.pass.Goals as goal
 
 abbrev changed : ClientState → ClientState
@@ -46,3 +47,21 @@ returns-clause-sent c =
     c.in_ok-sent.ensures.sent
     ∙ sent_to i (λ (x : ClientState). sent_here x.here x.kept) cs c.index_mut.result.now (omega (arith, c.if-client-len.false, c.len.ensures)) c.index_mut.ensures.value
     ∙ ap (λ s. passed i s) seen
+
+pub invariant_of-self : goal.invariant_of-self
+invariant_of-self c = indexed_delivered c.self.inside.index c.self.inside.clients.items c.self.invariant c.self.inside.coming.items c.deliver_all.new.coming.items c.deliver_all.new.clients.items c.deliver_all.ensures.same
+
+pub invariant_of-self-then-client-len : goal.invariant_of-self-then-client-len
+invariant_of-self-then-client-len c = indexed_delivered c.self.inside.index c.self.inside.clients.items c.self.invariant c.self.inside.coming.items c.deliver_all.new.coming.items c.deliver_all.new.clients.items c.deliver_all.ensures.same
+
+pub invariant_of-self-in_err-sent : goal.invariant_of-self-in_err-sent
+invariant_of-self-in_err-sent c =
+    let indexed = indexed_delivered c.self.inside.index c.self.inside.clients.items c.self.invariant c.self.inside.coming.items c.deliver_all.new.coming.items c.deliver_all.new.clients.items c.deliver_all.ensures.same in
+    indexed_kept c.self.inside.index c.deliver_all.new.clients.items indexed c.args.client c.index_mut.result.now c.pass.new.self (omega (arith, c.if-client-len.false, c.len.ensures)) c.index_mut.ensures.value
+    (ap (λ (x : ClientState). x.kept.subscriptions) c.in_err-sent.ensures.left)
+
+pub invariant_of-self-2 : goal.invariant_of-self-2
+invariant_of-self-2 c =
+    let indexed = indexed_delivered c.self.inside.index c.self.inside.clients.items c.self.invariant c.self.inside.coming.items c.deliver_all.new.coming.items c.deliver_all.new.clients.items c.deliver_all.ensures.same in
+    indexed_kept c.self.inside.index c.deliver_all.new.clients.items indexed c.args.client c.index_mut.result.now c.pass.new.self (omega (arith, c.if-client-len.false, c.len.ensures)) c.index_mut.ensures.value
+    (ap (λ (x : ClientState). x.kept.subscriptions) c.in_ok-sent.ensures.kept ∙ passed_marks c.index_mut.result.now.here c.index_mut.result.now.kept)
