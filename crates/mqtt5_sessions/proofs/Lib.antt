@@ -1,5 +1,7 @@
 pub mod Delivered
 pub mod Indexed
+pub mod Noted
+pub mod Brought
 pub mod Found
 pub mod Quiet
 pub mod Following

@@ -1,6 +1,9 @@
 pub mod Coming
 pub mod Indexed
 pub mod Sessions
+pub mod Bringing
+pub mod Waiting
+pub mod Followed
 pub mod Counts
 pub mod Expiry
 pub mod Shedding

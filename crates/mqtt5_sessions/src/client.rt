@@ -14,7 +14,10 @@ ghost use Rattle.mqtt5_sessions.specs.Sessions.{new_state, gets, passes_here, se
 ghost use Rattle.mqtt5_sessions.specs.Counts.{counts_of};
 ghost use Rattle.mqtt5_sessions.specs.Expiry.{expiry_of, first_expiry, expiry_of_will, delays};
 ghost use Rattle.mqtt5_sessions.specs.Shedding.{surplus, without_firsts};
+ghost use Rattle.mqtt5_sessions.specs.Waiting.{waits};
+ghost use Rattle.mqtt5_sessions.specs.Bringing.{overfills_of};
 
+use crate::bringing::brings_more;
 use crate::counts::{Counts, sizes, surplus};
 use mqtt5_base::Text;
 use mqtt5_codec::Packet;
@@ -22,6 +25,7 @@ use mqtt5_network::{Subscription, Will, dated_will};
 use mqtt5_publish::Publish;
 use mqtt5_router::{Arrived, Kept, forwarded};
 use mqtt5_session::StateError;
+use mqtt5_subscribe::Filter;
 use std::alloc::{AllocError, Global};
 use std::collections::VecDeque;
 use std::marker::Model;
@@ -102,6 +106,14 @@ impl ClientState {
         count
     }
 
+    /// Whether these filters bring more copies than there is room for in its queue, in which so many may be. Takes no memory.
+    pub(super) fn overfills(&self, retained: &[Publish], filters: &[Filter], most: usize) -> bool
+        ensures { result ≡ overfills_of most filters.now retained.now self.now.kept }
+    {
+        let left = most.saturating_sub(self.kept.queue().len());
+        brings_more(retained, self.kept.subscriptions(), filters, left)
+    }
+
     /// Its subscriptions.
     pub(super) fn subscriptions(&self) -> &[Subscription]
         ensures { result.now ≡ self.now.kept.subscriptions }
@@ -110,6 +122,7 @@ impl ClientState {
     }
 
     /// A packet comes from it: what is sent back, and what is handed on.
+    #[tactic(auto, using(crate::proofs::Noted::heard_waits))]
     pub(super) fn arrive(&mut self, alloc: Global, packet: Packet) -> Result<Arrived, StateError>
         ensures kept { OnOk result (self.new ≡ record self.old {
           kept = without_events (kept_of (after_packet self.old.kept packet));
@@ -120,6 +133,7 @@ impl ClientState {
             ≡ (after_packet self.old.kept packet).receiver.handed) }
         ensures memory { IfErr result (λ e. e ≡ StateError.OutOfMemory) }
         ensures left { OnErr result (self.new ≡ self.old) }
+        ensures waits { waits self.new ≡ waits self.old }
     {
         let arrived = self.kept.arrive(alloc, packet)?;
         self.kept.forget_events();
@@ -263,6 +277,13 @@ impl ClientState {
         ensures { self.new ≡ with_dated_will interval self.old }
     {
         self.will = dated_will(self.will.take(), interval);
+    }
+
+    /// Whether it is connected, and something is in its queue.
+    pub(super) fn waits(&self) -> bool
+        ensures { result ≡ waits self.now }
+    {
+        self.here && !self.kept.queue().is_empty()
     }
 
     /// Whether it is connected.

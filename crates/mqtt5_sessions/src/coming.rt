@@ -12,15 +12,18 @@ ghost use Rattle.mqtt5_network.specs.Place.{message_of};
 ghost use Rattle.mqtt5_sessions.specs.Sessions.{ClientState, gets, with_client, of_client};
 ghost use Rattle.mqtt5_sessions.specs.Coming.{delivered, coming_to, forwarded_at, coming_of};
 ghost use Rattle.mqtt5_sessions.specs.Coming.{coming_of_will, is_publish, coming_for, chosen};
+ghost use Rattle.mqtt5_topic_index.specs.declared.index.TopicIndex.{TopicIndex};
 ghost use Rattle.mqtt5_sessions.specs.Indexed.{IsIndexed};
+ghost use Rattle.mqtt5_sessions.specs.Followed.{IsFollowed};
 
 use crate::client::ClientState;
+use crate::waiting::note;
 use mqtt5_base::copied;
 use mqtt5_codec::Packet;
 use mqtt5_publish::Publish;
 use mqtt5_topic_index::TopicIndex;
 use std::alloc::{AllocError, Global};
-use std::collections::VecDeque;
+use std::collections::{BTreeSet, VecDeque};
 
 /// A publish on its way into the queue of a client.
 #[derive(Debug, Drop)]
@@ -31,41 +34,49 @@ pub struct Coming {
     pub publish: Publish,
 }
 
-/// What is on its way goes into the queues. Err where memory is refused: what isn't there yet is still on its way.
+/// What is on its way goes into the queues, and who gets it is noted. Err where memory is refused: what isn't there yet is still on its
+/// way.
 #[tactic(auto, using(crate::proofs::Delivered::delivers_next))]
 pub(super) fn deliver_all(
     alloc: Global,
     coming: &mut VecDeque<Coming>,
     clients: &mut Vec<ClientState>,
+    noted: &mut BTreeSet<usize>,
 ) -> Result<(), AllocError>
     ensures same { delivered coming.new.items clients.new.items
         ≡ delivered coming.old.items clients.old.items }
     ensures none { OnOk result (coming.new.items ≡ []) }
+    ensures followed { (x : TopicIndex) → IsFollowed x noted.old clients.old.items
+        → IsFollowed x noted.new clients.new.items }
 {
     while !coming.is_empty() {
         let client = coming[0].client;
         let publish = copied(&coming[0].publish)?;
-        deliver(alloc, client, publish, clients)?;
+        deliver(alloc, client, publish, clients, noted)?;
         drop(coming.pop_front());
     }
     Ok(())
 }
 
-/// A publish goes to the end of the queue of the client with a number, if there is one.
+/// A publish goes to the end of the queue of the client with a number, if there is one, which is noted.
 #[tactic(auto, using(crate::proofs::Delivered::deliver_past, crate::proofs::Delivered::deliver_to))]
 fn deliver(
     alloc: Global,
     client: usize,
     publish: Publish,
     clients: &mut Vec<ClientState>,
+    noted: &mut BTreeSet<usize>,
 ) -> Result<(), AllocError>
     ensures ok { OnOk result (clients.new.items
         ≡ with_client client (gets (publish ∷ [])) clients.old.items) }
     ensures left { OnErr result (clients.new.items ≡ clients.old.items) }
+    ensures followed { (x : TopicIndex) → IsFollowed x noted.old clients.old.items
+        → IsFollowed x noted.new clients.new.items }
 {
     if client >= clients.len() {
         return Ok(());
     }
+    note(noted, client)?;
     let mut publishes = Vec::new(alloc);
     publishes.push(publish)?;
     clients[client].put(publishes)?;

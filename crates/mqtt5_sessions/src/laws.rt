@@ -1,14 +1,19 @@
 //! What a broker keeps follows each event of a network; and it can do without the events at its senders.
 
-ghost use Rattle.std.specs.Prelude.{◌≡◌, ◌<◌, ◌∷◌, ◌++◌, ℕ, Bool, List, Option, Some, length, map, slice_get};
+ghost use Rattle.std.specs.Prelude.{◌≡◌, ◌<◌, ◌≤◌, [], ◌∷◌, ◌++◌, ℕ, Bool, false, List, Option, Some, length, map, slice_get};
 ghost use Rattle.mqtt5_base.specs.Texts.{Utf8};
+ghost use Rattle.mqtt5_publish.specs.declared.publish.Publish.{Publish};
+ghost use Rattle.mqtt5_subscribe.specs.declared.subscribe.Subscribe.{Subscribe};
 ghost use Rattle.mqtt5_codec.specs.declared.packet.Packet.{Packet};
+ghost use Rattle.mqtt5_codec.specs.declared.packet.Packet.TheVariants as packets;
 ghost use Rattle.mqtt5_session.specs.Resuming.{resume_of};
 ghost use Rattle.mqtt5_network.specs.declared.event.ClientEvent.{ClientEvent};
 ghost use Rattle.mqtt5_network.specs.declared.event.ClientEvent.TheVariants as events;
 ghost use Rattle.mqtt5_network.specs.declared.event.NetworkEvent.{NetworkEvent};
 ghost use Rattle.mqtt5_network.specs.declared.event.Will.{Will};
+ghost use Rattle.mqtt5_network.specs.declared.subscription.Subscription.{Subscription};
 ghost use Rattle.mqtt5_network.specs.Connection.{connected, sent_in};
+ghost use Rattle.mqtt5_network.specs.Retained.{copies_for};
 ghost use Rattle.mqtt5_network.specs.Place.{Place};
 ghost use Rattle.mqtt5_network.specs.Network.{Network, Profile, happens_in, run_network, IsReached};
 ghost use Rattle.mqtt5_router.specs.Kept.{Kept, without_events, kept_of, after_packet, after_pass};
@@ -16,6 +21,8 @@ ghost use Rattle.mqtt5_sessions.specs.Sessions.{sessions_of, arrives, passes, ta
 ghost use Rattle.mqtt5_sessions.specs.Sessions.{dates, turns, leaves, taken_up, comes, ends};
 ghost use Rattle.mqtt5_sessions.specs.Sessions.{Sessions, replies, passed, sent_again};
 ghost use Rattle.mqtt5_sessions.specs.Runs.{after_events, no_sessions, RunEvent, IsOfClient, at_broker};
+ghost use Rattle.mqtt5_sessions.specs.Bringing.{brought};
+ghost use Rattle.mqtt5_sessions.specs.Waiting.{waits_at};
 ghost use Rattle.mqtt5_sessions.specs.Runs.{limits_in, with_new, before, HaveNone, all_in_network, IsRun};
 
 /// A law, which does nothing when it is called: what a broker keeps of a network, after each event of the client at a place, is
@@ -136,4 +143,18 @@ pub fn sends_law()
         → ((x : Packet) → replies i x (with_new limits s) ≡ replies i x s)
         × (passed i (with_new limits s) ≡ passed i s)
         × ((m : Option ℕ) → sent_again i m (with_new limits s) ≡ sent_again i m s) }
+{}
+
+/// A law, which does nothing when it is called: to a client that isn't connected, or has nothing in its queue, nothing is passed on. So
+/// who asks only for those that `Sessions::next_waiting` finds misses nothing.
+pub fn waiting_law()
+    ensures { (i : ℕ) (s : Sessions) → waits_at i s.clients ≡ false → passed i s ≡ [] }
+{}
+
+/// A law, which does nothing when it is called: a Subscribe brings no more copies of retained messages than are counted. So one for
+/// which `Sessions::overfills` answers that there is room leaves no more in the client's queue than may be there, unless more was there
+/// before (MQTT 5.0 sections 3.3.1.3 and 3.8.3.1).
+pub fn bringing_law()
+    ensures { (kept : List Publish) (ss : List Subscription) (s : Subscribe)
+        → length (copies_for kept ss (packets.Subscribe s)) ≤ brought kept ss s.filters }
 {}

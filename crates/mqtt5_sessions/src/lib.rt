@@ -2,6 +2,7 @@
 //! and messages are retained.
 #![tactic(auto)]
 
+mod bringing;
 mod client;
 mod coming;
 mod counts;
@@ -10,7 +11,8 @@ mod marks;
 mod sessions;
 #[cfg(test)]
 mod tests;
+mod waiting;
 
 pub use counts::Counts;
-pub use laws::{quiet_law, run_law, sends_law, sessions_law};
+pub use laws::{bringing_law, quiet_law, run_law, sends_law, sessions_law, waiting_law};
 pub use sessions::Sessions;

@@ -6,6 +6,7 @@ ghost use Rattle.mqtt5_base.specs.Grammar.{is_among};
 ghost use Rattle.mqtt5_subscribe.specs.declared.filter.Filter.{Filter};
 ghost use Rattle.mqtt5_topic_index.specs.Index.{Stands};
 ghost use Rattle.mqtt5_router.specs.Kept.{without_events, kept_of, after_packet};
+ghost use Rattle.mqtt5_sessions.specs.Waiting.{waits};
 ghost use Rattle.mqtt5_sessions.specs.Indexed.{path_mark, mark_in, marks_in, marks_asked, marks_wanted};
 
 use crate::client::ClientState;
@@ -95,7 +96,8 @@ fn unheld(subscriptions: &[Subscription], marks: Vec<u64>) -> Vec<u64>
 /// Puts a client under marks. Err where memory is refused: then it may stand under some of them.
 fn stand(index: &mut TopicIndex, client: usize, marks: &[u64]) -> Result<(), AllocError>
     ensures others { (m n : ℕ) → Stands index.old m n → Stands index.new m n }
-    ensures there { OnOk result ((m : ℕ) → is_among marks.now m ≡ true → Stands index.new m client) }
+    ensures there { OnOk result
+        ((m : ℕ) → is_among marks.now m ≡ true → Stands index.new m client) }
 {
     for mark in marks {
         index.insert(*mark, client)?;
@@ -177,6 +179,7 @@ fn arrive_marked(
         ≡ (after_packet client.old.kept packet).receiver.handed) }
     ensures memory { IfErr result (λ e. e ≡ StateError.OutOfMemory) }
     ensures left { OnErr result (client.new ≡ client.old) }
+    ensures waits { waits client.new ≡ waits client.old }
     ensures others { (m n : ℕ) → Stands index.old m n → Stands index.new m n }
     ensures own { (m : ℕ) → is_among (marks_in client.new.kept.subscriptions) m ≡ true
         → (is_among (marks_in client.old.kept.subscriptions) m ≡ true) ⊎ Stands index.new m number }
@@ -203,6 +206,7 @@ pub(super) fn arrive(
         ≡ (after_packet client.old.kept packet).receiver.handed) }
     ensures memory { IfErr result (λ e. e ≡ StateError.OutOfMemory) }
     ensures left { OnErr result (client.new ≡ client.old) }
+    ensures waits { waits client.new ≡ waits client.old }
     ensures others { (m n : ℕ) → (n ≡ number → ⊥) → Stands index.old m n → Stands index.new m n }
     ensures own { ((m : ℕ) → is_among (marks_in client.old.kept.subscriptions) m ≡ true
         → Stands index.old m number)

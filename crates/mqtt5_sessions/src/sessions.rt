@@ -8,19 +8,24 @@ ghost use Rattle.mqtt5_sessions.specs.Sessions.{is_due, dates, is_here, turns, l
 ghost use Rattle.mqtt5_sessions.specs.Counts.{counts};
 ghost use Rattle.mqtt5_sessions.specs.Expiry.{message_expiry, will_expiry, will_is_delayed};
 ghost use Rattle.mqtt5_sessions.specs.Shedding.{sheds, surplus_of};
+ghost use Rattle.mqtt5_sessions.specs.Waiting.{IsNextWaiting};
+ghost use Rattle.mqtt5_sessions.specs.Bringing.{overfills};
 
+use crate::bringing::brings_more;
 use crate::client::ClientState;
 use crate::coming::{Coming, deliver_all, hand_on, is_publish, of_packet, of_will};
 use crate::counts::Counts;
 use crate::marks::{arrive, leave};
+use crate::waiting::{next_waiting, note};
 use mqtt5_base::Text;
 use mqtt5_codec::Packet;
 use mqtt5_network::Will;
 use mqtt5_publish::Publish;
 use mqtt5_session::StateError;
+use mqtt5_subscribe::Filter;
 use mqtt5_topic_index::TopicIndex;
 use std::alloc::Global;
-use std::collections::VecDeque;
+use std::collections::{BTreeSet, VecDeque};
 use std::marker::Model;
 use std::num::NonZeroU16;
 
@@ -32,6 +37,7 @@ pub struct Sessions {
     retained: Vec<Publish>,
     coming: VecDeque<Coming>,
     index: TopicIndex,
+    noted: BTreeSet<usize>,
 }
 
 impl Model for Sessions {
@@ -45,7 +51,7 @@ impl Model for Sessions {
     ghost use Rattle.mqtt5_network.specs.contracts.subscription.Subscription as subscription;
     ghost use Rattle.mqtt5_sessions.specs.Sessions as model;
     ghost use Rattle.mqtt5_sessions.specs.Coming.{delivered};
-    ghost use Rattle.mqtt5_sessions.specs.Indexed.{IsIndexed};
+    ghost use Rattle.mqtt5_sessions.specs.Followed.{IsFollowed};
 
     ghost Value = { model.Sessions };
 
@@ -56,7 +62,7 @@ impl Model for Sessions {
       retained = a.retained.items;
     } };
 
-    ghost invariant = { λ a. IsIndexed a.index a.clients.items };
+    ghost invariant = { λ a. IsFollowed a.index a.noted a.clients.items };
 }
 
 impl Sessions {
@@ -69,6 +75,7 @@ impl Sessions {
             retained: Vec::new(alloc),
             coming: VecDeque::new(alloc),
             index: TopicIndex::new(alloc),
+            noted: BTreeSet::new(alloc),
         }
     }
 
@@ -86,7 +93,7 @@ impl Sessions {
         // In each case nothing changes.
         ensures same { self.new ≡ self.old }
     {
-        deliver_all(alloc, &mut self.coming, &mut self.clients)?;
+        deliver_all(alloc, &mut self.coming, &mut self.clients, &mut self.noted)?;
         if client >= self.clients.len() {
             return Ok(Counts {
                 subscriptions: 0,
@@ -97,6 +104,27 @@ impl Sessions {
         Ok(self.clients[client].counts())
     }
 
+    /// Whether a Subscribe to these filters may bring more copies of retained messages than there is room for in a client's queue, in
+    /// which so many may be (3.3.1.3). Of filters that are the same each is counted; who isn't there has an empty queue. S12.
+    pub fn overfills(
+        &mut self,
+        alloc: Global,
+        client: usize,
+        filters: &[Filter],
+        most: usize,
+    ) -> Result<bool, StateError>
+        ensures ok { IfOk result (λ o. o ≡ overfills most client filters.now self.old) }
+        ensures memory { IfErr result (λ e. e ≡ StateError.OutOfMemory) }
+        // In each case nothing changes.
+        ensures same { self.new ≡ self.old }
+    {
+        deliver_all(alloc, &mut self.coming, &mut self.clients, &mut self.noted)?;
+        if client >= self.clients.len() {
+            return Ok(brings_more(self.retained.as_slice(), &[], filters, most));
+        }
+        Ok(self.clients[client].overfills(self.retained.as_slice(), filters, most))
+    }
+
     /// One more client comes to be known, which isn't connected: its number. `limit` is the greatest packet identifier that the
     /// broker uses to it (2.2.1). S12, which leaves all as it was.
     pub fn join(&mut self, alloc: Global, limit: NonZeroU16) -> Result<usize, StateError>
@@ -105,7 +133,7 @@ impl Sessions {
         ensures memory { IfErr result (λ e. e ≡ StateError.OutOfMemory) }
         ensures left { OnErr result (self.new ≡ self.old) }
     {
-        deliver_all(alloc, &mut self.coming, &mut self.clients)?;
+        deliver_all(alloc, &mut self.coming, &mut self.clients, &mut self.noted)?;
         let client = ClientState::new(alloc, limit)?;
         let number = self.clients.len();
         self.clients.push(client)?;
@@ -126,7 +154,7 @@ impl Sessions {
         ensures memory { IfErr result (λ e. e ≡ StateError.OutOfMemory) }
         ensures left { OnErr result (self.new ≡ self.old) }
     {
-        deliver_all(alloc, &mut self.coming, &mut self.clients)?;
+        deliver_all(alloc, &mut self.coming, &mut self.clients, &mut self.noted)?;
         if client >= self.clients.len() {
             return Ok(None);
         }
@@ -165,12 +193,25 @@ impl Sessions {
         ensures memory { IfErr result (λ e. e ≡ StateError.OutOfMemory) }
         ensures left { OnErr result (self.new ≡ self.old) }
     {
-        deliver_all(alloc, &mut self.coming, &mut self.clients)?;
+        deliver_all(alloc, &mut self.coming, &mut self.clients, &mut self.noted)?;
         if client >= self.clients.len() {
             return Ok(None);
         }
         let sent = self.clients[client].pass()?;
         Ok(sent)
+    }
+
+    /// The first client, from a number on, that is connected and has something in its queue, if there is one: to no other is anything
+    /// passed on (`waiting_law`). S12.
+    pub fn next_waiting(&mut self, alloc: Global, from: usize) -> Result<Option<usize>, StateError>
+        ensures next { IfOk result (λ client. IsNextWaiting from client self.old) }
+        ensures memory { IfErr result (λ e. e ≡ StateError.OutOfMemory) }
+        // In each case nothing changes.
+        ensures same { self.new ≡ self.old }
+    {
+        deliver_all(alloc, &mut self.coming, &mut self.clients, &mut self.noted)?;
+        let next = next_waiting(&mut self.noted, from, self.clients.as_slice());
+        Ok(next)
     }
 
     /// The Message Expiry Interval of the first publish of a client's queue, as it came, if there is one and it has one
@@ -185,7 +226,7 @@ impl Sessions {
         // In each case nothing changes.
         ensures same { self.new ≡ self.old }
     {
-        deliver_all(alloc, &mut self.coming, &mut self.clients)?;
+        deliver_all(alloc, &mut self.coming, &mut self.clients, &mut self.noted)?;
         if client >= self.clients.len() {
             return Ok(None);
         }
@@ -199,7 +240,7 @@ impl Sessions {
         ensures memory { IfErr result (λ e. e ≡ StateError.OutOfMemory) }
         ensures left { OnErr result (self.new ≡ self.old) }
     {
-        deliver_all(alloc, &mut self.coming, &mut self.clients)?;
+        deliver_all(alloc, &mut self.coming, &mut self.clients, &mut self.noted)?;
         if client >= self.clients.len() {
             return Ok(());
         }
@@ -222,7 +263,7 @@ impl Sessions {
         ensures memory { IfErr result (λ e. e ≡ StateError.OutOfMemory) }
         ensures left { OnErr result (self.new ≡ self.old) }
     {
-        deliver_all(alloc, &mut self.coming, &mut self.clients)?;
+        deliver_all(alloc, &mut self.coming, &mut self.clients, &mut self.noted)?;
         if client >= self.clients.len() {
             return Ok(0);
         }
@@ -237,7 +278,7 @@ impl Sessions {
         ensures memory { IfErr result (λ e. e ≡ StateError.OutOfMemory) }
         ensures left { OnErr result (self.new ≡ self.old) }
     {
-        deliver_all(alloc, &mut self.coming, &mut self.clients)?;
+        deliver_all(alloc, &mut self.coming, &mut self.clients, &mut self.noted)?;
         if client >= self.clients.len() {
             return Ok(());
         }
@@ -255,7 +296,7 @@ impl Sessions {
         ensures memory { IfErr result (λ e. e ≡ StateError.OutOfMemory) }
         ensures left { OnErr result (self.new ≡ self.old) }
     {
-        deliver_all(alloc, &mut self.coming, &mut self.clients)?;
+        deliver_all(alloc, &mut self.coming, &mut self.clients, &mut self.noted)?;
         if client >= self.clients.len() {
             return Ok(());
         }
@@ -325,7 +366,7 @@ impl Sessions {
         ensures memory { IfErr result (λ e. e ≡ StateError.OutOfMemory) }
         ensures left { OnErr result (self.new ≡ self.old) }
     {
-        deliver_all(alloc, &mut self.coming, &mut self.clients)?;
+        deliver_all(alloc, &mut self.coming, &mut self.clients, &mut self.noted)?;
         if client >= self.clients.len() {
             return Ok(());
         }
@@ -347,12 +388,13 @@ impl Sessions {
         ensures sent { IfOk result (λ way. way.items ≡ sent_again client receive_max self.old) }
         ensures memory { IfErr result (λ e. e ≡ StateError.OutOfMemory) }
     {
-        deliver_all(alloc, &mut self.coming, &mut self.clients)?;
+        deliver_all(alloc, &mut self.coming, &mut self.clients, &mut self.noted)?;
         if client >= self.clients.len() {
             return Ok(VecDeque::new(alloc));
         }
         let made = of_will(alloc, client, self.clients.as_slice(), &self.index)?;
         self.retained.reserve(1)?;
+        note(&mut self.noted, client)?;
         let (way, handed) = self.clients[client].come(alloc, receive_max, will)?;
         hand_on(handed, made, &mut self.coming, &mut self.retained);
         Ok(way)
@@ -365,7 +407,7 @@ impl Sessions {
         ensures memory { IfErr result (λ e. e ≡ StateError.OutOfMemory) }
         ensures left { OnErr result (self.new ≡ self.old) }
     {
-        deliver_all(alloc, &mut self.coming, &mut self.clients)?;
+        deliver_all(alloc, &mut self.coming, &mut self.clients, &mut self.noted)?;
         if client >= self.clients.len() {
             return Ok(());
         }

@@ -7,7 +7,7 @@ use Rattle.mqtt5_sessions.specs.Sessions.{ClientState, gets, arrives, replies}
 use Rattle.mqtt5_sessions.specs.Coming.{coming_for}
 use Rattle.mqtt5_sessions.proofs.Delivered.{settled, seen_past, seen_publish, seen_other, sent_to, sent_past}
 use Rattle.mqtt5_sessions.specs.Indexed.{IsIndexed}
-use Rattle.mqtt5_sessions.proofs.Indexed.{indexed_delivered, indexed_set}
+use Rattle.mqtt5_sessions.proofs.Noted.{followed_set}
 use Rattle.mqtt5_sessions.proofs.sessions.Sessions.arrive.Goals as goal
 
 pub returns-then-client-len-clause-ok : goal.returns-then-client-len-clause-ok
@@ -86,34 +86,34 @@ returns-clause-reply c =
     ∙ ap (λ s. replies i c.args.packet s) seen
 
 pub invariant_of-self : goal.invariant_of-self
-invariant_of-self c = indexed_delivered c.self.inside.index c.self.inside.clients.items c.self.invariant c.self.inside.coming.items c.deliver_all.new.coming.items c.deliver_all.new.clients.items c.deliver_all.ensures.same
+invariant_of-self c = c.deliver_all.ensures.followed c.self.inside.index c.self.invariant
 
 pub invariant_of-self-then-client-len : goal.invariant_of-self-then-client-len
-invariant_of-self-then-client-len c = indexed_delivered c.self.inside.index c.self.inside.clients.items c.self.invariant c.self.inside.coming.items c.deliver_all.new.coming.items c.deliver_all.new.clients.items c.deliver_all.ensures.same
+invariant_of-self-then-client-len c = c.deliver_all.ensures.followed c.self.inside.index c.self.invariant
 
 pub of_packet-requires-clause-indexed : goal.of_packet-requires-clause-indexed
-of_packet-requires-clause-indexed c = subst (IsIndexed c.self.inside.index) (sym c.as_slice.ensures.value) (indexed_delivered c.self.inside.index c.self.inside.clients.items c.self.invariant c.self.inside.coming.items c.deliver_all.new.coming.items c.deliver_all.new.clients.items c.deliver_all.ensures.same)
+of_packet-requires-clause-indexed c = subst (IsIndexed c.self.inside.index) (sym c.as_slice.ensures.value) (c.deliver_all.ensures.followed c.self.inside.index c.self.invariant).0
 
 pub invariant_of-self-in_err-made : goal.invariant_of-self-in_err-made
-invariant_of-self-in_err-made c = indexed_delivered c.self.inside.index c.self.inside.clients.items c.self.invariant c.self.inside.coming.items c.deliver_all.new.coming.items c.deliver_all.new.clients.items c.deliver_all.ensures.same
+invariant_of-self-in_err-made c = c.deliver_all.ensures.followed c.self.inside.index c.self.invariant
 
 pub invariant_of-self-in_err-reserve : goal.invariant_of-self-in_err-reserve
-invariant_of-self-in_err-reserve c = indexed_delivered c.self.inside.index c.self.inside.clients.items c.self.invariant c.self.inside.coming.items c.deliver_all.new.coming.items c.deliver_all.new.clients.items c.deliver_all.ensures.same
+invariant_of-self-in_err-reserve c = c.deliver_all.ensures.followed c.self.inside.index c.self.invariant
 
 pub invariant_of-self-in_err-arrived : goal.invariant_of-self-in_err-arrived
 invariant_of-self-in_err-arrived c =
-    let indexed = indexed_delivered c.self.inside.index c.self.inside.clients.items c.self.invariant c.self.inside.coming.items c.deliver_all.new.coming.items c.deliver_all.new.clients.items c.deliver_all.ensures.same in
-    indexed_set c.self.inside.index c.deliver_all.new.clients.items indexed c.args.client c.index_mut.result.now c.arrive.new.client (omega (arith, c.if-client-len.false, c.len.ensures)) c.index_mut.ensures.value
-    c.arrive.new.index c.arrive.ensures.others c.arrive.ensures.own
+    let followed = c.deliver_all.ensures.followed c.self.inside.index c.self.invariant in
+    followed_set c.self.inside.index c.deliver_all.new.noted c.deliver_all.new.clients.items followed c.args.client c.index_mut.result.now c.arrive.new.client (omega (arith, c.if-client-len.false, c.len.ensures)) c.index_mut.ensures.value
+    c.arrive.new.index c.arrive.ensures.others c.arrive.ensures.own (λ h. sym c.arrive.ensures.waits ∙ h)
 
 pub invariant_of-self-then-publishes : goal.invariant_of-self-then-publishes
 invariant_of-self-then-publishes c =
-    let indexed = indexed_delivered c.self.inside.index c.self.inside.clients.items c.self.invariant c.self.inside.coming.items c.deliver_all.new.coming.items c.deliver_all.new.clients.items c.deliver_all.ensures.same in
-    indexed_set c.self.inside.index c.deliver_all.new.clients.items indexed c.args.client c.index_mut.result.now c.arrive.new.client (omega (arith, c.if-client-len.false, c.len.ensures)) c.index_mut.ensures.value
-    c.arrive.new.index c.arrive.ensures.others c.arrive.ensures.own
+    let followed = c.deliver_all.ensures.followed c.self.inside.index c.self.invariant in
+    followed_set c.self.inside.index c.deliver_all.new.noted c.deliver_all.new.clients.items followed c.args.client c.index_mut.result.now c.arrive.new.client (omega (arith, c.if-client-len.false, c.len.ensures)) c.index_mut.ensures.value
+    c.arrive.new.index c.arrive.ensures.others c.arrive.ensures.own (λ h. sym c.arrive.ensures.waits ∙ h)
 
 pub invariant_of-self-2 : goal.invariant_of-self-2
 invariant_of-self-2 c =
-    let indexed = indexed_delivered c.self.inside.index c.self.inside.clients.items c.self.invariant c.self.inside.coming.items c.deliver_all.new.coming.items c.deliver_all.new.clients.items c.deliver_all.ensures.same in
-    indexed_set c.self.inside.index c.deliver_all.new.clients.items indexed c.args.client c.index_mut.result.now c.arrive.new.client (omega (arith, c.if-client-len.false, c.len.ensures)) c.index_mut.ensures.value
-    c.arrive.new.index c.arrive.ensures.others c.arrive.ensures.own
+    let followed = c.deliver_all.ensures.followed c.self.inside.index c.self.invariant in
+    followed_set c.self.inside.index c.deliver_all.new.noted c.deliver_all.new.clients.items followed c.args.client c.index_mut.result.now c.arrive.new.client (omega (arith, c.if-client-len.false, c.len.ensures)) c.index_mut.ensures.value
+    c.arrive.new.index c.arrive.ensures.others c.arrive.ensures.own (λ h. sym c.arrive.ensures.waits ∙ h)

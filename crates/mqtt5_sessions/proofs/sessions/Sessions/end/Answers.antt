@@ -1,4 +1,4 @@
-use Rattle.std.proofs.Common.{◌<◌, length, List, [], false, refl, sym, ap, ◌∙◌, arith, subst}
+use Rattle.std.proofs.Common.{◌≡◌, ◌<◌, length, List, [], false, refl, sym, ap, ◌∙◌, arith, subst}
 use Rattle.std.specs.Option.{option_to_list}
 use Rattle.std.specs.Prelude.{None}
 use Rattle.std.proofs.Math.ListN.{set}
@@ -11,7 +11,10 @@ use Rattle.mqtt5_sessions.specs.Coming.{delivered, coming_of_will}
 use Rattle.mqtt5_sessions.proofs.Delivered.{settled, seen_past, seen_will, seen_renewed, set_below, at_set, at_same, set_again}
 use Rattle.mqtt5_network.specs.declared.subscription.Subscription.{Subscription}
 use Rattle.mqtt5_sessions.specs.Indexed.{IsIndexed}
-use Rattle.mqtt5_sessions.proofs.Indexed.{indexed_delivered, indexed_none}
+use Rattle.mqtt5_sessions.specs.Waiting.{waits}
+use Rattle.mqtt5_sessions.specs.Followed.{IsFollowed}
+use Rattle.mqtt5_sessions.proofs.Indexed.{indexed_none}
+use Rattle.mqtt5_sessions.proofs.Noted.{followed_none, nothing_waits}
 use Rattle.mqtt5_sessions.proofs.sessions.Sessions.end.Goals as goal
 
 -- its session is renewed, and then it is away without a will
@@ -77,16 +80,16 @@ returns-in-Err-clause-left c =
     (λ j. record { clients = delivered (none j) (again j); retained = c.reserve.ensures.items j }) ∙ seen
 
 pub invariant_of-self : goal.invariant_of-self
-invariant_of-self c = indexed_delivered c.self.inside.index c.self.inside.clients.items c.self.invariant c.self.inside.coming.items c.deliver_all.new.coming.items c.deliver_all.new.clients.items c.deliver_all.ensures.same
+invariant_of-self c = c.deliver_all.ensures.followed c.self.inside.index c.self.invariant
 
 pub invariant_of-self-then-client-len : goal.invariant_of-self-then-client-len
-invariant_of-self-then-client-len c = indexed_delivered c.self.inside.index c.self.inside.clients.items c.self.invariant c.self.inside.coming.items c.deliver_all.new.coming.items c.deliver_all.new.clients.items c.deliver_all.ensures.same
+invariant_of-self-then-client-len c = c.deliver_all.ensures.followed c.self.inside.index c.self.invariant
 
 pub invariant_of-self-in_err-reserve : goal.invariant_of-self-in_err-reserve
-invariant_of-self-in_err-reserve c = indexed_delivered c.self.inside.index c.self.inside.clients.items c.self.invariant c.self.inside.coming.items c.deliver_all.new.coming.items c.deliver_all.new.clients.items c.deliver_all.ensures.same
+invariant_of-self-in_err-reserve c = c.deliver_all.ensures.followed c.self.inside.index c.self.invariant
 
 pub invariant_of-self-in_err-renewed : goal.invariant_of-self-in_err-renewed
-invariant_of-self-in_err-renewed c = indexed_delivered c.self.inside.index c.self.inside.clients.items c.self.invariant c.self.inside.coming.items c.deliver_all.new.coming.items c.deliver_all.new.clients.items c.deliver_all.ensures.same
+invariant_of-self-in_err-renewed c = c.deliver_all.ensures.followed c.self.inside.index c.self.invariant
 
 abbrev subscriptions : ClientState → List Subscription
 subscriptions x = x.kept.subscriptions
@@ -96,34 +99,39 @@ of_will-requires-clause-indexed c =
     let i = c.args.client in
     let cs : List ClientState = c.deliver_all.new.clients.items in
     let x = c.self.inside.index in
-    let indexed = indexed_delivered c.self.inside.index c.self.inside.clients.items c.self.invariant c.self.inside.coming.items c.deliver_all.new.coming.items c.deliver_all.new.clients.items c.deliver_all.ensures.same in
+    let followed = c.deliver_all.ensures.followed c.self.inside.index c.self.invariant in
     let below : i < length cs = omega (arith, c.if-client-len.false, c.len.ensures) in
     let x0 : ClientState = c.index_mut.result.now in
     let d : ClientState = c.swap-kept.new.self in
     let none = ap subscriptions c.swap-kept.ensures.now ∙ ap (λ (k : Kept). k.subscriptions) c.in_ok-renewed.ensures.ok in
-    let indexed' : IsIndexed x (set cs i d) = indexed_none x cs indexed i x0 d below c.index_mut.ensures.value none x (λ m n other there. there) in
-    subst (IsIndexed x) (sym c.as_slice.ensures.value) indexed'
+    let indexed : IsIndexed x (set cs i d) = indexed_none x cs followed.0 i x0 d below c.index_mut.ensures.value none x (λ m n other there. there) in
+    subst (IsIndexed x) (sym c.as_slice.ensures.value) indexed
+
+abbrev queue : ClientState → List Publish
+queue x = x.kept.queue
 
 pub invariant_of-self-in-Ok : goal.invariant_of-self-in-Ok
 invariant_of-self-in-Ok c =
     let i = c.args.client in
     let cs : List ClientState = c.deliver_all.new.clients.items in
     let x = c.self.inside.index in
-    let indexed = indexed_delivered c.self.inside.index c.self.inside.clients.items c.self.invariant c.self.inside.coming.items c.deliver_all.new.coming.items c.deliver_all.new.clients.items c.deliver_all.ensures.same in
+    let w = c.deliver_all.new.noted in
+    let followed = c.deliver_all.ensures.followed c.self.inside.index c.self.invariant in
     let below : i < length cs = omega (arith, c.if-client-len.false, c.len.ensures) in
     let x0 : ClientState = c.index_mut.result.now in
     let d : ClientState = c.swap-kept.new.self in
     let none = ap subscriptions c.swap-kept.ensures.now ∙ ap (λ (k : Kept). k.subscriptions) c.in_ok-renewed.ensures.ok in
-    let indexed' : IsIndexed x (set cs i d) = indexed_none x cs indexed i x0 d below c.index_mut.ensures.value none x (λ m n other there. there) in
+    let isnt : waits d ≡ false = nothing_waits d (ap queue c.swap-kept.ensures.now ∙ ap (λ (k : Kept). k.queue) c.in_ok-renewed.ensures.ok) in
+    let after : IsFollowed x w (set cs i d) = followed_none x w cs followed i x0 d below c.index_mut.ensures.value none isnt x (λ m n other there. there) in
     let y : ClientState = c.index_mut-in-Ok.result.now in
     let none' = ap subscriptions c.end-handed.ensures.left ∙ ap subscriptions (c.index_mut-in-Ok.ensures.value ∙ at_set i cs d y below) ∙ none in
-    indexed_none x (set cs i d) indexed' i y c.end-handed.new.self (set_below i cs x0 d below) c.index_mut-in-Ok.ensures.value none' c.leave.new.index c.leave.ensures.others
+    followed_none x w (set cs i d) after i y c.end-handed.new.self (set_below i cs x0 d below) c.index_mut-in-Ok.ensures.value none' (ap waits c.end-handed.ensures.left) c.leave.new.index c.leave.ensures.others
 
 pub invariant_of-self-in-Err : goal.invariant_of-self-in-Err
 invariant_of-self-in-Err c =
     let i = c.args.client in
     let cs : List ClientState = c.deliver_all.new.clients.items in
-    let indexed = indexed_delivered c.self.inside.index c.self.inside.clients.items c.self.invariant c.self.inside.coming.items c.deliver_all.new.coming.items c.deliver_all.new.clients.items c.deliver_all.ensures.same in
+    let followed = c.deliver_all.ensures.followed c.self.inside.index c.self.invariant in
     let below : i < length cs = omega (arith, c.if-client-len.false, c.len.ensures) in
     let x : ClientState = c.index_mut.result.now in
     let d : ClientState = c.swap-kept.new.self in
@@ -133,4 +141,4 @@ invariant_of-self-in-Err c =
     ∙ ap (λ (y : ClientState). record y { kept = c.swap-kept.result }) (c.index_mut-in-Err.ensures.value ∙ at_set i cs d y below ∙ c.swap-kept.ensures.now)
     ∙ ap (λ k. record x { kept = k }) c.swap-kept.ensures.before in
     let again = set_again i cs x d c.swap.new.self below c.index_mut.ensures.value back in
-    subst (IsIndexed c.self.inside.index) (sym again) indexed
+    subst (IsFollowed c.self.inside.index c.deliver_all.new.noted) (sym again) followed

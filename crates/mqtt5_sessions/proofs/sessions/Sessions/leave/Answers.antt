@@ -3,7 +3,8 @@ use Rattle.mqtt5_publish.specs.declared.publish.Publish.{Publish}
 use Rattle.mqtt5_network.specs.Place.{left_will}
 use Rattle.mqtt5_sessions.specs.Sessions.{ClientState, leaves}
 use Rattle.mqtt5_sessions.proofs.Delivered.{settled, seen_past, seen_none}
-use Rattle.mqtt5_sessions.proofs.Indexed.{indexed_delivered, indexed_kept}
+use Rattle.mqtt5_sessions.specs.Waiting.{waits}
+use Rattle.mqtt5_sessions.proofs.Noted.{followed_kept, away_waits}
 use Rattle.mqtt5_sessions.proofs.sessions.Sessions.leave.Goals as goal
 
 abbrev changed : ClientState → ClientState
@@ -30,13 +31,13 @@ returns-clause-ok c =
     ∙ ap (λ s. leaves i s) seen
 
 pub invariant_of-self : goal.invariant_of-self
-invariant_of-self c = indexed_delivered c.self.inside.index c.self.inside.clients.items c.self.invariant c.self.inside.coming.items c.deliver_all.new.coming.items c.deliver_all.new.clients.items c.deliver_all.ensures.same
+invariant_of-self c = c.deliver_all.ensures.followed c.self.inside.index c.self.invariant
 
 pub invariant_of-self-then-client-len : goal.invariant_of-self-then-client-len
-invariant_of-self-then-client-len c = indexed_delivered c.self.inside.index c.self.inside.clients.items c.self.invariant c.self.inside.coming.items c.deliver_all.new.coming.items c.deliver_all.new.clients.items c.deliver_all.ensures.same
+invariant_of-self-then-client-len c = c.deliver_all.ensures.followed c.self.inside.index c.self.invariant
 
 pub invariant_of-self-2 : goal.invariant_of-self-2
 invariant_of-self-2 c =
-    let indexed = indexed_delivered c.self.inside.index c.self.inside.clients.items c.self.invariant c.self.inside.coming.items c.deliver_all.new.coming.items c.deliver_all.new.clients.items c.deliver_all.ensures.same in
-    indexed_kept c.self.inside.index c.deliver_all.new.clients.items indexed c.args.client c.index_mut.result.now c.leave.new.self (omega (arith, c.if-client-len.false, c.len.ensures)) c.index_mut.ensures.value
-    (ap (λ (x : ClientState). x.kept.subscriptions) c.leave.ensures)
+    let followed = c.deliver_all.ensures.followed c.self.inside.index c.self.invariant in
+    followed_kept c.self.inside.index c.deliver_all.new.noted c.deliver_all.new.clients.items followed c.args.client c.index_mut.result.now c.leave.new.self (omega (arith, c.if-client-len.false, c.len.ensures)) c.index_mut.ensures.value
+    (ap (λ (x : ClientState). x.kept.subscriptions) c.leave.ensures) (away_waits c.index_mut.result.now c.leave.new.self (ap waits c.leave.ensures))

@@ -7,7 +7,8 @@ use Rattle.mqtt5_sessions.specs.Sessions.{ClientState, of_client, loses}
 use Rattle.mqtt5_sessions.specs.Coming.{coming_of_will}
 use Rattle.mqtt5_sessions.proofs.Delivered.{settled, seen_past, seen_will, lost_of}
 use Rattle.mqtt5_sessions.specs.Indexed.{IsIndexed}
-use Rattle.mqtt5_sessions.proofs.Indexed.{indexed_delivered, indexed_kept}
+use Rattle.mqtt5_sessions.specs.Waiting.{waits}
+use Rattle.mqtt5_sessions.proofs.Noted.{followed_kept, away_waits}
 use Rattle.mqtt5_sessions.proofs.sessions.Sessions.lose.Goals as goal
 
 pub returns-then-client-len-clause-ok : goal.returns-then-client-len-clause-ok
@@ -36,22 +37,22 @@ returns-clause-ok c =
     ∙ ap (λ s. loses i s) seen
 
 pub invariant_of-self : goal.invariant_of-self
-invariant_of-self c = indexed_delivered c.self.inside.index c.self.inside.clients.items c.self.invariant c.self.inside.coming.items c.deliver_all.new.coming.items c.deliver_all.new.clients.items c.deliver_all.ensures.same
+invariant_of-self c = c.deliver_all.ensures.followed c.self.inside.index c.self.invariant
 
 pub invariant_of-self-then-client-len : goal.invariant_of-self-then-client-len
-invariant_of-self-then-client-len c = indexed_delivered c.self.inside.index c.self.inside.clients.items c.self.invariant c.self.inside.coming.items c.deliver_all.new.coming.items c.deliver_all.new.clients.items c.deliver_all.ensures.same
+invariant_of-self-then-client-len c = c.deliver_all.ensures.followed c.self.inside.index c.self.invariant
 
 pub of_will-requires-clause-indexed : goal.of_will-requires-clause-indexed
-of_will-requires-clause-indexed c = subst (IsIndexed c.self.inside.index) (sym c.as_slice.ensures.value) (indexed_delivered c.self.inside.index c.self.inside.clients.items c.self.invariant c.self.inside.coming.items c.deliver_all.new.coming.items c.deliver_all.new.clients.items c.deliver_all.ensures.same)
+of_will-requires-clause-indexed c = subst (IsIndexed c.self.inside.index) (sym c.as_slice.ensures.value) (c.deliver_all.ensures.followed c.self.inside.index c.self.invariant).0
 
 pub invariant_of-self-in_err-made : goal.invariant_of-self-in_err-made
-invariant_of-self-in_err-made c = indexed_delivered c.self.inside.index c.self.inside.clients.items c.self.invariant c.self.inside.coming.items c.deliver_all.new.coming.items c.deliver_all.new.clients.items c.deliver_all.ensures.same
+invariant_of-self-in_err-made c = c.deliver_all.ensures.followed c.self.inside.index c.self.invariant
 
 pub invariant_of-self-in_err-reserve : goal.invariant_of-self-in_err-reserve
-invariant_of-self-in_err-reserve c = indexed_delivered c.self.inside.index c.self.inside.clients.items c.self.invariant c.self.inside.coming.items c.deliver_all.new.coming.items c.deliver_all.new.clients.items c.deliver_all.ensures.same
+invariant_of-self-in_err-reserve c = c.deliver_all.ensures.followed c.self.inside.index c.self.invariant
 
 pub invariant_of-self-2 : goal.invariant_of-self-2
 invariant_of-self-2 c =
-    let indexed = indexed_delivered c.self.inside.index c.self.inside.clients.items c.self.invariant c.self.inside.coming.items c.deliver_all.new.coming.items c.deliver_all.new.clients.items c.deliver_all.ensures.same in
-    indexed_kept c.self.inside.index c.deliver_all.new.clients.items indexed c.args.client c.index_mut.result.now c.lose-handed.new.self (omega (arith, c.if-client-len.false, c.len.ensures)) c.index_mut.ensures.value
-    (ap (λ (x : ClientState). x.kept.subscriptions) c.lose-handed.ensures.left)
+    let followed = c.deliver_all.ensures.followed c.self.inside.index c.self.invariant in
+    followed_kept c.self.inside.index c.deliver_all.new.noted c.deliver_all.new.clients.items followed c.args.client c.index_mut.result.now c.lose-handed.new.self (omega (arith, c.if-client-len.false, c.len.ensures)) c.index_mut.ensures.value
+    (ap (λ (x : ClientState). x.kept.subscriptions) c.lose-handed.ensures.left) (away_waits c.index_mut.result.now c.lose-handed.new.self (ap waits c.lose-handed.ensures.left))

@@ -1,8 +1,10 @@
-use Rattle.std.proofs.Common.{List, [], refl, ap, ◌∙◌, arith}
+use Rattle.std.proofs.Common.{List, [], refl, ap, ◌∙◌, arith, sym}
 use Rattle.mqtt5_publish.specs.declared.publish.Publish.{Publish}
 use Rattle.mqtt5_sessions.specs.Sessions.{ClientState, passes, passes_here, sent_here, passed}
 use Rattle.mqtt5_sessions.proofs.Delivered.{settled, seen_past, seen_none, sent_to, sent_past}
-use Rattle.mqtt5_sessions.proofs.Indexed.{indexed_delivered, indexed_kept, passed_marks}
+use Rattle.mqtt5_sessions.specs.Waiting.{waits}
+use Rattle.mqtt5_sessions.proofs.Indexed.{passed_marks}
+use Rattle.mqtt5_sessions.proofs.Noted.{followed_kept, passed_waits}
 use Rattle.mqtt5_sessions.proofs.sessions.Sessions.pass.Goals as goal
 
 abbrev changed : ClientState → ClientState
@@ -49,19 +51,20 @@ returns-clause-sent c =
     ∙ ap (λ s. passed i s) seen
 
 pub invariant_of-self : goal.invariant_of-self
-invariant_of-self c = indexed_delivered c.self.inside.index c.self.inside.clients.items c.self.invariant c.self.inside.coming.items c.deliver_all.new.coming.items c.deliver_all.new.clients.items c.deliver_all.ensures.same
+invariant_of-self c = c.deliver_all.ensures.followed c.self.inside.index c.self.invariant
 
 pub invariant_of-self-then-client-len : goal.invariant_of-self-then-client-len
-invariant_of-self-then-client-len c = indexed_delivered c.self.inside.index c.self.inside.clients.items c.self.invariant c.self.inside.coming.items c.deliver_all.new.coming.items c.deliver_all.new.clients.items c.deliver_all.ensures.same
+invariant_of-self-then-client-len c = c.deliver_all.ensures.followed c.self.inside.index c.self.invariant
 
 pub invariant_of-self-in_err-sent : goal.invariant_of-self-in_err-sent
 invariant_of-self-in_err-sent c =
-    let indexed = indexed_delivered c.self.inside.index c.self.inside.clients.items c.self.invariant c.self.inside.coming.items c.deliver_all.new.coming.items c.deliver_all.new.clients.items c.deliver_all.ensures.same in
-    indexed_kept c.self.inside.index c.deliver_all.new.clients.items indexed c.args.client c.index_mut.result.now c.pass.new.self (omega (arith, c.if-client-len.false, c.len.ensures)) c.index_mut.ensures.value
-    (ap (λ (x : ClientState). x.kept.subscriptions) c.in_err-sent.ensures.left)
+    let followed = c.deliver_all.ensures.followed c.self.inside.index c.self.invariant in
+    followed_kept c.self.inside.index c.deliver_all.new.noted c.deliver_all.new.clients.items followed c.args.client c.index_mut.result.now c.pass.new.self (omega (arith, c.if-client-len.false, c.len.ensures)) c.index_mut.ensures.value
+    (ap (λ (x : ClientState). x.kept.subscriptions) c.in_err-sent.ensures.left) (λ h. sym (ap waits c.in_err-sent.ensures.left) ∙ h)
 
 pub invariant_of-self-2 : goal.invariant_of-self-2
 invariant_of-self-2 c =
-    let indexed = indexed_delivered c.self.inside.index c.self.inside.clients.items c.self.invariant c.self.inside.coming.items c.deliver_all.new.coming.items c.deliver_all.new.clients.items c.deliver_all.ensures.same in
-    indexed_kept c.self.inside.index c.deliver_all.new.clients.items indexed c.args.client c.index_mut.result.now c.pass.new.self (omega (arith, c.if-client-len.false, c.len.ensures)) c.index_mut.ensures.value
+    let followed = c.deliver_all.ensures.followed c.self.inside.index c.self.invariant in
+    followed_kept c.self.inside.index c.deliver_all.new.noted c.deliver_all.new.clients.items followed c.args.client c.index_mut.result.now c.pass.new.self (omega (arith, c.if-client-len.false, c.len.ensures)) c.index_mut.ensures.value
     (ap (λ (x : ClientState). x.kept.subscriptions) c.in_ok-sent.ensures.kept ∙ passed_marks c.index_mut.result.now.here c.index_mut.result.now.kept)
+    (λ h. passed_waits c.index_mut.result.now (sym (ap waits c.in_ok-sent.ensures.kept) ∙ h))

@@ -1,9 +1,11 @@
-use Rattle.std.proofs.Common.{List, arith, ap, ◌∙◌}
+use Rattle.std.proofs.Common.{List, arith, ap, ◌∙◌, sym}
 use Rattle.mqtt5_publish.specs.declared.publish.Publish.{Publish}
 use Rattle.mqtt5_sessions.specs.Sessions.{ClientState}
 use Rattle.mqtt5_sessions.proofs.Delivered.{settled}
 use Rattle.mqtt5_sessions.proofs.Shedding.{none_shed, sheds_past, some_shed, sheds_of}
-use Rattle.mqtt5_sessions.proofs.Indexed.{indexed_delivered, indexed_kept, shed_marks}
+use Rattle.mqtt5_sessions.specs.Waiting.{waits}
+use Rattle.mqtt5_sessions.proofs.Indexed.{shed_marks}
+use Rattle.mqtt5_sessions.proofs.Noted.{followed_kept, shed_waits}
 use Rattle.mqtt5_sessions.proofs.sessions.Sessions.shed.Goals as goal
 
 pub returns-then-client-len-clause-ok : goal.returns-then-client-len-clause-ok
@@ -41,13 +43,14 @@ returns-clause-count c =
     (omega (arith, c.if-client-len.false, c.len.ensures)) c.index_mut.ensures.value c.shed-count.ensures.count
 
 pub invariant_of-self : goal.invariant_of-self
-invariant_of-self c = indexed_delivered c.self.inside.index c.self.inside.clients.items c.self.invariant c.self.inside.coming.items c.deliver_all.new.coming.items c.deliver_all.new.clients.items c.deliver_all.ensures.same
+invariant_of-self c = c.deliver_all.ensures.followed c.self.inside.index c.self.invariant
 
 pub invariant_of-self-then-client-len : goal.invariant_of-self-then-client-len
-invariant_of-self-then-client-len c = indexed_delivered c.self.inside.index c.self.inside.clients.items c.self.invariant c.self.inside.coming.items c.deliver_all.new.coming.items c.deliver_all.new.clients.items c.deliver_all.ensures.same
+invariant_of-self-then-client-len c = c.deliver_all.ensures.followed c.self.inside.index c.self.invariant
 
 pub invariant_of-self-2 : goal.invariant_of-self-2
 invariant_of-self-2 c =
-    let indexed = indexed_delivered c.self.inside.index c.self.inside.clients.items c.self.invariant c.self.inside.coming.items c.deliver_all.new.coming.items c.deliver_all.new.clients.items c.deliver_all.ensures.same in
-    indexed_kept c.self.inside.index c.deliver_all.new.clients.items indexed c.args.client c.index_mut.result.now c.shed-count.new.self (omega (arith, c.if-client-len.false, c.len.ensures)) c.index_mut.ensures.value
+    let followed = c.deliver_all.ensures.followed c.self.inside.index c.self.invariant in
+    followed_kept c.self.inside.index c.deliver_all.new.noted c.deliver_all.new.clients.items followed c.args.client c.index_mut.result.now c.shed-count.new.self (omega (arith, c.if-client-len.false, c.len.ensures)) c.index_mut.ensures.value
     (ap (λ (x : ClientState). x.kept.subscriptions) c.shed-count.ensures.now ∙ shed_marks c.shed-count.result c.index_mut.result.now)
+    (λ h. shed_waits c.shed-count.result c.index_mut.result.now (sym (ap waits c.shed-count.ensures.now) ∙ h))

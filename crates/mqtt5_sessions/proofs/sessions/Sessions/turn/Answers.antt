@@ -1,9 +1,11 @@
-use Rattle.std.proofs.Common.{List, refl, arith, ap, ◌∙◌}
+use Rattle.std.proofs.Common.{List, refl, arith, ap, ◌∙◌, sym}
 use Rattle.mqtt5_publish.specs.declared.publish.Publish.{Publish}
 use Rattle.mqtt5_sessions.specs.Sessions.{ClientState, with_turn_of}
 use Rattle.mqtt5_sessions.proofs.Delivered.{seen_changed, seen_unchanged}
 use Rattle.mqtt5_sessions.specs.Indexed.{marks_in}
-use Rattle.mqtt5_sessions.proofs.Indexed.{indexed_marks, turned_marks}
+use Rattle.mqtt5_sessions.specs.Waiting.{waits}
+use Rattle.mqtt5_sessions.proofs.Indexed.{turned_marks}
+use Rattle.mqtt5_sessions.proofs.Noted.{followed_marks}
 use Rattle.mqtt5_sessions.proofs.sessions.Sessions.turn.Goals as goal
 
 pub returns-then-client-len : goal.returns-then-client-len
@@ -21,5 +23,6 @@ returns c =
 
 pub invariant_of-self : goal.invariant_of-self
 invariant_of-self c =
-    indexed_marks c.self.inside.index c.self.inside.clients.items c.self.invariant c.args.client c.index_mut.result.now c.turn.new.self (omega (arith, c.if-client-len.false, c.len.ensures)) c.index_mut.ensures.value
+    followed_marks c.self.inside.index c.self.inside.noted c.self.inside.clients.items c.self.invariant c.args.client c.index_mut.result.now c.turn.new.self (omega (arith, c.if-client-len.false, c.len.ensures)) c.index_mut.ensures.value
     (ap (λ (x : ClientState). marks_in x.kept.subscriptions) c.turn.ensures ∙ turned_marks c.args.topic_filter.now c.args.turn c.index_mut.result.now.kept.subscriptions)
+    (λ h. sym (ap waits c.turn.ensures) ∙ h)
