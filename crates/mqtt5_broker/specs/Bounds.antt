@@ -12,9 +12,10 @@ use Rattle.mqtt5_network.specs.Retained.{is_to}
 use Rattle.mqtt5_sessions.specs.declared.counts.Counts.{Counts}
 use Rattle.mqtt5_sessions.specs.Counts.{counts}
 use Rattle.mqtt5_sessions.specs.Shedding.{surplus_of, sheds}
+use Rattle.mqtt5_sessions.specs.Bringing.{overfills}
 use Rattle.mqtt5_broker.specs.declared.bounds.Bounds.{Bounds}
 use Rattle.mqtt5_broker.specs.Connection.{told, connection_of}
-use Rattle.mqtt5_broker.specs.Rights.{may_do}
+use Rattle.mqtt5_broker.specs.Rights.{may_do, part_of}
 use Rattle.mqtt5_broker.specs.Broker.{Broker, at_moment, free_number, owner_at, on_connection}
 use Rattle.mqtt5_broker.specs.Broker.{forgets}
 use Rattle.mqtt5_broker.specs.Clock.{for_each}
@@ -39,10 +40,19 @@ asks_too_much (packets.Publish p) b =
     adds_retained p b && nat_le b.bounds.retained (length b.sessions.retained)
 asks_too_much other b = false
 
--- then it is refused, where its user may do what it asks for (5.4.2)
+-- whether a Subscribe of the client of a number has more filters than it may have subscriptions, or those
+-- that its user may subscribe to may bring more copies of retained messages than its queue has room for
+-- (3.3.1.3)
+abbrev pub brings_too_much : ℕ → Packet → Broker → Bool
+brings_too_much i (packets.Subscribe s) b =
+    nat_lt b.bounds.subscriptions (length s.filters)
+    || overfills b.bounds.queued i (part_of (owner_at i b.members) b.rights s).filters b.sessions
+brings_too_much i other b = false
+
+-- then it is refused; a publish only where its user may publish it (5.4.2)
 abbrev pub quota_fault : ℕ → Packet → Broker → Option DisconnectReasonCode
 quota_fault i x b =
-    if asks_too_much x b && may_do (owner_at i b.members) b.rights x
+    if (asks_too_much x b && may_do (owner_at i b.members) b.rights x) || brings_too_much i x b
     then Some reasons.QuotaExceeded else None
 
 -- ---- sessions

@@ -6,12 +6,13 @@ ghost use Rattle.mqtt5_network.specs.Retained.{is_to};
 ghost use Rattle.mqtt5_sessions.specs.declared.counts.Counts.{Counts};
 ghost use Rattle.mqtt5_broker.specs.Broker.{no_bounds};
 ghost use Rattle.mqtt5_broker.specs.Connection.{connection_of};
-ghost use Rattle.mqtt5_broker.specs.Bounds.{bounded, has_room, adds_retained, asks_too_much, quota_fault, exceeds, ends_of, ends_over, dropped_after, sheds_of, trims, trims_all, trims_at};
+ghost use Rattle.mqtt5_broker.specs.Bounds.{bounded, has_room, adds_retained, asks_too_much, brings_too_much, quota_fault, exceeds, ends_of, ends_over, dropped_after, sheds_of, trims, trims_all, trims_at};
 
 use crate::broker::Broker;
 use crate::connections::connection_of;
 use crate::member::{free_number, owner_at};
-use crate::rights::may_do;
+use crate::rights::{may_do, part_of};
+use mqtt5_base::copied;
 use mqtt5_codec::Packet;
 use mqtt5_control::DisconnectReasonCode;
 use mqtt5_publish::Publish;
@@ -24,11 +25,11 @@ use std::alloc::Global;
 pub struct Bounds {
     /// How many clients are known at once, connected or away; where it was more once, as many.
     pub clients: usize,
-    /// How many subscriptions a client has, when `trim` is called.
+    /// How many subscriptions a client has when `trim` is called, and how many filters a Subscribe.
     pub subscriptions: usize,
     /// How many messages are retained; a will is retained all the same.
     pub retained: usize,
-    /// How many publishes wait in its queue then.
+    /// How many publishes wait in its queue then, and once a Subscribe has brought its copies of retained messages.
     pub queued: usize,
     /// And how many bytes the frames of these have.
     pub bytes: u64,
@@ -110,16 +111,50 @@ impl Broker {
         }
     }
 
-    /// Why a packet of a client is refused then, where its user may do what it asks for.
-    pub(super) fn quota_fault(&self, client: usize, packet: &Packet) -> Option<DisconnectReasonCode>
-        ensures { result ≡ quota_fault client packet.now self.now }
+    /// Whether a Subscribe has more filters than there may be subscriptions, or those that its user may subscribe to may bring more
+    /// copies of retained messages than there is room for in its client's queue. S12, which leaves all as it was.
+    fn brings_too_much(
+        &mut self,
+        alloc: Global,
+        client: usize,
+        packet: &Packet,
+    ) -> Result<bool, StateError>
+        ensures ok { IfOk result (λ o. o ≡ brings_too_much client packet.now self.old) }
+        ensures memory { IfErr result (λ e. e ≡ StateError.OutOfMemory) }
+        ensures same { self.new ≡ self.old }
+    {
+        let Packet::Subscribe(subscribe) = packet else {
+            return Ok(false);
+        };
+        if self.bounds.subscriptions < subscribe.filters.len() {
+            return Ok(true);
+        }
+        let user = owner_at(client, self.members.as_slice());
+        let part = part_of(user, self.rights.as_slice(), copied(subscribe)?);
+        let most = self.bounds.queued;
+        self.sessions
+            .overfills(alloc, client, part.filters.as_slice(), most)
+    }
+
+    /// Why a packet of a client is refused then; a publish only where its user may publish it. S12, which leaves all as it was.
+    pub(super) fn quota_fault(
+        &mut self,
+        alloc: Global,
+        client: usize,
+        packet: &Packet,
+    ) -> Result<Option<DisconnectReasonCode>, StateError>
+        ensures ok { IfOk result (λ r. r ≡ quota_fault client packet.now self.old) }
+        ensures memory { IfErr result (λ e. e ≡ StateError.OutOfMemory) }
+        ensures same { self.new ≡ self.old }
     {
         let user = owner_at(client, self.members.as_slice());
         if self.asks_too_much(packet) && may_do(user, self.rights.as_slice(), packet) {
-            Some(DisconnectReasonCode::QuotaExceeded)
-        } else {
-            None
+            return Ok(Some(DisconnectReasonCode::QuotaExceeded));
         }
+        if self.brings_too_much(alloc, client, packet)? {
+            return Ok(Some(DisconnectReasonCode::QuotaExceeded));
+        }
+        Ok(None)
     }
 
     /// A connection ends, if there is one. S12.

@@ -2,6 +2,7 @@
 
 ghost use Rattle.std.specs.Prelude.{◌≡◌, [], Some, not, nat_lt, ◌&&◌, ◌⊎◌, length, max, replicate, OnOk, OnErr, IfOk, IfErr};
 ghost use Rattle.std.specs.NonZero.{non_zero_u16_get};
+ghost use Rattle.mqtt5_sessions.specs.Waiting.{IsNextWaiting};
 ghost use Rattle.mqtt5_broker.specs.Cut.{cut_up, Holds, Breaks};
 ghost use Rattle.mqtt5_broker.specs.Connection.{closed, with_sent, connection_at};
 ghost use Rattle.mqtt5_broker.specs.Broker.{no_bounds, at_moment, on_connection, name_at};
@@ -201,6 +202,14 @@ impl Broker {
         name_in(client, self.members.as_slice())
     }
 
+    /// The number of a connection's client, if it has one.
+    pub fn client_number(&self, connection: usize) -> Option<usize>
+        ensures { result ≡ (connection_at connection self.now.connections).client }
+    {
+        let all = self.connections.as_slice();
+        client_at(all, connection)
+    }
+
     /// The bytes that are to be sent on a connection.
     pub fn output(&self, connection: usize) -> &[u8]
         ensures { result.now ≡ (connection_at connection self.now.connections).output }
@@ -296,6 +305,17 @@ impl Broker {
         drop(sent);
         written?;
         Ok(some)
+    }
+
+    /// The first client, from a number on, that is connected and has something in its queue, if there is one: of another one that is
+    /// connected `pass` passes nothing on, and takes nothing out (`waiting_law`). S12.
+    pub fn next_waiting(&mut self, alloc: Global, from: usize) -> Result<Option<usize>, StateError>
+        ensures next { IfOk result (λ client. IsNextWaiting from client self.old.sessions) }
+        ensures memory { IfErr result (λ e. e ≡ StateError.OutOfMemory) }
+        // In each case nothing changes.
+        ensures same { self.new ≡ self.old }
+    {
+        self.sessions.next_waiting(alloc, from)
     }
 
     /// Bytes come on a connection at a moment, in any pieces: each packet that is whole with them is taken, up to the first fault,

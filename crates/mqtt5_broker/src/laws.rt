@@ -19,13 +19,15 @@ ghost use Rattle.mqtt5_network.specs.declared.subscription.Share.{Share};
 ghost use Rattle.mqtt5_network.specs.Subscriptions.{is_of, holds_for, forwarded_to};
 ghost use Rattle.mqtt5_progress.specs.Subscribers.{hits};
 ghost use Rattle.mqtt5_network.specs.Retained.{copies_for};
+ghost use Rattle.mqtt5_sessions.specs.Sessions.{is_here};
 ghost use Rattle.mqtt5_sessions.specs.Runs.{SessionEvent, after_events};
+ghost use Rattle.mqtt5_sessions.specs.Waiting.{waits_at};
 ghost use Rattle.mqtt5_broker.specs.Cut.{cut_up, goes_on_as, Breaks};
 ghost use Rattle.mqtt5_broker.specs.Connection.{closed, with_sent, connection_at};
 ghost use Rattle.mqtt5_broker.specs.Moments.{has_come};
 ghost use Rattle.mqtt5_broker.specs.Rights.{Rights, rights_at, is_within, may_publish, may_do, part_of};
 ghost use Rattle.mqtt5_broker.specs.Broker.{Broker, at_moment, on_connection, number_of, user_at, owner_at, is_same, refuses};
-ghost use Rattle.mqtt5_broker.specs.Serving.{fault_of, serves, rejects_by, turns_away, admits, connects, passes_at};
+ghost use Rattle.mqtt5_broker.specs.Serving.{fault_of, serves, rejects_by, turns_away, admits, connects, passes_at, has_passed};
 ghost use Rattle.mqtt5_broker.specs.Receiving.{receives, ends_with, opens, closes};
 ghost use Rattle.mqtt5_broker.specs.Clock.{ticks, next_moment, shuts_down};
 ghost use Rattle.mqtt5_broker.specs.Bounds.{trims_at};
@@ -203,3 +205,11 @@ pub fn rights_law()
 {
     matching_laws();
 }
+
+/// A law, which does nothing when it is called: of a client that is connected, and has nothing in its queue, nothing is passed on, and
+/// nothing taken out. (To one for which nothing waits nothing is sent in any case: `waiting_law` of `mqtt5_sessions`.)
+pub fn waiting_law()
+    ensures { (c i : ℕ) (b : Broker) → (connection_at c b.connections).client ≡ Some i
+        → is_here i b.sessions ≡ true → waits_at i b.sessions.clients ≡ false
+        → has_passed c b ≡ false }
+{}

@@ -26,5 +26,5 @@ pub use bounds::Bounds;
 pub use broker::{Broker, Limits};
 pub use laws::{
     acts_law, any_calls_law, asking_law, clock_law, connections_law, fault_law, pieces_law,
-    rights_law, sharing_law,
+    rights_law, sharing_law, waiting_law,
 };

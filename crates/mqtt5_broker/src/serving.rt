@@ -405,15 +405,22 @@ impl Broker {
         }
     }
 
-    /// Why a packet of a client is refused, if it is.
+    /// Why a packet of a client is refused, if it is. S12, which leaves all as it was.
     #[tactic(auto, unfolding(crate::specs::Serving::fault_of))]
-    fn fault_of(&self, client: usize, packet: &Packet) -> Option<DisconnectReasonCode>
-        ensures { result ≡ fault_of client packet.now self.now }
+    fn fault_of(
+        &mut self,
+        alloc: Global,
+        client: usize,
+        packet: &Packet,
+    ) -> Result<Option<DisconnectReasonCode>, StateError>
+        ensures ok { IfOk result (λ r. r ≡ fault_of client packet.now self.old) }
+        ensures memory { IfErr result (λ e. e ≡ StateError.OutOfMemory) }
+        ensures same { self.new ≡ self.old }
     {
         let stays = stays_at(client, self.members.as_slice());
         match client_fault(stays, packet) {
-            Some(reason) => Some(reason),
-            None => self.quota_fault(client, packet),
+            Some(reason) => Ok(Some(reason)),
+            None => self.quota_fault(alloc, client, packet),
         }
     }
 
@@ -429,7 +436,7 @@ impl Broker {
         ensures ok { OnOk result (self.new ≡ serves connection client packet self.old) }
         ensures memory { IfErr result (λ e. e ≡ StateError.OutOfMemory) }
     {
-        match self.fault_of(client, &packet) {
+        match self.fault_of(alloc, client, &packet)? {
             Some(reason) => {
                 drop(packet);
                 self.refuse(alloc, connection, client, reason)?;

@@ -12,8 +12,8 @@ use std::num::NonZeroU16;
 use std::test::Fail;
 
 /// `open` begins a connection, `is` says whether it takes bytes, `in` brings bytes of it, and answers what it sends then; `out`
-/// answers that without any, `pass` passes the first of a queue on, `name` answers its client's name, and `close` ends the
-/// connection. `tick` says which moment it is, in milliseconds, at first 0; `next` answers the next at which something is due, and
+/// answers that without any, `pass` passes the first of a queue on, `name` and `number` answer its client's name and number, and
+/// `close` ends the connection. `waits` answers the first client, from a number on, for which something waits. `tick` says which moment it is, in milliseconds, at first 0; `next` answers the next at which something is due, and
 /// `end` ends the broker. `hold` has bytes held alone, `asks` answers who wants to connect, with name and password, 0 without these and
 /// `-` where there is nobody, and `reject` turns a client away with a code, and answers what it is sent. `user` adds a user, and
 /// answers its number; `pub` and `sub` let that user publish and subscribe within a filter, and `as` says that a connection is of it.
@@ -70,6 +70,11 @@ use std::test::Fail;
 ///
 /// Then two filters with the same levels before their wildcards, of which a client unsubscribes from one, then from the other, and from
 /// that once more; and a shared one with a wildcard, from which it unsubscribes.
+///
+/// Then who waits for what is to be passed on, from each number on, until it is passed on, and until its connection has ended.
+///
+/// Then copies of two retained messages for which there is no room: for one that has a subscription of each Retain Handling; in a queue
+/// that is empty, and in one that is full; two filters where a client may have one; and of what a user may subscribe to alone.
 const ROWS: &str =
     "open:0=1; open:0=0; open:9=0; open:1=1; in:0:100E00044D5154540502000000000161=20080000052700000040; in:1:100E00044D5154540502000000000162=20080000052700000040; in:1:82090001000003612F6202=900400010002; in:0:34090003612F6200050078=50020005; out:1=-; pass:1=1; out:1=34090003612F6200010078; pass:1=0; in:1:50020001=62020001; in:1:70020001=-; in:0:62020005=70020005; in:0:C000=D000; in:0:E000=-; is:0=0; is:1=1; in:0:C000=-; close:0; open:0=1
 open:0=1; in:0:10=-; in:0:0E00044D5154540502=-; in:0:000000000161C000=20080000052700000040D000; in:0:C0=-; in:0:00C0=D000; in:0:00=D000
@@ -200,6 +205,11 @@ open:0=1; open:1=1; in:1:100E00044D5154540502000000000162=20080000052700000040; 
 open:0=1; open:1=1; in:0:100E00044D5154540502000000000161=20080000052700000040; in:0:820700010000016100=900400010000; in:1:100E00044D5154540502000000000162=20080000052700000040; in:1:300A0001610502FFFFFFFF78=-; pass:0=1; out:0=300A00016105027FFFFFFF78; in:1:300A0001610502B2D05E0078=-; tick:1000; pass:0=1; out:0=300A00016105027FFFFFFE78
 open:0=1; open:1=1; in:0:100E00044D5154540502000000000161=20080000052700000040; in:1:100E00044D5154540502000000000162=20080000052700000040; in:0:820F0001000003612F23000003612F2B00=90050001000000; in:1:30050001610078=-; pass:0=1; out:0=30050001610078; in:0:A2080002000003612F23=B00400020000; in:1:30050001610078=-; pass:0=0; in:1:30070003612F620078=-; pass:0=1; out:0=30070003612F620078; in:0:A2080003000003612F2B=B00400030000; in:1:30070003612F620078=-; pass:0=0; in:0:A2080004000003612F2B=B00400040011
 open:0=1; open:1=1; in:0:100E00044D5154540502000000000161=20080000052700000040; in:1:100E00044D5154540502000000000162=20080000052700000040; in:0:8212000100000C2473686172652F672F742F2B00=900400010000; in:1:30070003742F780078=-; pass:0=1; out:0=30070003742F780078; in:0:A211000200000C2473686172652F672F742F2B=B00400020000; in:1:30070003742F780078=-; pass:0=0
+open:0=1; open:1=1; open:2=1; number:0=-; in:0:100E00044D5154540502000000000161=20080000052700000040; in:1:100E00044D5154540502000000000162=20080000052700000040; in:2:100E00044D5154540502000000000163=20080000052700000040; number:0=0; number:1=1; number:9=-; in:1:82090001000003612F6200=900400010000; in:2:82090001000003612F6200=900400010000; waits:0=-; in:0:30070003612F620078=-; waits:0=1; waits:2=2; waits:3=-; pass:0=0; pass:1=1; out:1=30070003612F620078; waits:0=2; close:2; waits:0=-
+bound:9,9,9,1,999; open:0=1; open:1=1; in:0:100E00044D5154540502000000000161=20080000052700000040; in:0:31050001610078=-; in:0:31050001620078=-; in:1:100E00044D5154540502000000000162=20080000052700000040; in:1:820700010000012B20=900400010000; in:1:820700020000016100=900400020000; in:1:820700030000012B10=900400030000; in:1:820700040000012B00=E02C972A1F00276D6F7265207468616E2074686520736572766572206B6565707320666F72206120636C69656E74; is:1=0; is:0=1
+bound:9,9,9,2,999; open:0=1; open:1=1; in:0:100E00044D5154540502000000000161=20080000052700000040; in:0:31050001610078=-; in:0:31050001620078=-; in:1:100E00044D5154540502000000000162=20080000052700000040; in:1:820700010000012B00=900400010000; in:1:820700020000012B10=900400020000; in:1:820700030000012B00=E02C972A1F00276D6F7265207468616E2074686520736572766572206B6565707320666F72206120636C69656E74; is:1=0
+bound:9,1,9,9,999; open:0=1; in:0:100E00044D5154540502000000000161=20080000052700000040; in:0:820B0001000001610000016200=E02C972A1F00276D6F7265207468616E2074686520736572766572206B6565707320666F72206120636C69656E74; is:0=0
+bound:9,9,9,0,999; user=0; sub:0:b; open:0=1; open:1=1; in:0:100E00044D5154540502000000000161=20080000052700000040; in:0:31050001610078=-; as:1:0; in:1:100E00044D5154540502000000000162=20080000052700000040; in:1:820B0001000001610000016200=90050001008700; in:0:31050001620078=-; in:1:820B0002000001610000016200=E02C972A1F00276D6F7265207468616E2074686520736572766572206B6565707320666F72206120636C69656E74; is:1=0
 ";
 
 /// The same at a broker that takes aliases up to 2, and where no client's keep alive is longer than 100 seconds. First aliases: one that
@@ -298,6 +308,14 @@ fn adds_moment(alloc: Global, at: Option<u64>, text: &mut String) -> Result<(), 
     }
 }
 
+/// Adds a client's number as an answer, if there is one.
+fn adds_number(alloc: Global, client: Option<usize>, text: &mut String) -> Result<(), AllocError> {
+    match client {
+        Some(client) => text.push_str(format!(in alloc; "={client}")?.as_str()),
+        None => text.push_str("=-"),
+    }
+}
+
 /// Adds an answer that is yes or no.
 fn answers(yes: bool, text: &mut String) -> Result<(), AllocError> {
     text.push_str(if yes { "=1" } else { "=0" })
@@ -380,6 +398,11 @@ fn calls(
             Ok(answers(passed, text)?)
         }
         "name" => Ok(adds(alloc, broker.client_name(connection).as_bytes(), text)?),
+        "number" => Ok(adds_number(alloc, broker.client_number(connection), text)?),
+        "waits" => {
+            let next = broker.next_waiting(alloc, connection)?;
+            Ok(adds_number(alloc, next, text)?)
+        }
         "close" => broker.close(alloc, connection, at),
         _other => Err(StateError::from(Error::MalformedPacket)),
     }
