@@ -1,6 +1,7 @@
 /* An MQTT 5.0 server: sockets and a clock around the broker of mqtt5_broker.h. The broker is proved (docs/PROVED.md); this file
    isn't, it is only tested (tests/broker). One thread, poll and sockets that never block. docs/BROKER.md says how it is used. */
 #define _POSIX_C_SOURCE 200809L
+#include "broker_frames.h"
 #include "broker_options.h"
 #include "broker_rights.h"
 #include "broker_users.h"
@@ -29,6 +30,8 @@ enum {
     PIECE = 65536,         /* bytes that are read, and sent, at a time */
     TURNS = 8,             /* pieces of one connection before the next one has its turn */
     PASSES = 16,           /* publishes passed before the waiting output is looked at, at most */
+    FEW = 64,              /* connections that are looked at by themselves, at most */
+    MANY = 512,            /* where there are numbers of connections beyond this */
     UNREAD = 4194304,      /* bytes that are read of a client while its own socket takes nothing */
     REST = 1000,           /* milliseconds for the last bytes of a connection that has ended, and between measures of queues */
     AGAIN = 100            /* milliseconds after which a call that had no memory is tried again */
@@ -50,27 +53,25 @@ struct connection {
     bool is_client;    /* whether a client has connected on it */
     bool waits;        /* its socket takes no more bytes for now */
     size_t unread;     /* bytes that were read since then, but for those that were sent */
-    /* The frame that is being sent, as far as it is known, and the last reason that was sent in a ConnAck or a Disconnect. */
-    enum { FIRST, LENGTH, BODY } part;
-    uint8_t first;
-    uint32_t length, at;
-    unsigned shift;
-    int reason;
-    bool denied; /* whether a publish or a filter was */
+    struct frames frames; /* that are sent on it */
 };
 
 static mqtt5_broker broker;
 static struct connection *connections;
 static struct pollfd *polled; /* the listener, the signals, and then each connection by its number */
+static size_t *connection_of; /* the last one of each client, by the number that the broker has for it */
+static size_t numbers;        /* how many of these there is room for */
 static size_t used;           /* all connections from this number on are unused */
 static uint64_t now, count;
 static uint64_t due_at;                        /* when the broker has something to do */
 static uint64_t tries_at, listens_at, ends_by; /* when it does that and takes connections again, and waits no longer */
+static uint64_t passes_at;                     /* when what came is passed on again, where that had no memory; else 0 */
 static uint64_t measures_at;                   /* when it measures what is kept again */
 static int listener, signals[2];
 static bool ends, grows;  /* whether it ends, and something may have come into any queue since these were measured */
 static bool came, others; /* in this round: what may be in any queue, and what may have ended any connection */
 static bool judged;       /* and whether a user was judged */
+static bool stuck;        /* and whether a socket takes no more of what is passed on */
 static size_t first;      /* the connection that is looked at first in it */
 static uint8_t in[PIECE], out[PIECE];
 
@@ -100,58 +101,6 @@ static uint64_t first_name(void) {
     return (uint64_t)t.tv_sec * 1000 + (uint64_t)t.tv_nsec / 1000000;
 }
 
-/* ---- Reasons (MQTT 5.0 section 2.4). ---- */
-
-/* From 0x80 on, by number. */
-static const char *const reasons[] = {
-    "Unspecified error", "Malformed Packet", "Protocol Error", "Implementation specific error",
-    "Unsupported Protocol Version", "Client Identifier not valid", "Bad User Name or Password", "Not authorized",
-    "Server unavailable", "Server busy", "Banned", "Server shutting down", "Bad authentication method", "Keep Alive timeout",
-    "Session taken over", "Topic Filter invalid", "Topic Name invalid", "reason", "reason", "Receive Maximum exceeded",
-    "Topic Alias invalid", "Packet too large", "Message rate too high", "Quota exceeded", "Administrative action",
-    "Payload format invalid", "Retain not supported", "QoS not supported", "Use another server", "Server moved",
-    "Shared Subscriptions not supported", "Connection rate exceeded", "Maximum connect time",
-    "Subscription Identifiers not supported", "Wildcard Subscriptions not supported",
-};
-
-/* A byte of the body of a packet that is sent. The reason of a ConnAck is the second one (3.2.2.2), and that of a Disconnect the first
-   (3.14.2.1). That of a PubAck and a PubRec is the third (3.4.2, 3.5.2), and a SubAck, which has no properties here, has codes from the
-   fourth on (3.9.3). That something is denied is logged once of each connection; of a publish of QoS 0 nothing is sent. */
-static void note(struct connection *k, uint8_t byte) {
-    unsigned kind = k->first >> 4, at = k->at;
-    if ((kind == 2 && at == 1) || (kind == 14 && at == 0)) k->reason = byte;
-    if (byte != 0x87 || k->denied || !(((kind == 4 || kind == 5) && at == 2) || (kind == 9 && at >= 3))) return;
-    k->denied = true;
-    say("%llu: denied: Not authorized (0x87)\n", (unsigned long long)k->number);
-}
-
-/* Follows the frames that are sent (2.1), to know why a connection ends, and what is denied. A Disconnect without a body has reason 0
-   (3.14.2.1). */
-static void follow(struct connection *k, const uint8_t *bytes, size_t len) {
-    for (size_t i = 0; i < len;) {
-        if (k->part == BODY && k->at >= 2 && (k->denied || k->first >> 4 == 3)) {
-            size_t rest = k->length - k->at, step = rest < len - i ? rest : len - i;
-            k->at += (uint32_t)step;
-            i += step;
-        } else if (k->part == BODY) {
-            note(k, bytes[i++]);
-            k->at++;
-        } else if (k->part == LENGTH) {
-            k->length |= (uint32_t)(bytes[i] & 127) << k->shift;
-            k->shift += 7;
-            if (bytes[i++] < 128) k->part = BODY;
-        } else {
-            k->first = bytes[i++];
-            k->length = k->at = k->shift = 0;
-            k->part = LENGTH;
-        }
-        if (k->part == BODY && k->at == k->length) {
-            if (k->first >> 4 == 14 && k->length == 0) k->reason = 0;
-            k->part = FIRST;
-        }
-    }
-}
-
 /* ---- A connection ends. ---- */
 
 /* Its socket is closed, and the broker is told; where that has no memory for a will, it is told again later. */
@@ -179,10 +128,9 @@ static void say_lost(const struct connection *k, int fault) {
 
 static void say_ended(const struct connection *k) {
     unsigned long long number = k->number;
-    const char *other = k->is_client || k->reason == 0 ? "the client disconnected" : "without a Connect";
-    int i = k->reason - 0x80;
-    const char *name = i >= 0 && i < (int)(sizeof reasons / sizeof *reasons) ? reasons[i] : "reason";
-    if (k->reason > 0) say("%llu: ended: %s (0x%02X)\n", number, name, (unsigned)k->reason);
+    int reason = k->frames.reason;
+    const char *other = k->is_client || reason == 0 ? "the client disconnected" : "without a Connect";
+    if (reason > 0) say("%llu: ended: %s (0x%02X)\n", number, reason_name(reason), (unsigned)reason);
     else say("%llu: ended: %s\n", number, other);
 }
 
@@ -247,7 +195,8 @@ static void serve(size_t c) {
             return;
         }
         if (sent > 0) {
-            follow(k, out, (size_t)sent);
+            if (follow_frames(&k->frames, out, (size_t)sent))
+                say("%llu: denied: Not authorized (0x87)\n", (unsigned long long)k->number);
             k->unread -= k->unread < (size_t)sent ? k->unread : (size_t)sent;
             mqtt5_broker_sent(&broker, c, (size_t)sent);
         }
@@ -260,6 +209,21 @@ static void serve(size_t c) {
 }
 
 /* ---- What comes in. ---- */
+
+/* Notes whose connection it is. Whether there was memory for that. */
+static bool note_client(size_t c) {
+    size_t client = 0;
+    bool some = false;
+    mqtt5_broker_number(&broker, c, &client, &some);
+    if (some && client >= numbers) {
+        size_t more = 2 * client + 64, *grown = realloc(connection_of, more * sizeof *grown);
+        if (!grown) return false;
+        connection_of = grown;
+        numbers = more;
+    }
+    if (some) connection_of[client] = c;
+    return true;
+}
 
 static void say_client(size_t c) {
     uint8_t name[65];
@@ -317,7 +281,7 @@ static void hear(size_t c) {
     }
     came = true;
     if (k->waits) k->unread += (size_t)len;
-    if (hand_in(c, (size_t)len) != MQTT5_BROKER_DONE) {
+    if (hand_in(c, (size_t)len) != MQTT5_BROKER_DONE || (!k->is_client && !note_client(c))) {
         others = true;
         drop(c);
         return;
@@ -376,7 +340,7 @@ static bool take(void) {
         return true;
     }
     say_address(&address, len, "connection from");
-    connections[c] = (struct connection){.state = OPEN, .socket = s, .number = count, .reason = -1};
+    connections[c] = (struct connection){.state = OPEN, .socket = s, .number = count, .frames.reason = -1};
     if (c >= used) used = c + 1;
     return true;
 }
@@ -396,7 +360,14 @@ static int sooner(int before, uint64_t at) {
     return before >= 0 && before < (int)left ? before : (int)left;
 }
 
-/* What each connection waits for; until when there is nothing to do but by them. */
+/* What a connection waits for. */
+static struct pollfd awaited(const struct connection *k) {
+    bool is_closed = k->state == UNUSED || k->state == LEAVING;
+    short events = (short)((k->unread > UNREAD ? 0 : POLLIN) | (k->waits ? POLLOUT : 0));
+    return (struct pollfd){.fd = is_closed ? -1 : k->socket, .events = events};
+}
+
+/* What all wait for; until when there is nothing to do but by them. */
 static int plan(void) {
     int timeout = -1;
     uint64_t at;
@@ -406,13 +377,13 @@ static int plan(void) {
     due_at = some ? at : UINT64_MAX;
     if (some) timeout = sooner(timeout, at < tries_at ? tries_at : at);
     if (grows) timeout = sooner(timeout, measures_at);
+    if (passes_at) timeout = sooner(timeout, passes_at);
     polled[0] = (struct pollfd){.fd = ends || now < listens_at ? -1 : listener, .events = POLLIN};
     if (!ends && now < listens_at) timeout = sooner(timeout, listens_at);
     polled[1] = (struct pollfd){.fd = signals[0], .events = POLLIN};
     for (size_t c = 0; c < used; c++) {
         struct connection *k = &connections[c];
-        short events = (short)((k->unread > UNREAD ? 0 : POLLIN) | (k->waits ? POLLOUT : 0));
-        polled[c + 2] = (struct pollfd){.fd = k->state == UNUSED || k->state == LEAVING ? -1 : k->socket, .events = events};
+        polled[c + 2] = awaited(k);
         if (k->state == ENDING || k->state == DRAINED) timeout = sooner(timeout, k->deadline);
         if (k->state == LEAVING) timeout = sooner(timeout, now + AGAIN);
     }
@@ -453,18 +424,27 @@ static void begin_end(void) {
     }
 }
 
-/* A publish or a will that came may be in any client's queue, and the broker has no list of these: all are looked at once, for
-   all that came in a round. Those whose sockets take nothing are looked at when they do. Whether a connection has ended beside
-   the one that something came on is asked where that can be: a client that connects may displace another. */
+/* A publish or a will that came may be in any client's queue: those are looked at, once for all that came in a round, in whose queues
+   something is. Those whose sockets take nothing are looked at when they do. Whether a connection has ended beside the one that
+   something came on is asked of all where that can be: a client that connects may displace another. */
 static void pass_all(void) {
-    for (size_t c = 0; c < used; c++) {
-        struct connection *k = &connections[c];
-        bool some = false;
-        if (k->state != OPEN) continue;
-        if (others && has_ended(c)) serve(c);
-        if (k->state != OPEN || k->waits || !k->is_client) continue;
+    bool some = true;
+    for (size_t c = 0; others && c < used; c++) {
+        if (connections[c].state == OPEN && has_ended(c)) serve(c);
+    }
+    passes_at = 0;
+    for (size_t client = 0;; client++) {
+        if (mqtt5_broker_next_waiting(&broker, client, &client, &some) != MQTT5_BROKER_DONE) {
+            say("no memory to pass on what came\n");
+            passes_at = now + AGAIN;
+            return;
+        }
+        if (!some) return;
+        size_t c = client < numbers ? connection_of[client] : options.most;
+        if (c >= used || connections[c].state != OPEN || connections[c].waits || !connections[c].is_client) continue;
         if (mqtt5_broker_pass(&broker, c, now, &some) != MQTT5_BROKER_DONE) drop(c);
         else if (some) serve(c);
+        stuck = stuck || connections[c].waits;
     }
 }
 
@@ -488,26 +468,54 @@ static bool measure(void) {
     return came = others = true;
 }
 
+/* What a connection waited for is done. */
+static void answer(size_t c, const struct pollfd *p) {
+    if (p->revents & POLLOUT) serve(c);
+    if (p->revents & ~POLLOUT && connections[c].socket == p->fd) hear(c);
+}
+
+/* What came goes out; a client that is lost by that may have a will. */
+static void hand_out(void) {
+    for (; came; pass_all()) came = false;
+}
+
+/* Where there are many connections a look at all takes long, so the few that had something to do are then looked at by themselves, as
+   long as they have, for up to a time that grows with the number of all. It ends where a socket takes no more, which may be that of
+   another one, and where a user was judged. */
+static void turn_few(size_t few, const size_t *these, uint64_t until) {
+    struct pollfd near[FEW];
+    stuck = false;
+    while (few > 0 && now < until && !ends && !stuck && !judged) {
+        for (size_t i = 0; i < few; i++) near[i] = awaited(&connections[these[i]]);
+        if (poll(near, few, 0) <= 0) return;
+        now = moment();
+        came = others = false;
+        for (size_t i = 0; i < few; i++) answer(these[i], &near[i]);
+        grows = grows || came;
+        hand_out();
+    }
+}
+
 /* One round: what came is handed in, and what there is to send goes out. */
 static void turn(void) {
-    size_t all = used;
+    size_t all = used, few = 0, these[FEW];
     int timeout = plan(), ready = poll(polled, all + 2, timeout);
     now = moment();
-    came = others = judged = false;
+    came = passes_at && passes_at <= now;
+    others = judged = false;
     if (ready < 0 && errno != EINTR) fail("poll");
     for (size_t i = 0, from = first; ready > 0 && i < all; i++) {
         size_t c = (from + i) % all;
-        short events = polled[c + 2].revents;
-        if (events & POLLOUT) serve(c);
-        if (events & ~POLLOUT && connections[c].socket == polled[c + 2].fd) hear(c);
+        if (polled[c + 2].revents && few++ < FEW) these[few - 1] = c;
+        answer(c, &polled[c + 2]);
     }
     for (int i = 0; ready > 0 && polled[0].revents && i < 64 && take(); i++) {}
     if (ready > 0 && polled[1].revents) begin_end();
     do_due();
     grows = grows || came;
-    do {
-        for (; came; pass_all()) came = false; /* (a client that is lost by that may have a will) */
-    } while (measure());
+    do hand_out();
+    while (measure());
+    if (all > MANY && few <= FEW) turn_few(few, these, now + 1 + all / 500);
 }
 
 /* ---- It begins. ---- */

@@ -45,9 +45,10 @@ uint32_t mqtt5_broker_new(mqtt5_broker *b, size_t connections, uint32_t longest,
 /* What may be kept at most, from now on; before that there is no bound. How many clients are known at once, connected or
    away, and how many messages are retained: one more is refused with Quota exceeded (0x97), but a will is retained all the
    same, and as many clients are taken as there once were. How many subscriptions a client has, how many publishes wait in
-   its queue, and how many bytes these have as frames: where more wait, mqtt5_broker_trim lets messages of QoS 0 at the
+   its queue, and how many bytes these have as frames. Where more wait, mqtt5_broker_trim lets messages of QoS 0 at the
    front of the queue go, or with `oldest` the first of any QoS, and it ends the sessions of clients that have more all the
-   same. */
+   same. A Subscribe of more filters than there may be subscriptions, or of which the copies of retained messages may have no room
+   in the queue, ends its connection by 0x97. */
 uint32_t mqtt5_broker_bound(
     mqtt5_broker *b, size_t clients, size_t subscriptions, size_t retained, size_t queued, uint64_t bytes, bool oldest);
 
@@ -109,6 +110,15 @@ uint32_t mqtt5_broker_sent(mqtt5_broker *b, size_t connection, size_t count);
    is only taken out, where it has expired at this moment (3.3.2.3.3). `some` tells whether either was done. One that is longer
    than the client takes isn't written. Where memory is refused the connection is to be closed. */
 uint32_t mqtt5_broker_pass(mqtt5_broker *b, size_t connection, uint64_t at, bool *some);
+
+/* The first client, from a number on, that is connected and has something in its queue: of any other connected one
+   mqtt5_broker_pass passes nothing on, and takes nothing out. So who asks for the one behind each that it tells, until `some` says
+   that there is none, needn't ask all. Where memory is refused all is as before, and the call may be made again. */
+uint32_t mqtt5_broker_next_waiting(mqtt5_broker *b, size_t from, size_t *client, bool *some);
+
+/* The number of its client, if `some` says that it has one. That has it as long as it is known, and then another one may. Numbers
+   begin at 0, and none is given while a smaller one is free. */
+uint32_t mqtt5_broker_number(mqtt5_broker *b, size_t connection, size_t *client, bool *some);
 
 /* At this moment lets messages at the front of queues go in which more waits than may, those of QoS 0 (4.3.1), or of any QoS where
    mqtt5_broker_bound said so, and then ends the sessions of all clients for which more is kept all the same: those that are

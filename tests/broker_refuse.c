@@ -173,6 +173,24 @@ static void as_user(mqtt5_broker *b, size_t connection, told *t) {
     EXPECT(begun, true);
 }
 
+/* The client of connection 0 waits, if the publish came to it, and no other one; there is no client of connection 7. */
+static void waits(mqtt5_broker *b, bool has_come, told *t) {
+    size_t client = 9, number = 9, none = 9;
+    bool some = !has_come, is_one = true;
+    EXPECT(mqtt5_broker_number(b, 7, &none, &is_one), MQTT5_BROKER_DONE);
+    EXPECT(is_one, false);
+    EXPECT(none, 9);
+    EXPECT(mqtt5_broker_number(b, 0, &number, &is_one), MQTT5_BROKER_DONE);
+    TWICE(mqtt5_broker_next_waiting(b, 0, &client, &some));
+    if (!has_come) return;
+    EXPECT(is_one, true);
+    EXPECT(some, true);
+    EXPECT(client, number);
+    TWICE(mqtt5_broker_next_waiting(b, client + 1, &client, &some));
+    EXPECT(some, false);
+    EXPECT(client, number);
+}
+
 static void passes(mqtt5_broker *b, size_t connection, bool *some, told *t) {
     uint32_t code = mqtt5_broker_pass(b, connection, 0, some);
     if (code == MQTT5_BROKER_OUT_OF_MEMORY) lose(b, connection, t);
@@ -227,6 +245,7 @@ static void plays(mqtt5_broker *b, told *t) {
     TWICE(mqtt5_broker_trim(b, 5));
     EXPECT(mqtt5_broker_dropped(b, &dropped), MQTT5_BROKER_DONE);
     EXPECT(dropped, 0);
+    waits(b, t->refusals == 0, t);
     passes(b, 0, &t->passed[0], t);
     sends(b, 0, t);
     comes(b, 0, BYTES(PUBACK_OF_S), 100, t);

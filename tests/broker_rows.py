@@ -1445,7 +1445,7 @@ async def thousand(b):
         client.cut()
 
 
-async def stays_quick(b, name, until):
+async def stays_quick(b, name, until, most=5):
     """A client's messages to itself come soon, as long as something goes on."""
     worst = 0
     async with b.connected(name) as one:
@@ -1456,7 +1456,45 @@ async def stays_quick(b, name, until):
             await one.take()
             worst = max(worst, time.monotonic() - begun)
             await asyncio.sleep(0.02)
-    assert worst < 5, f"{name} waits for {worst:.1f} s"
+    assert worst < most, f"{name} waits for {worst:.1f} s"
+
+
+@row()
+async def busy_ones_beside_many(b):
+    """Where two of hundreds of clients are busy, all comes in order, and neither a third one nor one that connects waits long."""
+    idle = [b.client(f"busy-idle-{i}") for i in range(600)]
+
+    async def begin(client):
+        async with door:
+            await client.connect()
+
+    async def floods():
+        for i in range(0, 40000, 100):
+            pub.send(b"".join(publish_frame("busy", b"%d" % n) for n in range(i, i + 100)))
+            await pub.writer.drain()
+            await asyncio.sleep(0)
+
+    async def connects():
+        while not done.is_set():
+            begun = time.monotonic()
+            async with b.connected("busy-new") as new:
+                await new.ping()
+            assert time.monotonic() - begun < 3, "who connects beside busy ones waits for more than three seconds"
+
+    door = asyncio.Semaphore(100)
+    await asyncio.gather(*(begin(client) for client in idle))
+    done = asyncio.Event()
+    others = [asyncio.create_task(stays_quick(b, "busy-other", done, 3)), asyncio.create_task(connects())]
+    async with b.connected("busy-sub") as sub, b.connected("busy-pub") as pub:
+        await sub.subscribe(("busy", 0))
+        flood = asyncio.create_task(floods())
+        for n in range(40000):
+            assert (await sub.take()).payload == b"%d" % n
+        await flood
+    done.set()
+    await asyncio.gather(*others)
+    for client in idle:
+        client.cut()
 
 
 @row()

@@ -22,6 +22,7 @@ WRAP(asks,
     (b, c, asks, name, name_len, name_count, password, password_len, password_count))
 WRAP(reject, (mqtt5_broker *b, size_t c, bool named), (b, c, named))
 WRAP(pass, (mqtt5_broker *b, size_t c, uint64_t at, bool *some), (b, c, at, some))
+WRAP(next_waiting, (mqtt5_broker *b, size_t from, size_t *client, bool *some), (b, from, client, some))
 WRAP(close, (mqtt5_broker *b, size_t c, uint64_t at), (b, c, at))
 WRAP(tick, (mqtt5_broker *b, uint64_t at), (b, at))
 WRAP(trim, (mqtt5_broker *b, uint64_t at), (b, at))

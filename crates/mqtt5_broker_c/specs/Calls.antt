@@ -2,7 +2,7 @@
 -- answers.
 use Rattle.std.specs.Prelude.{◌≡◌, ◌⊎◌, ℕ, Bool, not, nat_lt, ◌&&◌, List, [], ◌++◌, length, min}
 use Rattle.std.specs.Prelude.{take, drop, replicate, Option, None, Some, IsSome, option_map}
-use Rattle.std.specs.Prelude.{if◌then◌else◌}
+use Rattle.std.specs.Prelude.{⊤, if◌then◌else◌}
 use Rattle.std.specs.Str.{is_utf8}
 use Rattle.mqtt5_base.specs.Topics.{is_valid_filter}
 use Rattle.mqtt5_control.specs.declared.connack.ConnectReturnCode.{ConnectReturnCode}
@@ -129,3 +129,14 @@ DoesIf takes changes before code after =
     ((code ≡ done_if takes before)
     × (after ≡ option_map (λ (b : Broker). if takes b then changes b else b) before))
     ⊎ IsLeft unchanged before code after
+
+-- ---- the numbers of clients
+
+-- a number that is told, if there is one
+abbrev pub given : Bool → ℕ → Option ℕ
+given some number = if some then Some number else None
+
+-- something holds of a handle's broker, if it has one
+abbrev pub HoldsOf : (Broker → Type 0) → Option Broker → Type 0
+HoldsOf Holds None = ⊤
+HoldsOf Holds (Some b) = Holds b

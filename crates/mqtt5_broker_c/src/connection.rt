@@ -1,6 +1,6 @@
 //! Calls that begin and end connections, and tell of them.
 
-ghost use Rattle.std.specs.Prelude.{◌≡◌};
+ghost use Rattle.std.specs.Prelude.{◌≡◌, is_some, unwrap_or};
 ghost use Rattle.mqtt5_broker.specs.Broker.{at_moment, name_at};
 ghost use Rattle.mqtt5_broker.specs.Connection.{connection_at};
 ghost use Rattle.mqtt5_broker.specs.Receiving.{opens, closes};
@@ -104,5 +104,34 @@ pub extern "C" fn mqtt5_broker_client(
     };
     *count = fill(buffer, broker.client_name(connection).as_bytes());
     put(h, broker);
+    DONE
+}
+
+/// Tells the number of a connection's client; `some` tells whether it has one, and where it has none `client` is as before. 0; 200.
+#[unsafe(no_mangle)]
+pub extern "C" fn mqtt5_broker_number(
+    alloc: Global,
+    h: &mut Handle,
+    connection: usize,
+    client: &mut usize,
+    some: &mut bool,
+) -> u32
+    requires { IsKept h.old }
+    ensures kept { IsKept h.new }
+    ensures answer { Looks h.old.broker_ptr.value result h.new.broker_ptr.value }
+    ensures client { client.new ≡ told
+        (λ b. unwrap_or (connection_at connection b.connections).client client.old)
+        h.old.broker_ptr.value client.old }
+    ensures some { some.new ≡ told
+        (λ b. is_some (connection_at connection b.connections).client)
+        h.old.broker_ptr.value some.old }
+{
+    let Some(broker) = take(alloc, h) else {
+        return NO_BROKER;
+    };
+    let number = broker.client_number(connection);
+    put(h, broker);
+    *some = number.is_some();
+    *client = number.unwrap_or(*client);
     DONE
 }

@@ -1,11 +1,12 @@
 //! Calls that move bytes between a broker and its connections.
 
-ghost use Rattle.std.specs.Prelude.{◌≡◌, ◌≢◌, IfSome};
+ghost use Rattle.std.specs.Prelude.{◌≡◌, ◌≢◌, false, IfSome};
+ghost use Rattle.mqtt5_sessions.specs.Waiting.{IsNextWaiting};
 ghost use Rattle.mqtt5_broker.specs.Broker.{on_connection, at_moment};
 ghost use Rattle.mqtt5_broker.specs.Connection.{connection_at, with_sent};
 ghost use Rattle.mqtt5_broker.specs.Receiving.{receives};
 ghost use Rattle.mqtt5_broker.specs.Serving.{passes_at, has_passed};
-ghost use Rattle.mqtt5_broker_c.specs.Calls.{Does, DoesOrIsRefused, Looks, told, fitting, over};
+ghost use Rattle.mqtt5_broker_c.specs.Calls.{Does, DoesOrIsRefused, DoesOrLeaves, Looks, told, fitting, over, unchanged, given, HoldsOf};
 ghost use Rattle.mqtt5_broker_c.specs.Handles.{IsKept};
 ghost use Rattle.mqtt5_broker_c.specs.Numbers.{done};
 
@@ -121,6 +122,46 @@ pub extern "C" fn mqtt5_broker_pass(
     match outcome {
         Ok(sent) => {
             *some = sent;
+            DONE
+        }
+        Err(_fault) => OUT_OF_MEMORY,
+    }
+}
+
+/// Tells the first client, from a number on, that is connected and has something in its queue: of any other connected one
+/// `mqtt5_broker_pass` passes nothing on, and takes nothing out. `some` tells whether there is one, and where there is none `client` is as before. 0; 12: all is
+/// as before. 200.
+#[unsafe(no_mangle)]
+pub extern "C" fn mqtt5_broker_next_waiting(
+    alloc: Global,
+    h: &mut Handle,
+    from: usize,
+    client: &mut usize,
+    some: &mut bool,
+) -> u32
+    requires { IsKept h.old }
+    ensures kept { IsKept h.new }
+    ensures answer { DoesOrLeaves unchanged unchanged h.old.broker_ptr.value result
+        h.new.broker_ptr.value }
+    ensures next { result ≡ done
+        → HoldsOf (λ b. IsNextWaiting from (given some.new client.new) b.sessions)
+        h.old.broker_ptr.value }
+    ensures none { some.new ≡ false → client.new ≡ client.old }
+    ensures rest { result ≢ done → (some.new ≡ some.old) × (client.new ≡ client.old) }
+{
+    let Some(mut broker) = take(alloc, h) else {
+        return NO_BROKER;
+    };
+    let outcome = broker.next_waiting(alloc, from);
+    put(h, broker);
+    match outcome {
+        Ok(Some(number)) => {
+            *some = true;
+            *client = number;
+            DONE
+        }
+        Ok(None) => {
+            *some = false;
             DONE
         }
         Err(_fault) => OUT_OF_MEMORY,
