@@ -1967,6 +1967,27 @@ async def limits(_):
             assert (await sub.take()).id == ids[1]
 
 
+@row(mosquitto=False)  # (it drops messages)
+async def copies_beyond_bounds(_):
+    """A Subscribe that may bring more copies of retained messages than may wait ends the connection, though a hundred more come behind
+    it, and so does one with too many filters (4.13, Quota exceeded); what is in the bounds is served, and others go on."""
+    async with started("--max-queued-messages", "10", "--max-subscriptions", "3") as b, b.connected("copies-pub") as pub:
+        for i in range(11):
+            await pub.publish(f"copies/{i}", b"%d" % i, 1, retain=1)
+        one = b.client("copies-one")
+        await one.connect()
+        one.send(100 * subscribe_frame(1, [("copies/+", 0)]))
+        await one.ends_by(0x97)
+        two = b.client("copies-two")
+        await two.connect()
+        two.send(subscribe_frame(1, [(f"copies/{i}", 0) for i in range(4)]))
+        await two.ends_by(0x97)
+        async with b.connected("copies-three") as three:
+            await three.subscribe("copies/1", "copies/2", "copies/3")
+            assert await three.payloads(3) == [b"1", b"2", b"3"]
+        await pub.ping()
+
+
 @row(mosquitto=False)  # (its bounds have other names, and it drops messages)
 async def bounds(_):
     """What is kept at most: sessions, also of clients that are away, and retained messages; and what the server measures once a
