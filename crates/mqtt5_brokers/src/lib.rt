@@ -1,4 +1,4 @@
-//! What a broker makes of the bytes of its clients, as rows of text, and the test that walks them. It has tests alone.
+//! Tests of a broker and of the crates that it stands on, most of them as rows of text. It has nothing else.
 #![tactic(auto)]
 
 #[cfg(test)]

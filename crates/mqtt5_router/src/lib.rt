@@ -10,8 +10,6 @@ mod queue;
 mod retained;
 pub mod sessions;
 mod subscriptions;
-#[cfg(test)]
-mod tests;
 
 pub use asking::{
     is_shared, share_of, shared_filter, slash_in, subscribe_all, subscriptions_of, unsubscribe_all,

@@ -9,8 +9,6 @@ mod counts;
 mod laws;
 mod marks;
 mod sessions;
-#[cfg(test)]
-mod tests;
 mod waiting;
 
 pub use counts::Counts;

@@ -10,6 +10,7 @@ mod laws;
 mod pipe;
 mod shown;
 mod source;
+mod store;
 mod talk;
 mod words;
 

@@ -7,8 +7,6 @@
 
 mod index;
 mod marks;
-#[cfg(test)]
-mod tests;
 
 pub use index::TopicIndex;
 pub use marks::mark_of;

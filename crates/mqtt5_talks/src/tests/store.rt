@@ -1,11 +1,11 @@
 //! A session that is saved and loaded, byte for byte.
 
-use crate::{StoreError, load, save};
 use bytes::{Bytes, BytesMut};
 use mqtt5_base::QoS;
 use mqtt5_codec::Packet;
 use mqtt5_publish::Publish;
 use mqtt5_session::{MqttState, Request, StateError};
+use mqtt5_store::{StoreError, load, save};
 use std::alloc::{AllocError, Global};
 use std::test::Fail;
 

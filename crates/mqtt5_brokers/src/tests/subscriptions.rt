@@ -1,10 +1,10 @@
 //! Subscriptions that are taken in and out, and what is put into a queue under them, as MQTT 5.0 has it.
 
-use crate::{granted_for, route, subscribe_all, unsubscribe_all};
 use bytes::Bytes;
 use mqtt5_base::{Error, QoS, Sequence, Text};
 use mqtt5_network::Subscription;
 use mqtt5_publish::Publish;
+use mqtt5_router::{granted_for, route, subscribe_all, unsubscribe_all};
 use mqtt5_subscribe::{Filter, SubscribeReasonCode, UnsubAckReason};
 use std::alloc::Global;
 use std::collections::VecDeque;

@@ -1,6 +1,6 @@
 //! What is found by topics, under the filters of the examples of MQTT 5.0 (sections 4.7.1.2 and 4.7.1.3).
 
-use crate::{TopicIndex, mark_of};
+use mqtt5_topic_index::{TopicIndex, mark_of};
 use std::alloc::{AllocError, Global};
 use std::test::Fail;
 

@@ -3,13 +3,14 @@
 //! done answers nothing. A walk makes the calls, writes the row anew with what comes of them, and compares. A packet is its
 //! frame, two digits a byte, and `-` is none. Frames are those of MQTT 5.0.
 
-use crate::Sessions;
+use super::cut;
 use bytes::BytesMut;
 use mqtt5_base::Error;
 use mqtt5_codec::{Codec, Packet};
 use mqtt5_network::Will;
 use mqtt5_publish::Publish;
 use mqtt5_session::StateError;
+use mqtt5_sessions::Sessions;
 use std::alloc::{AllocError, Global};
 use std::collections::VecDeque;
 use std::num::NonZeroU16;
@@ -46,11 +47,6 @@ join=0; join=1; join=2; come:0:-=-; come:1:-=-; come:2:-=-; up:1:820900010000037
 join=0; join=1; come:0:-=-; come:1:-=-; up:0:31070003772F300067=-; up:0:31070003772F310067=-; over:1:1:82090001000003772F2B00=1; over:1:2:82090001000003772F2B00=0; over:1:0:82090001000003772F2B20=0; over:1:1:82090001000003772F2B10=1; up:1:82090001000003772F2B00=900400010000; over:1:3:82090001000003772F2B00=1; over:1:4:82090001000003772F2B00=0; over:1:2:82090001000003772F2B10=0; over:1:0:82090001000003772F2B10=0; over:1:1:82090001000003772F2B20=0; over:1:1:82090001000003772F2B00=1; over:1:2:8210000100000A2473686172652F672F2300=0; over:7:1:82090001000003772F2B00=1; over:7:2:82090001000003772F2B00=0
 join=0; up:1:C000=-; pass:1=-; lose:1; leave:1; due:1; end:1; come:1:-=-; up:0:C000=-
 ";
-
-/// What stands before the first mark of a text, and what behind it.
-fn cut<'a>(text: &'a str, mark: char) -> (&'a str, &'a str) {
-    text.split_once(mark).unwrap_or((text, ""))
-}
 
 /// A number of its digits; E16 where they aren't digits.
 fn number_of(digits: &str) -> Result<u16, Error> {
