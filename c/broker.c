@@ -573,8 +573,8 @@ int main(int argc, char **argv) {
         fprintf(stderr, "broker: no memory for %lu connections\n", options.most);
         return 1;
     }
-    mqtt5_broker_bound(&broker, options.clients, options.subscriptions, options.retained, options.queued, options.queued_bytes,
-        options.oldest);
+    mqtt5_broker_bound(&broker, options.clients, options.subscriptions, options.shared, options.retained, options.queued,
+        options.queued_bytes, options.oldest);
     if (options.users) rights_read(&broker, options.rights);
     catch_signals();
     listen_there();

@@ -12,7 +12,7 @@
 
 struct options options = {
     .port = 1883, .most = 1024, .longest = 1048576, .ids = 1024, .wait_for = 10, .alias_max = 10,
-    .clients = 10000, .subscriptions = 1000, .retained = 10000, .queued = 100000, .queued_bytes = 67108864,
+    .clients = 10000, .subscriptions = 1000, .shared = 100, .retained = 10000, .queued = 100000, .queued_bytes = 67108864,
     .bound = "127.0.0.1",
 };
 
@@ -29,6 +29,7 @@ static const char help[] =
     "  --max-inflight N         how many messages of QoS 1 and 2 a client is sent ahead of their acks, else 1024\n"
     "  --max-sessions N         how many clients have a session, connected or away, else 10000\n"
     "  --max-subscriptions N    how many subscriptions a client has, else 1000\n"
+    "  --max-shared N           how many filters of shared subscriptions there are, of all clients, else 100\n"
     "  --max-retained N         how many messages are retained, else 10000\n"
     "  --max-queued-messages N  how many messages wait for a client, else 100000\n"
     "  --max-queued-bytes N     and how many bytes these have, else 67108864\n"
@@ -55,8 +56,9 @@ static const struct number {
     {"--max-inflight", &options.ids, 1, 65535}, {"--max-topic-alias", &options.alias_max, 0, 65535},
     {"--max-keepalive", &options.keep_alive_max, 0, 65535},
     {"--max-sessions", &options.clients, 1, ULONG_MAX}, {"--max-subscriptions", &options.subscriptions, 0, ULONG_MAX},
-    {"--max-retained", &options.retained, 0, ULONG_MAX}, {"--max-queued-messages", &options.queued, 0, ULONG_MAX},
-    {"--max-queued-bytes", &options.queued_bytes, 0, ULONG_MAX}, {NULL, NULL, 0, 0},
+    {"--max-shared", &options.shared, 0, ULONG_MAX}, {"--max-retained", &options.retained, 0, ULONG_MAX},
+    {"--max-queued-messages", &options.queued, 0, ULONG_MAX}, {"--max-queued-bytes", &options.queued_bytes, 0, ULONG_MAX},
+    {NULL, NULL, 0, 0},
 };
 
 static void set_number(const char *option, const char *text) {

@@ -8,7 +8,7 @@
 struct options {
     unsigned long port, most, longest, ids, wait_for; /* most connections, the longest packet, messages in flight, and seconds */
     unsigned long alias_max, keep_alive_max;          /* the greatest alias, and seconds */
-    unsigned long clients, subscriptions, retained, queued, queued_bytes;
+    unsigned long clients, subscriptions, shared, retained, queued, queued_bytes;
     const char *bound, *users, *rights; /* an address, and files or NULL */
     bool oldest, quiet; /* of long queues the oldest messages are dropped; no log */
 };

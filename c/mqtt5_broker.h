@@ -42,15 +42,16 @@ typedef struct {
 uint32_t mqtt5_broker_new(mqtt5_broker *b, size_t connections, uint32_t longest, uint16_t ids, uint32_t wait, uint16_t alias_max,
     uint16_t keep_alive_max, uint64_t first_name);
 
-/* What may be kept at most, from now on; before that there is no bound. How many clients are known at once, connected or
-   away, and how many messages are retained: one more is refused with Quota exceeded (0x97), but a will is retained all the
-   same, and as many clients are taken as there once were. How many subscriptions a client has, how many publishes wait in
-   its queue, and how many bytes these have as frames. Where more wait, mqtt5_broker_trim lets messages of QoS 0 at the
-   front of the queue go, or with `oldest` the first of any QoS, and it ends the sessions of clients that have more all the
-   same. A Subscribe of more filters than there may be subscriptions, or of which the copies of retained messages may have no room
-   in the queue, ends its connection by 0x97. */
-uint32_t mqtt5_broker_bound(
-    mqtt5_broker *b, size_t clients, size_t subscriptions, size_t retained, size_t queued, uint64_t bytes, bool oldest);
+/* What may be kept at most, from now on; before that there is no bound. How many clients are known at once, connected or away,
+   and how many messages are retained: one more is refused with Quota exceeded (0x97), but a will is retained all the same, and
+   as many clients are taken as there once were. How many subscriptions a client has, and how many filters of shared
+   subscriptions there are, of all clients. How many publishes wait in its queue, and how many bytes these have as frames.
+   Where more wait, mqtt5_broker_trim lets messages of QoS 0 at the front of the queue go, or with `oldest` the first of any
+   QoS, and it ends the sessions of clients that have more all the same. A Subscribe of more filters than there may be
+   subscriptions, that brings more shared ones which nobody has yet than there is room for, or of which the copies of retained
+   messages may have no room in the queue, ends its connection by 0x97. */
+uint32_t mqtt5_broker_bound(mqtt5_broker *b, size_t clients, size_t subscriptions, size_t shared, size_t retained,
+    size_t queued, uint64_t bytes, bool oldest);
 
 /* Lets the broker go, with all that it holds; the handle is empty again. */
 uint32_t mqtt5_broker_free(mqtt5_broker *b);

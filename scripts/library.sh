@@ -142,7 +142,8 @@ is_server() {
         case $1 in
             -q | --quiet | --discard-oldest) ;;
             -p | --port | --bind | --users | --acl-file | --wait | --max-connections | --max-packet-size | --max-inflight | --max-sessions | \
-                --max-subscriptions | --max-retained | --max-queued-messages | --max-queued-bytes | --max-topic-alias | --max-keepalive)
+                --max-subscriptions | --max-shared | --max-retained | --max-queued-messages | --max-queued-bytes | --max-topic-alias | \
+                --max-keepalive)
                 [ $# -gt 1 ] || return
                 shift
                 ;;

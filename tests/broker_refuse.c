@@ -218,7 +218,7 @@ static void begins(mqtt5_broker *b, told *t) {
         code = mqtt5_broker_new(b, 3, 64, 10, 0, 2, 0, 0);
     }
     EXPECT(code, MQTT5_BROKER_DONE);
-    EXPECT(mqtt5_broker_bound(b, 3, 2, 0, 1, 100, false), MQTT5_BROKER_DONE);
+    EXPECT(mqtt5_broker_bound(b, 3, 2, 1, 0, 1, 100, false), MQTT5_BROKER_DONE);
     for (size_t connection = 0; connection < 3; connection++) {
         bool begun = false;
         EXPECT(mqtt5_broker_open(b, connection, 0, &begun), MQTT5_BROKER_DONE);

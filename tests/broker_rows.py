@@ -1988,6 +1988,23 @@ async def copies_beyond_bounds(_):
         await pub.ping()
 
 
+@row(mosquitto=False)  # (it has no such bound)
+async def shared_beyond_bounds(_):
+    """A Subscribe that brings more filters of shared subscriptions than there may be ends the connection (4.13, Quota exceeded);
+    others take part in those that there are, and there is room again once nobody has one."""
+    async with started("--max-shared", "2") as b, b.connected("shared-one") as one:
+        await one.subscribe("$share/a/shared/x", "$share/b/shared/x")
+        two = b.client("shared-two")
+        await two.connect()
+        two.send(subscribe_frame(1, [("$share/c/shared/x", 0)]))
+        await two.ends_by(0x97)
+        async with b.connected("shared-three") as three:
+            await three.subscribe("$share/a/shared/x", "shared/+")
+            await one.unsubscribe("$share/b/shared/x")
+            await three.subscribe("$share/c/shared/x")
+            await one.ping()
+
+
 @row(mosquitto=False)  # (its bounds have other names, and it drops messages)
 async def bounds(_):
     """What is kept at most: sessions, also of clients that are away, and retained messages; and what the server measures once a

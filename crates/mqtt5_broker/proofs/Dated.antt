@@ -1,7 +1,6 @@
 -- The interval of a will that is published, or isn't after all.
-use Rattle.std.proofs.Common.{◌≡◌, ℕ, Bool, List, Option, Result, Ok, Err, ap, ◌∙◌, not, ◌&&◌}
-use Rattle.std.specs.Prelude.{option_map, OnErr, IfOk}
-use Rattle.mqtt5_codec.specs.declared.packet.Packet.{Packet}
+use Rattle.std.proofs.Common.{◌≡◌, ℕ, Bool, Option, Result, Ok, Err, ap, ◌∙◌, not, ◌&&◌}
+use Rattle.std.specs.Prelude.{option_map, OnErr}
 use Rattle.mqtt5_sessions.specs.Sessions.{Sessions, dates, sent_again}
 use Rattle.mqtt5_sessions.specs.Expiry.{will_expiry, will_is_delayed}
 use Rattle.mqtt5_sessions.proofs.Delivered.{dated_back, sent_dated}

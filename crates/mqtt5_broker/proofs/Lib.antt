@@ -20,5 +20,7 @@ pub mod Within
 pub mod Permitted
 pub mod Sharing
 pub mod Turning
+pub mod Firsts
 pub mod Parts
+pub mod Counted
 pub mod Dated

@@ -3,6 +3,7 @@ use Rattle.std.proofs.Common.{◌≡◌, ◌≢◌, ℕ, zero, suc, Bool, true, 
 use Rattle.std.specs.Prelude.{⊤}
 use Rattle.std.specs.List.{Contains}
 use Rattle.std.specs.Str.{is_utf8}
+use Rattle.std.proofs.lemmas.List.{map-id}
 use Rattle.std.proofs.lemmas.Bool.{eqb-true, eq-eqb}
 use Rattle.std.proofs.lemmas.Option.{none-some}
 use Rattle.std.proofs.lemmas.List.Elements.{All-nil}
@@ -25,7 +26,7 @@ use Rattle.mqtt5_sessions.specs.Sessions.{Sessions, ClientState, with_client, to
 use Rattle.mqtt5_sessions.specs.Runs as runs
 use Rattle.mqtt5_sessions.specs.Runs.{SessionEvent, after_event}
 use Rattle.mqtt5_broker.specs.Connection.{Connection, opened, of_user, connection_at}
-use Rattle.mqtt5_broker.specs.Groups.{Group, gives_all, turns_met, rotates, rotated_for, turned_for, groups_turned, sessions_turned, groups_before, sessions_before, joins_all, parts_from, asks_shared, ends_shared, groups_after, sessions_after, has_members, without_member, is_among, groups_without, sessions_without}
+use Rattle.mqtt5_broker.specs.Groups.{Group, gives_all, turns_met, rotates, rotated_for, turned_for, groups_turned, sessions_turned, groups_before, sessions_before, joins_all, parts_from, asks_shared, ends_shared, groups_after, sessions_after, has_members, without_member, is_among, groups_without, sessions_without, has_member, names, named_in, gives_if, left_in, is_group}
 use Rattle.mqtt5_broker.specs.Broker.{Broker, at_moment, on_connection, loses_client}
 use Rattle.mqtt5_broker.specs.Reasons.{refusal}
 use Rattle.mqtt5_broker.specs.Serving.{has_any, turns_away}
@@ -35,13 +36,14 @@ use Rattle.mqtt5_broker.specs.Acts.{Act, Session, Know, Regroup, Name, Moment, C
 use Rattle.mqtt5_broker.specs.Calls as calls
 use Rattle.mqtt5_broker.specs.Calls.{Call, Open, Identify, Reject, Receive, Sent, Pass, Close, Tick, SetBounds, Trim, ShutDown, AddUser, AllowPublish, AllowSubscribe, after_call, after_calls}
 use Rattle.mqtt5_broker.specs.Within.{subscriptions_in, subscriptions_at}
-use Rattle.mqtt5_broker.specs.Sharing.{turn_in, shares, has_turn_of, takes_part, first_of, AreDistinct, MayTurn, IsShared}
+use Rattle.mqtt5_broker.specs.Sharing.{turn_in, shares, has_turn_of, takes_part, first_of, AreDistinct, MayTurn, IsShared, first_in}
 use Rattle.mqtt5_broker.proofs.Clients.{out_same, loses_same, due_same, dates_same, leaves_same, comes_same, passes_same, changes_subscriptions, ended_state, pushed_subscriptions}
 use Rattle.mqtt5_broker.proofs.Turned.{all_kept, met_kept}
 use Rattle.mqtt5_broker.proofs.Steps.{IsOther, IsPlain, Step, Do, Comes, Leaves, step, steps}
 use Rattle.mqtt5_broker.proofs.Acting.{Done, loses_done, receives_done, passes_done, ticks_done, trims_at_done, shuts_down_done}
-use Rattle.mqtt5_broker.proofs.Sharing.{true_false, Shared, Turned, arrived, arrived_same, distinct_map, distinct_filter, distinct_joins, parted_filter, comes_shared, leaves_shared, other_shared}
-use Rattle.mqtt5_broker.proofs.Turning.{HasTurn, FirstShares, all_given, met_left, met_all, shares_turn, rotated_takes_part, joined_own, joined_other, named_after, plain_joins, plain_turn, parts_other, parts_own, plain_parts, turn_shares, none_unsubscribed, left_other, left_own, first_takes_part, somebody_first, and_false}
+use Rattle.mqtt5_broker.proofs.Sharing.{true_false, Shared, Turned, arrived, arrived_same, distinct_map, distinct_filter, distinct_joins, parted_filter, comes_shared, leaves_shared, other_shared, same_filter}
+use Rattle.mqtt5_broker.proofs.Turning.{HasTurn, FirstShares, picked_given, met_left, met_all, shares_turn, rotated_takes_part, joined_own, joined_other, named_after, plain_joins, plain_turn, parts_other, parts_own, plain_parts, turn_shares, none_unsubscribed, left_other, left_own, first_takes_part, somebody_first, and_false, kept_unsubscribed}
+use Rattle.mqtt5_broker.proofs.Firsts.{first_joins, turn_subscribed, first_filtered, first_parted_from, nobody_out, first_is_other}
 
 -- ---- sessions with groups
 
@@ -75,11 +77,21 @@ whole_same s t gs h w = (
   λ f i q. ap (shares f) (h i) ∙ w.2 f i q,
 )
 
--- the first of each is given the turn
-given_whole : (s : Sessions) (gs : List Group) → AreDistinct gs → Parts s gs → Named s → Whole (gives_all gs s) gs
-given_whole s gs d p n =
-    let a : Alike s (gives_all gs s) = all_kept (Alike s) (alike_turn s) gs s (λ f i. refl) in
-    (λ f i. p f i ∙ sym (a f i), λ f. all_given f gs s d (first_shares s gs p f), λ f i q. a f i ∙ n f i q)
+-- of those that a packet names the first is given the turn, and of others the first has it
+named_whole : (x : Packet) (s : Sessions) (gs : List Group) → AreDistinct gs → Parts s gs → Named s → ((f : Utf8) → names x f ≡ false → HasTurn f (first_of f gs) s) → Whole (gives_all (named_in x gs) s) gs
+named_whole x s gs d p n others = (λ f i. p f i ∙ sym (a f i), firsts, λ f i q. a f i ∙ n f i q)
+  where
+    t : Sessions
+    t = gives_all (named_in x gs) s
+
+    a : Alike s t
+    a = all_kept (Alike s) (alike_turn s) (named_in x gs) s (λ f i. refl)
+
+    firsts : Firsts t gs
+    firsts f =
+        subst (λ hs. HasTurn f (first_of f hs) t) (map-id gs)
+        (picked_given f (λ (g : Group). names x g.topic_filter) (λ (g : Group). g) (λ g. refl) gs s d (subst (λ hs. FirstShares f (first_of f hs) s) (sym (map-id gs)) (first_shares s gs p f))
+        (λ h its unnamed first. subst (λ o. HasTurn f o s) first (others f (ap (names x) (sym (same_filter h.topic_filter f its)) ∙ unnamed))))
 
 -- before a publish comes
 turned_whole : (t : List ℕ) (gs : List Group) (s : Sessions) → AreDistinct gs → Whole s gs → Whole (sessions_turned t gs s) (groups_turned t gs s)
@@ -200,11 +212,11 @@ module _ (i : ℕ) (p : Subscribe) (gs : List Group) (s : Sessions) (d : AreDist
   sub_groups a = cond a (joins_all i p.filters gs) gs
 
   abbrev SubWhole : Bool → Bool → Type 0
-  SubWhole v a = Whole (cond v (gives_all (sub_groups a) sub_came) sub_came) (cond v (sub_groups a) gs)
+  SubWhole v a = Whole (cond v (gives_if a (named_in sub (joins_all i p.filters gs)) sub_came) sub_came) (cond v (sub_groups a) gs)
 
   -- of nobody
   sub_nobody : Whole sub_came gs → (v : Bool) → SubWhole v false
-  sub_nobody k true = given_whole sub_came gs d k.0 k.2
+  sub_nobody k true = k
   sub_nobody k false = k
 
   module _ (c : ClientState) (was : subscriptions_at i s ≡ c.kept.subscriptions) (is : subscriptions_at i sub_came ≡ subscribed_all (identifier_of p.properties) p.filters c.kept.subscriptions) where
@@ -220,6 +232,14 @@ module _ (i : ℕ) (p : Subscribe) (gs : List Group) (s : Sessions) (d : AreDist
         (joined_own f i (identifier_of p.properties) p.filters gs c.kept.subscriptions (w.0 f i ∙ ap (shares f) was) (λ q. sym (ap (shares f) was) ∙ w.2 f i q) ∙ sym (ap (shares f) is))
         (λ n e. joined_other f i n p.filters gs (differs_back i n e) ∙ w.0 f n ∙ sym (ap (shares f) (came_other i sub s n e)))
 
+    -- of filters that it doesn't name
+    sub_others : (f : Utf8) → names sub f ≡ false → HasTurn f (first_of f (joins_all i p.filters gs)) sub_came
+    sub_others f unnamed =
+        subst (λ o. HasTurn f o sub_came) (sym (first_joins f i p.filters gs unnamed))
+        (of_each (λ n. first_of f gs ≡ Some n → has_turn_of f (subscriptions_at n sub_came) ≡ true) i
+        (λ e. ap (has_turn_of f) is ∙ turn_subscribed f (identifier_of p.properties) p.filters c.kept.subscriptions unnamed ∙ sym (ap (has_turn_of f) was) ∙ w.1 f i e)
+        (λ n e q. ap (has_turn_of f) (came_other i sub s n e) ∙ w.1 f n q))
+
     sub_turning : asks_shared p.filters ≡ false → Firsts sub_came gs
     sub_turning ask f =
         of_each (λ n. first_of f gs ≡ Some n → has_turn_of f (subscriptions_at n sub_came) ≡ true) i
@@ -227,7 +247,7 @@ module _ (i : ℕ) (p : Subscribe) (gs : List Group) (s : Sessions) (d : AreDist
         (λ n e q. ap (has_turn_of f) (came_other i sub s n e) ∙ w.1 f n q)
 
     sub_somebody : (v : Bool) → asks_shared p.filters ≡ v → SubWhole v true
-    sub_somebody true e = given_whole sub_came (joins_all i p.filters gs) (distinct_joins i p.filters gs d) sub_parts sub_named
+    sub_somebody true e = named_whole sub sub_came (joins_all i p.filters gs) (distinct_joins i p.filters gs d) sub_parts sub_named sub_others
     sub_somebody false e = (λ f n. ap (takes_part f n) (sym (plain_joins i p.filters gs e)) ∙ sub_parts f n, sub_turning e, sub_named)
 
   sub_whole : Whole (sessions_after (has_any (replies i sub s)) i sub gs sub_came) (groups_after (has_any (replies i sub s)) i sub gs)
@@ -251,10 +271,10 @@ module _ (i : ℕ) (p : Unsubscribe) (gs : List Group) (s : Sessions) (d : AreDi
   uns_groups a = cond a (parts_from i p.filters gs) gs
 
   abbrev UnsWhole : Bool → Bool → Type 0
-  UnsWhole v a = Whole (cond v (gives_all (uns_groups a) uns_came) uns_came) (cond v (uns_groups a) gs)
+  UnsWhole v a = Whole (cond v (gives_if a (named_in uns (parts_from i p.filters gs)) uns_came) uns_came) (cond v (uns_groups a) gs)
 
   uns_nobody : Whole uns_came gs → (v : Bool) → UnsWhole v false
-  uns_nobody k true = given_whole uns_came gs d k.0 k.2
+  uns_nobody k true = k
   uns_nobody k false = k
 
   uns_distinct : AreDistinct (parts_from i p.filters gs)
@@ -275,6 +295,14 @@ module _ (i : ℕ) (p : Unsubscribe) (gs : List Group) (s : Sessions) (d : AreDi
         (parts_own f i p.filters gs c.kept.subscriptions (w.0 f i ∙ ap (shares f) was) ∙ sym (ap (shares f) is))
         (λ n e. parts_other f i p.filters n gs e ∙ w.0 f n ∙ sym (ap (shares f) (came_other i uns s n e)))
 
+    -- of filters that it doesn't name
+    uns_others : (f : Utf8) → names uns f ≡ false → HasTurn f (first_of f (parts_from i p.filters gs)) uns_came
+    uns_others f unnamed =
+        subst (λ o. HasTurn f o uns_came) (sym (first_parted_from f i p.filters gs d unnamed))
+        (of_each (λ n. first_of f gs ≡ Some n → has_turn_of f (subscriptions_at n uns_came) ≡ true) i
+        (λ e. ap (has_turn_of f) is ∙ kept_unsubscribed turn_in f p.filters c.kept.subscriptions unnamed ∙ sym (ap (has_turn_of f) was) ∙ w.1 f i e)
+        (λ n e q. ap (has_turn_of f) (came_other i uns s n e) ∙ w.1 f n q))
+
     uns_plain : ends_shared p.filters ≡ false → Whole uns_came gs
     uns_plain ends_none = (
       λ f. of_each (λ n. takes_part f n gs ≡ shares f (subscriptions_at n uns_came)) i
@@ -287,7 +315,7 @@ module _ (i : ℕ) (p : Unsubscribe) (gs : List Group) (s : Sessions) (d : AreDi
     )
 
     uns_somebody : (v : Bool) → ends_shared p.filters ≡ v → UnsWhole v true
-    uns_somebody true e = given_whole uns_came (parts_from i p.filters gs) uns_distinct uns_parts uns_named
+    uns_somebody true e = named_whole uns uns_came (parts_from i p.filters gs) uns_distinct uns_parts uns_named uns_others
     uns_somebody false e = uns_plain e
 
   uns_whole : Whole (sessions_after (has_any (replies i uns s)) i uns gs uns_came) (groups_after (has_any (replies i uns s)) i uns gs)
@@ -309,10 +337,19 @@ comes_whole i (packets.Unsubscribe p) gs s d w = uns_whole i p gs s d w
 comes_whole i other gs s d w = plain_whole i other s tt gs w
 
 leaves_whole : (i : ℕ) (gs : List Group) (s : Sessions) → AreDistinct gs → Whole s gs → Whole (sessions_without i gs (ends i s)) (groups_without i gs)
-leaves_whole i gs s d w = given_whole t (groups_without i gs) (distinct_filter has_members (map (without_member i) gs) (distinct_map (without_member i) (λ g. refl) gs d)) parts names
+leaves_whole i gs s d w = (λ f n. parts f n ∙ sym (a f n), firsts, λ f n q. a f n ∙ named f n q)
   where
     t : Sessions
     t = ends i s
+
+    u : Sessions
+    u = gives_all (left_in i gs) t
+
+    a : Alike t u
+    a = all_kept (Alike t) (alike_turn t) (left_in i gs) t (λ f n. refl)
+
+    gone : AreDistinct (map (without_member i) gs)
+    gone = distinct_map (without_member i) (λ g. refl) gs d
 
     is : (j : ℕ) → subscriptions_at j t ≡ subscriptions_in j (with_client i ended_state s.clients)
     is = changes_subscriptions i ended_state (λ (c : ClientState). message_of c.will) s
@@ -332,8 +369,20 @@ leaves_whole i gs s d w = given_whole t (groups_without i gs) (distinct_filter h
         of_each (λ n. takes_part f n (groups_without i gs) ≡ shares f (subscriptions_at n t)) i (left_own f i gs ∙ sym (ap (shares f) none))
         (λ n e. left_other f i n gs e ∙ w.0 f n ∙ sym (ap (shares f) (others n e)))
 
-    names : Named t
-    names f j q = of_each (λ n. shares f (subscriptions_at n t) ≡ false) i (ap (shares f) none) (λ n e. ap (shares f) (others n e) ∙ w.2 f n q) j
+    named : Named t
+    named f j q = of_each (λ n. shares f (subscriptions_at n t) ≡ false) i (ap (shares f) none) (λ n e. ap (shares f) (others n e) ∙ w.2 f n q) j
+
+    -- the first of a group in which it wasn't
+    spared : (f : Utf8) (h : Group) → is_group f h ≡ true → has_member i h.members ≡ false → first_of f gs ≡ first_in h.members → HasTurn f (first_in (without_member i h).members) t
+    spared f h its absent first j e =
+        let own : first_in h.members ≡ Some j = sym (ap first_in (nobody_out i h.members absent)) ∙ e in
+        ap (has_turn_of f) (others j (first_is_other i j h.members absent own)) ∙ w.1 f j (first ∙ own)
+
+    firsts : Firsts u (groups_without i gs)
+    firsts f =
+        subst (λ o. HasTurn f o u) (sym (first_filtered f (map (without_member i) gs) gone))
+        (picked_given f (λ (g : Group). has_member i g.members) (without_member i) (λ g. refl) gs t d
+        (subst (λ o. FirstShares f o t) (first_filtered f (map (without_member i) gs) gone) (first_shares t (groups_without i gs) parts f)) (spared f))
 
 other_whole : (e : SessionEvent) → IsOther e → (gs : List Group) (s : Sessions) → Whole s gs → Whole (after_event e s) gs
 other_whole (runs.Joins limit) h gs s w = whole_same s (after_event (runs.Joins limit) s) gs (λ j. pushed_subscriptions limit j s.clients) w

@@ -1,5 +1,5 @@
 -- Who has the turn in a shared subscription is the first of its group, whatever is called.
-use Rattle.std.proofs.Common.{◌≡◌, ◌≢◌, ℕ, zero, suc, ◌+◌, ◌<◌, Bool, true, false, List, [], ◌∷◌, ◌++◌, Option, Some, None, refl, sym, subst, ap, ◌∙◌, set, get_or, cond, not, length, map, ◌==◌, ◌||◌, ◌⊎◌, inl, inr, arith, nat_lt}
+use Rattle.std.proofs.Common.{◌≡◌, ◌≢◌, ℕ, zero, suc, ◌+◌, ◌<◌, Bool, true, false, List, [], ◌∷◌, ◌++◌, Option, Some, None, refl, sym, subst, ap, ◌∙◌, set, get_or, cond, not, length, map, ◌==◌, ◌||◌, ◌⊎◌, inl, inr, arith, nat_lt, if◌then◌else◌}
 use Rattle.std.proofs.Math.Numerals.{one-add}
 use Rattle.std.specs.Prelude.{option_map, filter, nat_eq}
 use Rattle.std.specs.List.{list_any, position, position_or_len}
@@ -8,6 +8,7 @@ use Rattle.std.specs.Cmp.Lexicographic.{pointwise, same_text}
 use Rattle.std.proofs.lemmas.Bool.{eqb-true, eq-eqb, ne_eqb, leb-false, lt-leb}
 use Rattle.std.proofs.lemmas.Cmp.{nat_list_eq_equiv}
 use Rattle.std.proofs.lemmas.Option.{none-some}
+use Rattle.std.proofs.lemmas.List.{map-id}
 use Rattle.std.proofs.lemmas.List.Elements.{All-nil, All-cons, All-head, All-tail, All-append, All-filter}
 use Rattle.std.proofs.lemmas.List.Folds.{list_any-append}
 use Rattle.mqtt5_base.specs.Texts.{Utf8}
@@ -27,7 +28,7 @@ use Rattle.mqtt5_router.specs.Kept.{without_events, kept_of, alone, after_packet
 use Rattle.mqtt5_sessions.specs.Sessions.{Sessions, ClientState, gets, with_client, with_turn_of, turns, arrives, passes, takes_out, loses, is_due, dates, leaves, comes, ends}
 use Rattle.mqtt5_sessions.specs.Runs as runs
 use Rattle.mqtt5_sessions.specs.Runs.{SessionEvent, after_event}
-use Rattle.mqtt5_broker.specs.Groups.{Group, is_group, has_members, has_member, without_member, with_member, rotated, turns_of, turns_first, gives_all, meets, turns_met, rotates, rotated_for, turned_for, groups_turned, sessions_turned, no_group, joined, joins_by, joins_all, is_among, parts_from, asks_shared, ends_shared, groups_before, sessions_before, groups_after, sessions_after, groups_without, sessions_without}
+use Rattle.mqtt5_broker.specs.Groups.{Group, is_group, has_members, has_member, without_member, with_member, rotated, turns_of, turns_first, picked, gives_all, meets, turns_met, rotates, rotated_for, turned_for, groups_turned, sessions_turned, no_group, joined, joins_by, joins_all, is_among, parts_from, asks_shared, ends_shared, groups_before, sessions_before, names, named_in, gives_if, groups_after, sessions_after, left_in, groups_without, sessions_without}
 use Rattle.mqtt5_broker.specs.Within.{subscriptions_in, subscriptions_at}
 use Rattle.mqtt5_broker.specs.Sharing.{turn_in, first_in, first_of, AreDistinct, MayTurn}
 use Rattle.mqtt5_broker.proofs.Names.{text_is}
@@ -191,7 +192,7 @@ module _ (f : Utf8) where
   abbrev pub NoneOf : List Group → Type 0
   NoneOf gs = list_any (is_group f) gs ≡ false
 
-  none_first : (gs : List Group) → NoneOf gs → first_of f gs ≡ None
+  pub none_first : (gs : List Group) → NoneOf gs → first_of f gs ≡ None
   none_first [] e = refl
   none_first (g ∷ gs) e = ap (λ v. cond v (first_in g.members) (first_of f gs)) (or_left (is_group f g) (list_any (is_group f) gs) e) ∙ none_first gs (or_right (is_group f g) (list_any (is_group f) gs) e)
 
@@ -204,14 +205,33 @@ module _ (f : Utf8) where
   gives_others (g ∷ gs) o s e m =
       gives_others gs o (turns_first true g s) (or_right (is_group f g) (list_any (is_group f) gs) e) (first_other true o g s (or_left (is_group f g) (list_any (is_group f) gs) e) m)
 
-  gives_own : (gs : List Group) (s : Sessions) → AreDistinct gs → Only s f (first_of f gs) → Only (gives_all gs s) f (first_of f gs)
-  gives_own [] s d m = m
-  gives_own (g ∷ gs) s d m = by (is_group f g) refl (λ k. gives_own gs (turns_first true g s) d.1 k) m
-    where
-      by : (v : Bool) → is_group f g ≡ v → (Only (turns_first true g s) f (first_of f gs) → Only (gives_all gs (turns_first true g s)) f (first_of f gs)) → Only s f (cond v (first_in g.members) (first_of f gs))
-          → Only (gives_all gs (turns_first true g s)) f (cond v (first_in g.members) (first_of f gs))
-      by true e rest k = gives_others gs (first_in g.members) (turns_first true g s) (no_others g gs e d) (first_given g s e k)
-      by false e rest k = rest (first_other true (first_of f gs) g s e k)
+  -- those that pass a test, and keep their filters when they change
+  module _ (q : Group → Bool) (F : Group → Group) (keeps : (g : Group) → (F g).topic_filter ≡ g.topic_filter) where
+    pub changed_is : (g : Group) → is_group f (F g) ≡ is_group f g
+    changed_is g = ap (λ (h : Utf8). pointwise nat_eq h.bytes f.bytes) (keeps g)
+
+    pub none_picked : (gs : List Group) → NoneOf gs → NoneOf (picked q F gs)
+    none_picked [] e = refl
+    none_picked (g ∷ gs) e = by (q g) (none_picked gs (or_right (is_group f g) (list_any (is_group f) gs) e))
+      where
+        by : (v : Bool) → NoneOf (picked q F gs) → NoneOf (if v then F g ∷ picked q F gs else picked q F gs)
+        by true rest = ap (λ b. b || list_any (is_group f) (picked q F gs)) (changed_is g ∙ or_left (is_group f g) (list_any (is_group f) gs) e) ∙ rest
+        by false rest = rest
+
+    gives_picked : (gs : List Group) (s : Sessions) → AreDistinct gs → Only s f (first_of f (map F gs)) → Only (gives_all (picked q F gs) s) f (first_of f (map F gs))
+    gives_picked [] s d m = m
+    gives_picked (g ∷ gs) s d m = by (is_group f (F g)) refl (q g) (λ x k. gives_picked gs x d.1 k) m
+      where
+        firsts : Option ℕ
+        firsts = first_of f (map F gs)
+
+        by : (v : Bool) → is_group f (F g) ≡ v → (w : Bool) → ((x : Sessions) → Only x f firsts → Only (gives_all (picked q F gs) x) f firsts) → Only s f (cond v (first_in (F g).members) firsts)
+            → Only (gives_all (if w then F g ∷ picked q F gs else picked q F gs) s) f (cond v (first_in (F g).members) firsts)
+        by true e true rest k =
+            gives_others (picked q F gs) (first_in (F g).members) (turns_first true (F g) s) (none_picked gs (no_others g gs (sym (changed_is g) ∙ e) d)) (first_given (F g) s e k)
+        by true e false rest k = gives_others (picked q F gs) (first_in (F g).members) s (none_picked gs (no_others g gs (sym (changed_is g) ∙ e) d)) k
+        by false e true rest k = rest (turns_first true (F g) s) (first_other true firsts (F g) s e k)
+        by false e false rest k = rest s k
 
   -- ---- those that a topic matches
 
@@ -428,7 +448,7 @@ with_filter i g = by (has_member i g.members)
     by true = refl
     by false = refl
 
-any_set : (i : ℕ) (h : Utf8) (n : ℕ) (gs : List Group) → list_any (is_group h) (set gs n (with_member i (get_or gs n no_group))) ≡ list_any (is_group h) gs
+pub any_set : (i : ℕ) (h : Utf8) (n : ℕ) (gs : List Group) → list_any (is_group h) (set gs n (with_member i (get_or gs n no_group))) ≡ list_any (is_group h) gs
 any_set i h n [] = refl
 any_set i h zero (g ∷ gs) = ap (λ (t : Utf8). pointwise nat_eq t.bytes h.bytes || list_any (is_group h) gs) (with_filter i g)
 any_set i h (suc n) (g ∷ gs) = ap (λ v. is_group h g || v) (any_set i h n gs)
@@ -451,7 +471,7 @@ none_at h (g ∷ gs) e = by (none_at h gs) (is_group h g) refl e
         let past : suc (length gs) < suc (suc p) = leb-false (suc (suc p)) (suc (length gs)) more in
         rest (lt-leb (suc p) (length gs) (omega (arith, past)))
 
-none_there : (h : Utf8) (gs : List Group) → position (is_group h) gs ≡ None → list_any (is_group h) gs ≡ false
+pub none_there : (h : Utf8) (gs : List Group) → position (is_group h) gs ≡ None → list_any (is_group h) gs ≡ false
 none_there h gs e = none_at h gs (by (nat_lt (position_or_len (is_group h) gs) (length gs)) e)
   where
     by : (v : Bool) → cond v (Some (position_or_len (is_group h) gs)) None ≡ None → v ≡ false
@@ -589,8 +609,13 @@ turned_shared t gs s q = by (is_utf8 t)
     by false = q
 
 -- others take part, of whom the first have the turns
-given_shared : (gs : List Group) (s : Sessions) → Shared s gs → Shared (gives_all gs s) gs
-given_shared gs s q = (q.0, λ f. gives_own f gs s q.0 (q.1 f))
+named_shared : (x : Packet) (gs : List Group) (s : Sessions) → Shared s gs → Shared (gives_all (named_in x gs) s) gs
+named_shared x gs s q = (
+  q.0,
+  λ f.
+      subst (λ hs. Only (gives_all (named_in x gs) s) f (first_of f hs)) (map-id gs)
+      (gives_picked f (λ (g : Group). names x g.topic_filter) (λ (g : Group). g) (λ g. refl) gs s q.0 (subst (λ hs. Only s f (first_of f hs)) (sym (map-id gs)) (q.1 f))),
+)
 
 arrives_shared : (i : ℕ) (x : Packet) (gs : List Group) (s : Sessions) → Shared s gs → Shared (arrives i x s) gs
 arrives_shared i x gs s q = (q.0, λ f. arrives_only i x s f (first_of f gs) (q.1 f))
@@ -624,9 +649,9 @@ comes_shared answered i (packets.Subscribe p) gs s q = by (asks_shared p.filters
     came : Shared (arrives i x s) gs
     came = arrives_shared i x gs s q
 
-    by : (v a : Bool) → Shared (cond v (gives_all (cond a (joins_all i p.filters gs) gs) (arrives i x s)) (arrives i x s)) (cond v (cond a (joins_all i p.filters gs) gs) gs)
-    by true true = given_shared (joins_all i p.filters gs) (arrives i x s) (joins_shared i p.filters gs (arrives i x s) came)
-    by true false = given_shared gs (arrives i x s) came
+    by : (v a : Bool) → Shared (cond v (gives_if a (named_in x (joins_all i p.filters gs)) (arrives i x s)) (arrives i x s)) (cond v (cond a (joins_all i p.filters gs) gs) gs)
+    by true true = named_shared x (joins_all i p.filters gs) (arrives i x s) (joins_shared i p.filters gs (arrives i x s) came)
+    by true false = came
     by false a = came
 comes_shared answered i (packets.Unsubscribe p) gs s q = by (ends_shared p.filters) answered
   where
@@ -636,19 +661,21 @@ comes_shared answered i (packets.Unsubscribe p) gs s q = by (ends_shared p.filte
     came : Shared (arrives i x s) gs
     came = arrives_shared i x gs s q
 
-    by : (v a : Bool) → Shared (cond v (gives_all (cond a (parts_from i p.filters gs) gs) (arrives i x s)) (arrives i x s)) (cond v (cond a (parts_from i p.filters gs) gs) gs)
-    by true true = given_shared (parts_from i p.filters gs) (arrives i x s) (parts_shared i p.filters gs (arrives i x s) (λ f e. arrives_none f i p s e) came)
-    by true false = given_shared gs (arrives i x s) came
+    by : (v a : Bool) → Shared (cond v (gives_if a (named_in x (parts_from i p.filters gs)) (arrives i x s)) (arrives i x s)) (cond v (cond a (parts_from i p.filters gs) gs) gs)
+    by true true = named_shared x (parts_from i p.filters gs) (arrives i x s) (parts_shared i p.filters gs (arrives i x s) (λ f e. arrives_none f i p s e) came)
+    by true false = came
     by false a = came
 comes_shared answered i other gs s q = arrives_shared i other gs s q
 
 pub leaves_shared : (i : ℕ) (gs : List Group) (s : Sessions) → Shared s gs → Shared (sessions_without i gs (ends i s)) (groups_without i gs)
 leaves_shared i gs s q =
     let t : Sessions = ends i s in
-    let m : (f : Utf8) → Only t f (first_of f gs) = λ f. fewer_only s t f (first_of f gs) (ends_fewer i s) (q.1 f) in
-    given_shared (groups_without i gs) t (
+    let m : (f : Utf8) → Only t f (first_of f gs) = λ f. fewer_only s t f (first_of f gs) (ends_fewer i s) (q.1 f) in (
       distinct_filter has_members (map (without_member i) gs) (distinct_map (without_member i) (λ g. refl) gs q.0),
-      λ f. emptied f t (map (without_member i) gs) (parted f (without_member i) t (λ g. refl) (λ g e k. first_parted f i t g.members (ends_none f i s) k) gs (m f)),
+      λ f.
+          emptied f (gives_all (left_in i gs) t) (map (without_member i) gs)
+          (gives_picked f (λ (g : Group). has_member i g.members) (without_member i) (λ g. refl) gs t q.0
+          (parted f (without_member i) t (λ g. refl) (λ g e k. first_parted f i t g.members (ends_none f i s) k) gs (m f))),
     )
 
 pub other_shared : (e : SessionEvent) → IsOther e → (gs : List Group) (s : Sessions) → Shared s gs → Shared (after_event e s) gs

@@ -12,7 +12,7 @@ use Rattle.mqtt5_network.specs.Subscriptions.{is_of, pattern_in, pattern_of, wit
 use Rattle.mqtt5_sessions.specs.Sessions.{Sessions, with_client, with_turn_of, turns}
 use Rattle.mqtt5_sessions.specs.Runs.{SessionEvent, Turns, after_event, after_events}
 use Rattle.mqtt5_broker.specs.Rights.{is_within}
-use Rattle.mqtt5_broker.specs.Groups.{Group, turns_of, turns_first, gives_all, meets, turns_met, rotated_for, turned_for, sessions_turned, groups_before, sessions_before, regroups, regrouped_if, sessions_after, sessions_without, groups_without}
+use Rattle.mqtt5_broker.specs.Groups.{Group, turns_of, turns_first, gives_all, meets, turns_met, rotated_for, turned_for, sessions_turned, groups_before, sessions_before, regroups, regrouped, named_in, gives_if, sessions_after, left_in, sessions_without}
 use Rattle.mqtt5_broker.specs.Within.{subscriptions_in, subscriptions_at, AreWithin}
 use Rattle.mqtt5_broker.proofs.Clients.{Changed, changed, changes_count, changes_subscriptions}
 
@@ -50,14 +50,18 @@ module _ (P : Sessions → Type 0) (keeps : (i : ℕ) (f : Utf8) (on : Bool) (s 
   before_kept other gs s q = q
 
   pub after_kept : (answered : Bool) (i : ℕ) (x : Packet) (gs : List Group) (s : Sessions) → P s → P (sessions_after answered i x gs s)
-  after_kept answered i x gs s p = by (regroups x)
+  after_kept answered i x gs s p = by (regroups x) answered
     where
-      by : (v : Bool) → P (if v then gives_all (regrouped_if answered i x gs) s else s)
-      by true = all_kept (regrouped_if answered i x gs) s p
-      by false = p
+      named : List Group
+      named = named_in x (regrouped i x gs)
+
+      by : (v a : Bool) → P (if v then gives_if a named s else s)
+      by true true = all_kept named s p
+      by true false = p
+      by false a = p
 
   pub without_kept : (i : ℕ) (gs : List Group) (s : Sessions) → P s → P (sessions_without i gs s)
-  without_kept i gs s p = all_kept (groups_without i gs) s p
+  without_kept i gs s p = all_kept (left_in i gs) s p
 
 -- ---- events
 

@@ -1,5 +1,5 @@
 -- Who takes part in a shared subscription is who has it, and the first of those has the turn.
-use Rattle.std.proofs.Common.{◌≡◌, ℕ, zero, suc, ◌+◌, ◌<◌, Bool, true, false, List, [], ◌∷◌, ◌++◌, Option, Some, None, refl, sym, subst, ap, ◌∙◌, set, get_or, cond, not, length, map, take, drop, is_some, ◌==◌, ◌&&◌, ◌||◌, inl, inr, arith}
+use Rattle.std.proofs.Common.{◌≡◌, ℕ, zero, suc, ◌+◌, ◌<◌, Bool, true, false, List, [], ◌∷◌, ◌++◌, Option, Some, None, refl, sym, subst, ap, ◌∙◌, set, get_or, cond, not, length, map, take, drop, is_some, ◌==◌, ◌&&◌, ◌||◌, inl, inr, arith, if◌then◌else◌}
 use Rattle.std.specs.Prelude.{option_map, filter, nat_eq}
 use Rattle.std.specs.List.{list_any, position}
 use Rattle.std.specs.Cmp.Lexicographic.{pointwise}
@@ -15,10 +15,10 @@ use Rattle.mqtt5_network.specs.declared.subscription.Subscription.{Subscription}
 use Rattle.mqtt5_network.specs.Subscriptions.{is_of, subscribed, unsubscribed, with_turn, turned}
 use Rattle.mqtt5_network.specs.Asking.{share_of, subscription_of, subscribed_all, unsubscribed_all}
 use Rattle.mqtt5_sessions.specs.Sessions.{Sessions, turns}
-use Rattle.mqtt5_broker.specs.Groups.{Group, is_group, has_members, has_member, without_member, with_member, next_here, from_next, rotated, turns_of, turns_first, gives_all, meets, turns_met, rotates, no_group, joined, joins_by, joins_all, is_among, parts_from, asks_shared, ends_shared, groups_without}
+use Rattle.mqtt5_broker.specs.Groups.{Group, is_group, has_members, has_member, without_member, with_member, next_here, from_next, rotated, turns_of, turns_first, gives_all, meets, turns_met, rotates, no_group, joined, joins_by, joins_all, is_among, parts_from, asks_shared, ends_shared, groups_without, picked}
 use Rattle.mqtt5_broker.specs.Within.{subscriptions_at}
 use Rattle.mqtt5_broker.specs.Sharing.{turn_in, any_share, shares, has_turn_of, takes_part, first_in, first_of, AreDistinct}
-use Rattle.mqtt5_broker.proofs.Sharing.{same_filter, not_both, true_false, Turns, turned_in, same, or_left, or_right, NoneOf, no_others, left, rotated_none, not_empty}
+use Rattle.mqtt5_broker.proofs.Sharing.{same_filter, not_both, true_false, Turns, turned_in, same, or_left, or_right, NoneOf, no_others, left, rotated_none, not_empty, changed_is, none_picked}
 
 -- ---- truth values
 
@@ -81,14 +81,14 @@ module _ (q : Option Share → Bool) (f : Utf8) where
       ∙ ap (λ v. v || ((is_of f s && q s.share) || false)) (subst (λ (h : Utf8). any_share q f (unsubscribed h ss) ≡ false) (sym (same_filter s.topic_filter f e)) (removed_own ss))
       ∙ ap (λ v. (v && q s.share) || false) e ∙ or_false (q s.share)
 
-  subscribed_other : (s : Subscription) (ss : List Subscription) → is_of f s ≡ false → any_share q f (subscribed s ss) ≡ any_share q f ss
+  pub subscribed_other : (s : Subscription) (ss : List Subscription) → is_of f s ≡ false → any_share q f (subscribed s ss) ≡ any_share q f ss
   subscribed_other s ss e =
       list_any-append (λ (x : Subscription). is_of f x && q x.share) (unsubscribed s.topic_filter ss) (s ∷ [])
       ∙ ap (λ v. v || ((is_of f s && q s.share) || false)) (removed_other s.topic_filter ss e)
       ∙ ap (λ v. any_share q f ss || ((v && q s.share) || false)) e ∙ or_false (any_share q f ss)
 
   -- those of an Unsubscribe
-  kept_unsubscribed : (hs : List Utf8) (ss : List Subscription) → is_among hs f ≡ false → any_share q f (unsubscribed_all hs ss) ≡ any_share q f ss
+  pub kept_unsubscribed : (hs : List Utf8) (ss : List Subscription) → is_among hs f ≡ false → any_share q f (unsubscribed_all hs ss) ≡ any_share q f ss
   kept_unsubscribed [] ss e = refl
   kept_unsubscribed (h ∷ hs) ss e =
       kept_unsubscribed hs (unsubscribed h ss) (or_right f (pointwise nat_eq h.bytes f.bytes) (is_among hs f) e) ∙ removed_other h ss (or_left f (pointwise nat_eq h.bytes f.bytes) (is_among hs f) e)
@@ -206,14 +206,33 @@ module _ (f : Utf8) where
   all_other [] o s e m = m
   all_other (g ∷ gs) o s e m = all_other gs o (turns_first true g s) (or_right f (is_group f g) (list_any (is_group f) gs) e) (other_has true o g s (or_left f (is_group f g) (list_any (is_group f) gs) e) m)
 
-  pub all_given : (gs : List Group) (s : Sessions) → AreDistinct gs → FirstShares f (first_of f gs) s → HasTurn f (first_of f gs) (gives_all gs s)
-  all_given [] s d m = λ i e. absurd (none-some i e)
-  all_given (g ∷ gs) s d m = by (is_group f g) refl (λ k. all_given gs (turns_first true g s) d.1 k) m
-    where
-      by : (v : Bool) → is_group f g ≡ v → (FirstShares f (first_of f gs) (turns_first true g s) → HasTurn f (first_of f gs) (gives_all gs (turns_first true g s))) → FirstShares f (cond v (first_in g.members) (first_of f gs)) s
-          → HasTurn f (cond v (first_in g.members) (first_of f gs)) (gives_all gs (turns_first true g s))
-      by true e rest k = all_other gs (first_in g.members) (turns_first true g s) (no_others f g gs e d) (own_has g s e k)
-      by false e rest k = rest (other_shares true (first_of f gs) g s k)
+  -- those that pass a test are given the turns, where of one that doesn't the first has it already
+  module _ (q : Group → Bool) (F : Group → Group) (keeps : (g : Group) → (F g).topic_filter ≡ g.topic_filter) where
+    abbrev pub Spared : List Group → Sessions → Type 0
+    Spared gs s = (h : Group) → is_group f h ≡ true → q h ≡ false → first_of f gs ≡ first_in h.members → HasTurn f (first_in (F h).members) s
+
+    pub picked_given : (gs : List Group) (s : Sessions) → AreDistinct gs → FirstShares f (first_of f (map F gs)) s → Spared gs s → HasTurn f (first_of f (map F gs)) (gives_all (picked q F gs) s)
+    picked_given [] s d m spared = λ i e. absurd (none-some i e)
+    picked_given (g ∷ gs) s d m spared = by (is_group f (F g)) refl (q g) refl (λ x k r. picked_given gs x d.1 k r) m
+      where
+        firsts : Option ℕ
+        firsts = first_of f (map F gs)
+
+        was : (v : Bool) → is_group f (F g) ≡ v → is_group f g ≡ v
+        was v e = sym (changed_is f q F keeps g) ∙ e
+
+        -- of the others, where this one is of another filter
+        later : is_group f (F g) ≡ false → (x : Sessions) → ((o : Option ℕ) → HasTurn f o s → HasTurn f o x) → Spared gs x
+        later e x more = λ h its failed first. more (first_in (F h).members) (spared h its failed (ap (λ v. cond v (first_in g.members) (first_of f gs)) (was false e) ∙ first))
+
+        by : (v : Bool) → is_group f (F g) ≡ v → (w : Bool) → q g ≡ w → ((x : Sessions) → FirstShares f firsts x → Spared gs x → HasTurn f firsts (gives_all (picked q F gs) x)) → FirstShares f (cond v (first_in (F g).members) firsts) s
+            → HasTurn f (cond v (first_in (F g).members) firsts) (gives_all (if w then F g ∷ picked q F gs else picked q F gs) s)
+        by true e true p rest k =
+            all_other (picked q F gs) (first_in (F g).members) (turns_first true (F g) s) (none_picked f q F keeps gs (no_others f g gs (was true e) d)) (own_has (F g) s e k)
+        by true e false p rest k =
+            all_other (picked q F gs) (first_in (F g).members) s (none_picked f q F keeps gs (no_others f g gs (was true e) d)) (spared g (was true e) p (ap (λ v. cond v (first_in g.members) (first_of f gs)) (was true e)))
+        by false e true p rest k = rest (turns_first true (F g) s) (other_shares true firsts (F g) s k) (later e (turns_first true (F g) s) (λ o r. other_has true o (F g) s e r))
+        by false e false p rest k = rest s k (later e s (λ o r. r))
 
   -- ---- those that a topic matches
 

@@ -1,13 +1,15 @@
 -- What an operator bounds, and what comes of more than that: reason 0x97, Quota exceeded (MQTT 5.0
 -- sections 3.2.2.2, 3.14.2.1 and 4.13).
-use Rattle.std.specs.Prelude.{ℕ, ◌+◌, ◌==◌, nat_lt, nat_le, min, Bool, false, not, ◌&&◌, ◌||◌, length}
-use Rattle.std.specs.Prelude.{Option, Some, None, is_some, if◌then◌else◌}
+use Rattle.std.specs.Prelude.{ℕ, ◌+◌, ◌-◌, ◌==◌, nat_lt, nat_le, min, Bool, false, not, ◌&&◌, ◌||◌, length}
+use Rattle.std.specs.Prelude.{List, filter, Option, Some, None, is_some, if◌then◌else◌}
 use Rattle.std.specs.List.{list_any}
 use Rattle.mqtt5_publish.specs.declared.publish.Publish.{Publish}
 use Rattle.mqtt5_control.specs.declared.disconnect.DisconnectReasonCode.{DisconnectReasonCode}
 use Rattle.mqtt5_control.specs.declared.disconnect.DisconnectReasonCode.TheVariants as reasons
 use Rattle.mqtt5_codec.specs.declared.packet.Packet.{Packet}
 use Rattle.mqtt5_codec.specs.declared.packet.Packet.TheVariants as packets
+use Rattle.mqtt5_subscribe.specs.declared.filter.Filter.{Filter}
+use Rattle.mqtt5_network.specs.Asking.{share_of}
 use Rattle.mqtt5_network.specs.Retained.{is_to}
 use Rattle.mqtt5_sessions.specs.declared.counts.Counts.{Counts}
 use Rattle.mqtt5_sessions.specs.Counts.{counts}
@@ -16,6 +18,7 @@ use Rattle.mqtt5_sessions.specs.Bringing.{overfills}
 use Rattle.mqtt5_broker.specs.declared.bounds.Bounds.{Bounds}
 use Rattle.mqtt5_broker.specs.Connection.{told, connection_of}
 use Rattle.mqtt5_broker.specs.Rights.{may_do, part_of}
+use Rattle.mqtt5_broker.specs.Groups.{Group, is_group}
 use Rattle.mqtt5_broker.specs.Broker.{Broker, at_moment, free_number, owner_at, on_connection}
 use Rattle.mqtt5_broker.specs.Broker.{forgets}
 use Rattle.mqtt5_broker.specs.Clock.{for_each}
@@ -40,13 +43,26 @@ asks_too_much (packets.Publish p) b =
     adds_retained p b && nat_le b.bounds.retained (length b.sessions.retained)
 asks_too_much other b = false
 
--- whether a Subscribe of the client of a number has more filters than it may have subscriptions, or those
--- that its user may subscribe to may bring more copies of retained messages than its queue has room for
--- (3.3.1.3)
+-- whether a filter is that of a shared subscription that nobody has yet (4.8.2)
+abbrev pub is_new_share : List Group → Filter → Bool
+is_new_share gs f = is_some (share_of f.path) && not (list_any (is_group f.path) gs)
+
+-- whether filters bring more of these than there is room for; one that comes twice is counted twice
+abbrev pub shares_too_much : ℕ → List Filter → List Group → Bool
+shares_too_much most fs gs = nat_lt (most - length gs) (length (filter (is_new_share gs) fs))
+
+-- whether filters bring more shared subscriptions than there is room for, of all clients, or may bring the
+-- client of a number more copies of retained messages than its queue has room for (3.3.1.3)
+abbrev pub bring_too_much : ℕ → List Filter → Broker → Bool
+bring_too_much i fs b =
+    shares_too_much b.bounds.shared fs b.groups || overfills b.bounds.queued i fs b.sessions
+
+-- whether a Subscribe has more filters than its client may have subscriptions, or those that its user may
+-- subscribe to bring too much
 abbrev pub brings_too_much : ℕ → Packet → Broker → Bool
 brings_too_much i (packets.Subscribe s) b =
     nat_lt b.bounds.subscriptions (length s.filters)
-    || overfills b.bounds.queued i (part_of (owner_at i b.members) b.rights s).filters b.sessions
+    || bring_too_much i (part_of (owner_at i b.members) b.rights s).filters b
 brings_too_much i other b = false
 
 -- then it is refused; a publish only where its user may publish it (5.4.2)

@@ -48,6 +48,7 @@ abbrev pub no_bounds : Bounds
 no_bounds = record {
   clients = 18446744073709551615;
   subscriptions = 18446744073709551615;
+  shared = 18446744073709551615;
   retained = 18446744073709551615;
   queued = 18446744073709551615;
   bytes = 18446744073709551615;

@@ -150,6 +150,21 @@ regrouped i (packets.Subscribe p) gs = joins_all i p.filters gs
 regrouped i (packets.Unsubscribe p) gs = parts_from i p.filters gs
 regrouped i other gs = gs
 
+-- whether a packet names a topic filter
+abbrev pub names : Packet → Utf8 → Bool
+names (packets.Subscribe p) f = list_any (λ (x : Filter). pointwise nat_eq x.path.bytes f.bytes) p.filters
+names (packets.Unsubscribe p) f = is_among p.filters f
+names other f = false
+
+-- of groups those that pass a test, as they are once they change
+abbrev pub picked : (Group → Bool) → (Group → Group) → List Group → List Group
+picked q change [] = []
+picked q change (g ∷ gs) = if q g then change g ∷ picked q change gs else picked q change gs
+
+-- the groups of the filters that it names
+abbrev pub named_in : Packet → List Group → List Group
+named_in x gs = picked (λ (g : Group). names x g.topic_filter) (λ (g : Group). g) gs
+
 -- where it is answered, as it is where there is such a client
 abbrev pub regrouped_if : Bool → ℕ → Packet → List Group → List Group
 regrouped_if answered i x gs = if answered then regrouped i x gs else gs
@@ -158,14 +173,23 @@ regrouped_if answered i x gs = if answered then regrouped i x gs else gs
 abbrev pub groups_after : Bool → ℕ → Packet → List Group → List Group
 groups_after answered i x gs = if regroups x then regrouped_if answered i x gs else gs
 
+-- then the first clients of the groups that it names have the turns
+abbrev pub gives_if : Bool → List Group → Sessions → Sessions
+gives_if answered gs s = if answered then gives_all gs s else s
+
 abbrev pub sessions_after : Bool → ℕ → Packet → List Group → Sessions → Sessions
 sessions_after answered i x gs s =
-    if regroups x then gives_all (regrouped_if answered i x gs) s else s
+    if regroups x then gives_if answered (named_in x (regrouped i x gs)) s else s
 
 -- ---- a session that ends
 
 abbrev pub groups_without : ℕ → List Group → List Group
 groups_without i gs = filter has_members (map (without_member i) gs)
 
+-- the groups in which it was, without it
+abbrev pub left_in : ℕ → List Group → List Group
+left_in i gs = picked (λ (g : Group). has_member i g.members) (without_member i) gs
+
+-- the first clients of these have the turns
 abbrev pub sessions_without : ℕ → List Group → Sessions → Sessions
-sessions_without i gs s = gives_all (groups_without i gs) s
+sessions_without i gs s = gives_all (left_in i gs) s

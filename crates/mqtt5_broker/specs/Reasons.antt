@@ -33,7 +33,7 @@ why reasons.TopicFilterInvalid = codes "a topic filter that is none"
 why reasons.TopicNameInvalid = codes "a topic name that is none"
 why reasons.TopicAliasInvalid = codes "a topic alias of 0, or over the topic alias maximum"
 why reasons.PacketTooLarge = codes "a packet over the maximum packet size"
-why reasons.QuotaExceeded = codes "more than the server keeps for a client"
+why reasons.QuotaExceeded = codes "more than the server keeps"
 why other = codes "the server ends this connection"
 
 -- a Disconnect (3.14)

@@ -6,10 +6,11 @@ ghost use Rattle.mqtt5_network.specs.Retained.{is_to};
 ghost use Rattle.mqtt5_sessions.specs.declared.counts.Counts.{Counts};
 ghost use Rattle.mqtt5_broker.specs.Broker.{no_bounds};
 ghost use Rattle.mqtt5_broker.specs.Connection.{connection_of};
-ghost use Rattle.mqtt5_broker.specs.Bounds.{bounded, has_room, adds_retained, asks_too_much, brings_too_much, quota_fault, exceeds, ends_of, ends_over, dropped_after, sheds_of, trims, trims_all, trims_at};
+ghost use Rattle.mqtt5_broker.specs.Bounds.{bounded, has_room, adds_retained, asks_too_much, bring_too_much, brings_too_much, quota_fault, exceeds, ends_of, ends_over, dropped_after, sheds_of, trims, trims_all, trims_at};
 
 use crate::broker::Broker;
 use crate::connections::connection_of;
+use crate::groups::shares_too_much;
 use crate::member::{free_number, owner_at};
 use crate::rights::{may_do, part_of};
 use mqtt5_base::copied;
@@ -18,6 +19,7 @@ use mqtt5_control::DisconnectReasonCode;
 use mqtt5_publish::Publish;
 use mqtt5_session::StateError;
 use mqtt5_sessions::Counts;
+use mqtt5_subscribe::Filter;
 use std::alloc::Global;
 
 /// What may be kept at most. More is refused, or ends the session of who has it, by QuotaExceeded (MQTT 5.0 section 4.13).
@@ -27,6 +29,8 @@ pub struct Bounds {
     pub clients: usize,
     /// How many subscriptions a client has when `trim` is called, and how many filters a Subscribe.
     pub subscriptions: usize,
+    /// How many filters of shared subscriptions there are, of all clients.
+    pub shared: usize,
     /// How many messages are retained; a will is retained all the same.
     pub retained: usize,
     /// How many publishes wait in its queue then, and once a Subscribe has brought its copies of retained messages.
@@ -44,6 +48,7 @@ pub(super) fn no_bounds() -> Bounds
     Bounds {
         clients: usize::MAX,
         subscriptions: usize::MAX,
+        shared: usize::MAX,
         retained: usize::MAX,
         queued: usize::MAX,
         bytes: u64::MAX,
@@ -111,8 +116,27 @@ impl Broker {
         }
     }
 
-    /// Whether a Subscribe has more filters than there may be subscriptions, or those that its user may subscribe to may bring more
-    /// copies of retained messages than there is room for in its client's queue. S12, which leaves all as it was.
+    /// Whether filters bring more shared subscriptions than there is room for, or may bring more copies of retained messages than
+    /// there is room for in the client's queue. S12, which leaves all as it was.
+    fn bring_too_much(
+        &mut self,
+        alloc: Global,
+        client: usize,
+        filters: &[Filter],
+    ) -> Result<bool, StateError>
+        ensures ok { IfOk result (λ o. o ≡ bring_too_much client filters.now self.old) }
+        ensures memory { IfErr result (λ e. e ≡ StateError.OutOfMemory) }
+        ensures same { self.new ≡ self.old }
+    {
+        if shares_too_much(self.bounds.shared, filters, self.groups.as_slice()) {
+            return Ok(true);
+        }
+        let most = self.bounds.queued;
+        self.sessions.overfills(alloc, client, filters, most)
+    }
+
+    /// Whether a Subscribe has more filters than there may be subscriptions, or those that its user may subscribe to bring too much.
+    /// S12, which leaves all as it was.
     fn brings_too_much(
         &mut self,
         alloc: Global,
@@ -131,9 +155,7 @@ impl Broker {
         }
         let user = owner_at(client, self.members.as_slice());
         let part = part_of(user, self.rights.as_slice(), copied(subscribe)?);
-        let most = self.bounds.queued;
-        self.sessions
-            .overfills(alloc, client, part.filters.as_slice(), most)
+        self.bring_too_much(alloc, client, part.filters.as_slice())
     }
 
     /// Why a packet of a client is refused then; a publish only where its user may publish it. S12, which leaves all as it was.

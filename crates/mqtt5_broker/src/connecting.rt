@@ -16,7 +16,7 @@ use crate::connections::{
     user_of, welcome_at,
 };
 use crate::expiry::dated;
-use crate::groups::{give_all, leave_all};
+use crate::groups::{give_left, leave_all};
 use crate::judging::connect_fault;
 use crate::member::{
     Member, assigned_name, free_number, has_ended_at, is_same, longest_of, member_of, number_after,
@@ -215,8 +215,8 @@ impl Broker {
         let member = member_of(owner, connect, will)?;
         if anew {
             self.end_session(alloc, client)?;
+            give_left(&mut self.sessions, self.groups.as_slice(), client);
             leave_all(&mut self.groups, client);
-            give_all(&mut self.sessions, self.groups.as_slice());
         }
         if client < self.members.len() {
             self.members[client] = Some(member);

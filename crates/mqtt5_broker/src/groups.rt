@@ -1,10 +1,13 @@
 //! The shared subscriptions of a broker: who takes part in each, and whose turn it is (MQTT 5.0 section 4.8.2).
 
-ghost use Rattle.std.specs.Prelude.{◌≡◌, Some, None, option_map, map, filter, drop, not, ◌==◌, IfOk, OnOk, if◌then◌else◌};
+ghost use Rattle.std.specs.Prelude.{◌≡◌, Some, None, option_map, map, filter, length, drop, not, ◌==◌, nat_eq, true, IfOk, OnOk, if◌then◌else◌};
+ghost use Rattle.std.specs.Cmp.Lexicographic.{pointwise};
+ghost use Rattle.mqtt5_subscribe.specs.declared.filter.Filter.{Filter};
 ghost use Rattle.mqtt5_sessions.specs.Sessions.{is_here};
-ghost use Rattle.std.specs.List.{position};
+ghost use Rattle.std.specs.List.{list_any, position};
 ghost use Rattle.mqtt5_network.specs.Asking.{share_of};
-ghost use Rattle.mqtt5_broker.specs.Groups.{is_group, has_members, has_member, without_member, with_member, next_here, from_next, rotated, turns_of, turns_first, gives_all, meets, turns_met, rotates, rotated_for, turned_for, groups_turned, sessions_turned, joined, joins_by, joins_all, is_among, parts_from, asks_shared, ends_shared, regroups, regrouped, groups_without};
+ghost use Rattle.mqtt5_broker.specs.Bounds.{is_new_share, shares_too_much};
+ghost use Rattle.mqtt5_broker.specs.Groups.{is_group, has_members, has_member, without_member, with_member, next_here, from_next, rotated, turns_of, turns_first, gives_all, meets, turns_met, rotates, rotated_for, turned_for, groups_turned, sessions_turned, joined, joins_by, joins_all, is_among, parts_from, asks_shared, ends_shared, regroups, regrouped, names, named_in, left_in, groups_without};
 
 use mqtt5_base::{Text, copied, matches};
 use mqtt5_codec::Packet;
@@ -127,6 +130,18 @@ impl Group {
         sessions.turn(self.members[0], &self.topic_filter, on);
     }
 
+    /// Gives the turn to the first client that isn't this one.
+    fn turn_without(&self, client: usize, sessions: &mut Sessions)
+        ensures { sessions.new ≡ turns_first true (without_member client self.now) sessions.old }
+    {
+        for member in self.members.as_slice() {
+            if *member != client {
+                sessions.turn(*member, &self.topic_filter, true);
+                return;
+            }
+        }
+    }
+
     fn turn_first_met(&self, sessions: &mut Sessions, topic: &str, on: bool)
         ensures { sessions.new ≡ (if meets topic.now self.now
             then turns_first on self.now sessions.old else sessions.old) }
@@ -198,6 +213,17 @@ pub(super) fn give_all(sessions: &mut Sessions, groups: &[Group])
     }
 }
 
+/// In each group in which a client is, the first other one has the turn. Takes no memory.
+pub(super) fn give_left(sessions: &mut Sessions, groups: &[Group], client: usize)
+    ensures { sessions.new ≡ gives_all (left_in client groups.now) sessions.old }
+{
+    for group in groups {
+        if group.has(client) {
+            group.turn_without(client, sessions);
+        }
+    }
+}
+
 /// The first client of each that a topic matches is given the turn, or it is taken from it.
 fn turn_met(sessions: &mut Sessions, groups: &[Group], topic: &str, on: bool)
     ensures { sessions.new ≡ turns_met on topic.now groups.now sessions.old }
@@ -227,10 +253,21 @@ pub(super) fn turn_to(groups: &mut [Group], sessions: &mut Sessions, topic: &[u8
     }
 }
 
+/// Whether a topic matches the filter of one.
+fn meets_any(groups: &[Group], topic: &str) -> bool
+    ensures { result ≡ list_any (meets topic.now) groups.now }
+{
+    groups.iter().any(|group| group.meets(topic))
+}
+
+#[tactic(auto, using(crate::proofs::Grouping::unmet_groups, crate::proofs::Grouping::unmet_sessions))]
 fn turn_text(groups: &mut [Group], sessions: &mut Sessions, topic: &str)
     ensures groups { groups.new ≡ rotated_for topic.now groups.old sessions.old }
     ensures sessions { sessions.new ≡ turned_for topic.now groups.old sessions.old }
 {
+    if !meets_any(groups, topic) {
+        return;
+    }
     turn_met(sessions, groups, topic, false);
     rotate_met(groups, topic, sessions);
     turn_met(sessions, groups, topic, true);
@@ -356,6 +393,37 @@ fn ends_shared(filters: &[Text]) -> bool
     filters.iter().any(|filter| is_shared(filter))
 }
 
+/// Whether there is one of a topic filter.
+fn has_group(groups: &[Group], topic_filter: &Text) -> bool
+    ensures { result ≡ list_any (is_group topic_filter.now) groups.now }
+{
+    groups.iter().any(|group| group.is(topic_filter))
+}
+
+/// Whether a filter is that of a shared subscription that nobody has yet.
+fn is_new_share(groups: &[Group], filter: &Filter) -> bool
+    ensures { result ≡ is_new_share groups.now filter.now }
+{
+    is_shared(&filter.path) && !has_group(groups, &filter.path)
+}
+
+/// How many filters are those of shared subscriptions that nobody has yet.
+fn new_shares(groups: &[Group], filters: &[Filter]) -> usize
+    ensures { result ≡ length (filter (is_new_share groups.now) filters.now) }
+{
+    filters
+        .iter()
+        .filter(|filter| is_new_share(groups, filter))
+        .count()
+}
+
+/// Whether filters bring more shared subscriptions than there is room for, of all clients.
+pub(super) fn shares_too_much(most: usize, filters: &[Filter], groups: &[Group]) -> bool
+    ensures { result ≡ shares_too_much most filters.now groups.now }
+{
+    most.saturating_sub(groups.len()) < new_shares(groups, filters)
+}
+
 /// Whether a packet changes who takes part in a shared subscription.
 fn regroups(packet: &Packet) -> bool
     ensures { result ≡ regroups packet.now }
@@ -385,6 +453,44 @@ fn regrouped_by(
         }
         _other => copies_of(alloc, groups),
     }
+}
+
+/// Whether a filter of a Subscribe is this topic filter.
+fn is_asked(filters: &[Filter], topic_filter: &Text) -> bool
+    ensures { result
+        ≡ list_any (λ (x : Filter). pointwise nat_eq x.path.bytes topic_filter.now.bytes) filters.now }
+{
+    filters
+        .iter()
+        .any(|filter| filter.path.is(topic_filter.as_str()))
+}
+
+/// Whether a packet names a topic filter.
+fn names(packet: &Packet, topic_filter: &Text) -> bool
+    ensures { result ≡ names packet.now topic_filter.now }
+{
+    match packet {
+        Packet::Subscribe(subscribe) => is_asked(subscribe.filters.as_slice(), topic_filter),
+        Packet::Unsubscribe(unsubscribe) => is_among(unsubscribe.filters.as_slice(), topic_filter),
+        _other => false,
+    }
+}
+
+/// The groups of the filters that a packet names. Err where memory is refused.
+pub(super) fn named_in(
+    alloc: Global,
+    packet: &Packet,
+    groups: &[Group],
+) -> Result<Vec<Group>, AllocError>
+    ensures { IfOk result (λ named. named.items ≡ named_in packet.now groups.now) }
+{
+    let mut named = Vec::new(alloc);
+    for group in groups {
+        if names(packet, &group.topic_filter) {
+            named.push(group.copy(alloc)?)?;
+        }
+    }
+    Ok(named)
 }
 
 /// Who takes part then, or None where a packet changes nothing of that. Err where memory is refused.

@@ -1,6 +1,6 @@
 //! What holds of the definitions of a broker.
 
-ghost use Rattle.std.specs.Prelude.{◌≡◌, ◌≢◌, ◌⊎◌, ◌++◌, [], ◌∷◌, ℕ, List, Option, Some, None, Bool, true, false, ◌==◌, length, max, replicate};
+ghost use Rattle.std.specs.Prelude.{◌≡◌, ◌≢◌, ◌≤◌, ◌⊎◌, ◌++◌, [], ◌∷◌, ℕ, List, Option, Some, None, Bool, true, false, ◌==◌, length, max, replicate};
 ghost use Rattle.std.specs.List.{All, Contains};
 ghost use Rattle.mqtt5_base.specs.Texts.{Utf8};
 ghost use Rattle.mqtt5_base.specs.Topics.{topic_matches};
@@ -135,7 +135,8 @@ pub fn any_calls_law()
 {}
 
 /// A law, which does nothing when it is called: of those who have a shared subscription one has its turn, and a message that its
-/// filter matches is forwarded under it to that one, and to nobody else (4.8.2).
+/// filter matches is forwarded under it to that one, and to nobody else (4.8.2); and a packet leaves no more filters of them than may
+/// be, or than there were.
 pub fn sharing_law()
     // Who takes part is who has the subscription, and who has the turn is the first of these: so it is in a new broker, and after
     // any calls, of which none was refused for want of memory.
@@ -158,6 +159,9 @@ pub fn sharing_law()
     // Of a shared subscription that hasn't its turn nothing is forwarded.
     ensures waits { (own : Bool) (s : Subscription) (h : Share) (p : Publish)
         → s.share ≡ Some h → turn_in s.share ≡ false → holds_for own s p ≡ false }
+    // Once a packet is served, no more filters of them are had than may be, or than were had before (4.13).
+    ensures no_more { (c i : ℕ) (x : Packet) (b : Broker)
+        → length (serves c i x b).groups ≤ max (length b.groups) b.bounds.shared }
 {}
 
 /// A law, which does nothing when it is called: what is forwarded to a client that connected as a user, or copied for it of what is

@@ -63,7 +63,7 @@ fn why(reason: DisconnectReasonCode) -> &'static str
             "a topic alias of 0, or over the topic alias maximum"
         }
         DisconnectReasonCode::PacketTooLarge => "a packet over the maximum packet size",
-        DisconnectReasonCode::QuotaExceeded => "more than the server keeps for a client",
+        DisconnectReasonCode::QuotaExceeded => "more than the server keeps",
         _other => "the server ends this connection",
     }
 }

@@ -7,13 +7,13 @@ ghost use Rattle.mqtt5_control.specs.declared.disconnect.DisconnectReasonCode.Th
 ghost use Rattle.mqtt5_broker.specs.Connection.{written, written_all, shut, told};
 ghost use Rattle.mqtt5_broker.specs.Broker.{forgets, loses_client, leaves_client, publishes_will, refuses, dismisses, dismisses_of, on_connection, stays_at};
 ghost use Rattle.mqtt5_sessions.specs.Sessions.{arrives, replies};
-ghost use Rattle.mqtt5_broker.specs.Groups.{gives_all, groups_before, sessions_before};
+ghost use Rattle.mqtt5_broker.specs.Groups.{named_in, gives_if, groups_before, sessions_before};
 ghost use Rattle.mqtt5_broker.specs.Serving.{has_any, kind_of, comes_to_session, arrives_from, denies, brings, disconnects, fault_of, serves, serves_as};
 
 use crate::broker::Broker;
 use crate::connections::{client_at, is_open_at, shut_at, tell_at, write_at, write_some_at};
 use crate::expiry::counted_some;
-use crate::groups::{Group, give_all, leave_all, regrouped, turn_to};
+use crate::groups::{Group, give_all, give_left, leave_all, named_in, regrouped, turn_to};
 use crate::judging::{client_fault, new_expiry};
 use crate::member::{away_at, expiring_at, gone_at, owner_at, stays_at, undue_at};
 use crate::rights::{denial, may_do, part_of, suback_for};
@@ -56,8 +56,8 @@ impl Broker {
         ensures left { OnErr result (self.new ≡ self.old) }
     {
         self.end_session(alloc, client)?;
+        give_left(&mut self.sessions, self.groups.as_slice(), client);
         leave_all(&mut self.groups, client);
-        give_all(&mut self.sessions, self.groups.as_slice());
         if client < self.members.len() {
             self.members[client] = None;
         }
@@ -207,7 +207,8 @@ impl Broker {
         }
     }
 
-    /// One comes that changes who takes part, as these do then, if it is answered. S12.
+    /// One comes that changes who takes part, as these do then, if it is answered; of those that it names the first have the turns.
+    /// S12.
     fn regroup(
         &mut self,
         alloc: Global,
@@ -216,10 +217,8 @@ impl Broker {
         groups: Vec<Group>,
     ) -> Result<Option<Packet>, StateError>
         ensures ok { OnOk result (self.new ≡ record self.old {
-          sessions = gives_all
-              (if has_any (replies client packet self.old.sessions) then groups.items
-              else self.old.groups)
-              (arrives client packet self.old.sessions);
+          sessions = gives_if (has_any (replies client packet self.old.sessions))
+              (named_in packet groups.items) (arrives client packet self.old.sessions);
           groups =
               if has_any (replies client packet self.old.sessions) then groups.items
               else self.old.groups;
@@ -228,11 +227,12 @@ impl Broker {
             (λ r. option_to_list r ≡ replies client packet self.old.sessions) }
         ensures memory { IfErr result (λ e. e ≡ StateError.OutOfMemory) }
     {
+        let named = named_in(alloc, &packet, groups.as_slice())?;
         let reply = self.sessions.arrive(alloc, client, packet)?;
         if reply.is_some() {
             self.groups = groups;
+            give_all(&mut self.sessions, named.as_slice());
         }
-        give_all(&mut self.sessions, self.groups.as_slice());
         Ok(reply)
     }
 

@@ -10,15 +10,17 @@ use crate::number::{DONE, NO_BROKER, code_of};
 use mqtt5_broker::Bounds;
 use std::alloc::Global;
 
-/// These are the bounds from now on: how many clients are known at once, how many subscriptions a client has, how many messages
-/// are retained, how many publishes wait in a client's queue, and how many bytes the frames of these have; and whether of a longer
-/// queue the oldest publishes of any QoS are let go, and not those of QoS 0 alone. 0; 200.
+/// These are the bounds from now on: how many clients are known at once, how many subscriptions a client has, how many filters
+/// of shared subscriptions there are, how many messages are retained, how many publishes wait in a client's queue, and how many
+/// bytes the frames of these have; and whether of a longer queue the oldest publishes of any QoS are let go, and not those of
+/// QoS 0 alone. 0; 200.
 #[unsafe(no_mangle)]
 pub extern "C" fn mqtt5_broker_bound(
     alloc: Global,
     h: &mut Handle,
     clients: usize,
     subscriptions: usize,
+    shared: usize,
     retained: usize,
     queued: usize,
     bytes: u64,
@@ -29,6 +31,7 @@ pub extern "C" fn mqtt5_broker_bound(
     ensures answer { Does (bounded (record {
       clients = clients;
       subscriptions = subscriptions;
+      shared = shared;
       retained = retained;
       queued = queued;
       bytes = bytes;
@@ -41,6 +44,7 @@ pub extern "C" fn mqtt5_broker_bound(
     broker.set_bounds(Bounds {
         clients,
         subscriptions,
+        shared,
         retained,
         queued,
         bytes,

@@ -1,3 +1,4 @@
+use Rattle.mqtt5_broker.proofs.Counted.{serves_holds}
 use Rattle.mqtt5_broker.proofs.Parts.{new_shared, calls_shared, one_turn, somebody_has, forwards_in_turn, waits_for_turn}
 use Rattle.mqtt5_broker.proofs.laws.sharing_law.Goals as goal
 
@@ -18,3 +19,6 @@ returns-clause-forwards c = λ own s h p e t local. forwards_in_turn own s h p e
 
 pub returns-clause-waits : goal.returns-clause-waits
 returns-clause-waits c = λ own s h p e t. waits_for_turn own s h p e t
+
+pub returns-clause-no_more : goal.returns-clause-no_more
+returns-clause-no_more c = λ d i x b. serves_holds d i x b
