@@ -178,7 +178,7 @@ install_one() {
     (cd "$made" && "$ar" x "$(library_archive "$top" "$name")" && "$ar" x "$kit/liblibc_c.a" &&
         "$ar" rcsD "lib$name.a" ./*.o &&
         "$cc" -shared -o "lib$name.so" -Wl,-soname,"lib$name.so" -Wl,--whole-archive "lib$name.a" -Wl,--no-whole-archive) &&
-        cp "$made/lib$name.a" "$made/lib$name.so" "$prefix/lib" &&
+        cp --remove-destination "$made/lib$name.a" "$made/lib$name.so" "$prefix/lib" &&
         print_pkgconfig "$prefix" "$name" > "$prefix/lib/pkgconfig/$name.pc" || status=$?
     rm -rf "$made"
     case $name in
