@@ -113,6 +113,7 @@ impl Peer {
         let mut peer = Peer::new(options, reconnects, move || {
             let stream = TcpStream::connect(&address)?;
             stream.set_nodelay(true)?;
+            stream.set_write_timeout(Some(PATIENCE))?;
             *held.lock().expect("a lock") = Some(stream.try_clone()?);
             Ok((stream.try_clone()?, Closing(stream)))
         });

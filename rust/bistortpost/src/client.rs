@@ -1,22 +1,22 @@
 //! A client and its connection, by the names of rumqttc's blocking ones.
 
-use crate::inbox::{Came, Inbox};
+use crate::inbox::{is_end, Came, Inbox};
 use crate::mqttbytes::QoS;
 use crate::options::MqttOptions;
-use crate::packets::{Dropped, Event, Filter, Packet, Publish};
+use crate::packets::{Dropped, Event, Filter, Outgoing, Packet, Publish};
 use crate::properties::Properties;
 use crate::session::{Fault, Session};
 use std::collections::VecDeque;
 use std::fmt;
 use std::io::{self, ErrorKind, Read, Write};
-use std::net::{Shutdown, TcpStream};
+use std::net::{Shutdown, TcpStream, ToSocketAddrs};
 use std::sync::Arc;
 use std::thread;
 use std::time::{Duration, Instant};
 
 /// How many bytes are read at a time.
 const PIECE: usize = 65536;
-/// How long a broker may take to answer a Connect.
+/// How long an address may take to be reached, and a broker to answer a Connect, or to take more of what is written.
 const PATIENCE: Duration = Duration::from_secs(20);
 /// The most bytes of a text (MQTT 5.0 section 1.5.4).
 const LONGEST: usize = 65535;
@@ -25,8 +25,12 @@ const NORMAL: u8 = 0;
 const CONTINUE: u8 = 24;
 const REAUTHENTICATE: u8 = 25;
 const PROTOCOL_ERROR: u8 = 130;
+/// S3: a ping while the last one isn't answered.
+const AWAITS_PING: Fault = Fault(3);
 /// S4: a packet that a client doesn't take.
 const WRONG_PACKET: Fault = Fault(4);
+/// S5: a second ping while a publish waits for its packet identifier.
+const AWAITS_ACK: Fault = Fault(5);
 
 /// Why a connection stops. The next `recv` opens it again.
 #[derive(Debug)]
@@ -38,7 +42,7 @@ pub enum ConnectionError {
     TopicTooLong(usize),
     /// The broker refuses the connection; the reason code of its ConnAck.
     ConnectionRefused(u8),
-    /// The broker doesn't answer.
+    /// The broker doesn't answer a Connect, or takes nothing of what is written.
     NetworkTimeout,
     /// The broker lost the session: these requests were let go, in order. The connection stands.
     SessionLost(Vec<Dropped>),
@@ -133,24 +137,33 @@ pub struct Client {
 
 impl Client {
     /// A client and its connection over TCP, which takes `cap` requests before `publish` waits. The connection is opened by
-    /// its first `recv`.
+    /// its first `recv`. Each address of the host has 20 seconds to be reached, and so long may a write wait for the broker
+    /// to take more.
     pub fn new(options: MqttOptions, cap: usize) -> (Client, Connection) {
         let address = options.address.clone();
         Client::over(options, cap, move || {
-            let stream = TcpStream::connect((address.0.as_str(), address.1))?;
+            let stream = reach(&address.0, address.1)?;
             stream.set_nodelay(true)?;
+            stream.set_write_timeout(Some(PATIENCE))?;
             Ok((stream.try_clone()?, Closing(stream)))
         })
     }
 
-    /// The same over any reader and writer, which the function opens, anew for each connection.
+    /// The same over any reader and writer, which the function opens, anew for each connection. A thread reads until a read
+    /// has nothing or fails, so:
+    ///
+    /// - Once the writer is dropped, the reader's read ends, also one that waits. Else each connection that stops leaves its
+    ///   thread and its reader behind.
+    /// - A read waits as long as nothing comes.
+    /// - The function and each write have a limit on how long they wait, as `TcpStream::set_write_timeout` sets one. `recv`
+    ///   waits for them, and does nothing else meanwhile.
     pub fn over<R, W, F>(options: MqttOptions, cap: usize, mut open: F) -> (Client, Connection)
     where
         R: Read + Send + 'static,
         W: Write + Send + 'static,
         F: FnMut() -> io::Result<(R, W)> + Send + 'static,
     {
-        let inbox = Arc::new(Inbox::new(cap));
+        let (inbox, now) = (Arc::new(Inbox::new(cap)), Instant::now());
         let open = Box::new(move || {
             let (reader, writer) = open()?;
             Ok((Box::new(reader) as Box<dyn Read + Send>, Box::new(writer) as Box<dyn Write + Send>))
@@ -164,7 +177,10 @@ impl Client {
             writer: None,
             is_acked: false,
             was_acked: false,
-            written: Instant::now(),
+            is_lost: false,
+            written: now,
+            heard: now,
+            pinged: now,
             came: VecDeque::new(),
         };
         (Client { inbox }, connection)
@@ -260,6 +276,18 @@ impl Drop for Client {
     }
 }
 
+/// A stream to the first address of a host that takes one.
+fn reach(host: &str, port: u16) -> io::Result<TcpStream> {
+    let mut refusal = io::Error::new(ErrorKind::NotFound, "the host has no address");
+    for address in (host, port).to_socket_addrs()? {
+        match TcpStream::connect_timeout(&address, PATIENCE) {
+            Ok(stream) => return Ok(stream),
+            Err(error) => refusal = error,
+        }
+    }
+    Err(refusal)
+}
+
 /// A stream that ends for its reader too once it is dropped.
 struct Closing(TcpStream);
 
@@ -286,7 +314,7 @@ fn publish_of(topic: String, qos: QoS, retain: bool, payload: Vec<u8>, propertie
 
 type Opened = (Box<dyn Read + Send>, Box<dyn Write + Send>);
 
-/// A connection, which moves on by `recv` and by `iter`, and is opened again after it stopped.
+/// A connection, which moves on by `recv` and by `iter` alone, also its pings, and is opened again after it stopped.
 pub struct Connection {
     options: MqttOptions,
     inbox: Arc<Inbox<Request>>,
@@ -296,37 +324,49 @@ pub struct Connection {
     /// Whether this connection's ConnAck came, and whether one ever did.
     is_acked: bool,
     was_acked: bool,
+    /// Whether a ConnAck said that the broker has no session, and ours isn't taken up since.
+    is_lost: bool,
     keep_alive: Duration,
+    /// When something was written last, when something that came was taken, and when a ping was sent.
     written: Instant,
+    heard: Instant,
+    pinged: Instant,
     came: VecDeque<Result<Event, ConnectionError>>,
 }
 
 impl Connection {
-    /// The next event.
+    /// The next event. `RequestsDone` once no client is left and no request of one; where a connection can't be opened, or
+    /// stopped, after its error.
     pub fn recv(&mut self) -> Result<Event, ConnectionError> {
         loop {
+            let moved = if self.came.is_empty() { self.turn() } else { self.ping_between() };
+            if let Err(error) = moved {
+                self.stop(error);
+            }
             if let Some(next) = self.came.pop_front() {
                 return next;
-            }
-            if let Err(error) = self.turn() {
-                if let Some(session) = &mut self.session {
-                    // What came before the fault is told of first.
-                    while let Ok(Some(event)) = session.next_event() {
-                        self.came.push_back(Ok(event));
-                    }
-                }
-                self.writer = None;
-                self.is_acked = false;
-                self.inbox.begin_stream();
-                let error = self.refusal().unwrap_or(error);
-                self.came.push_back(Err(error));
             }
         }
     }
 
-    /// The events, until no client is left.
+    /// The events, until `recv` answers `RequestsDone`, as it does from then on.
     pub fn iter(&mut self) -> Iter<'_> {
         Iter { connection: self }
+    }
+
+    fn stop(&mut self, error: ConnectionError) {
+        if let Some(session) = &mut self.session {
+            // What came before the fault is told of first.
+            while let Ok(Some(event)) = session.next_event() {
+                self.is_lost |= is_new_session(&event);
+                self.came.push_back(Ok(event));
+            }
+        }
+        self.writer = None;
+        self.is_acked = false;
+        self.inbox.begin_stream();
+        let error = self.refusal().unwrap_or(error);
+        self.came.push_back(Err(error));
     }
 
     /// Why the broker refused the connection, if it did.
@@ -341,6 +381,9 @@ impl Connection {
 
     fn turn(&mut self) -> Result<(), ConnectionError> {
         if self.writer.is_none() {
+            if self.is_done()? {
+                return Err(ConnectionError::RequestsDone);
+            }
             self.connect()?;
         }
         self.flush()?;
@@ -350,20 +393,60 @@ impl Connection {
             Came::Read(read) => self.take(&read?),
             Came::Request(request) => self.ask(&request),
             Came::NoClient => Err(ConnectionError::RequestsDone),
-            Came::Due if self.is_acked => {
-                self.session.as_mut().expect("a connection has a session").ping(0)?;
-                Ok(())
-            }
+            Came::Due if self.is_acked => self.ping(),
             Came::Due => Err(ConnectionError::NetworkTimeout),
         }
     }
 
-    /// When a ping is due, or the ConnAck is overdue.
+    /// Whether another connection would have nothing to do: no client is left, no request, and no publish that waits.
+    fn is_done(&mut self) -> Result<bool, Fault> {
+        // (the first connection is opened also without clients)
+        self.session.as_mut().map_or(Ok(false), |session| Ok(session.may_publish()? && self.inbox.is_done()))
+    }
+
+    /// When a ping is due, or the ConnAck is overdue. A ping is due where nothing was written for the keep alive, or nothing
+    /// came, and a keep alive after the last one at the earliest.
     fn due(&self) -> Option<Instant> {
         if !self.is_acked {
             return Some(self.written + PATIENCE);
         }
-        (!self.keep_alive.is_zero()).then(|| self.written + self.keep_alive)
+        let from = self.written.min(self.heard).max(self.pinged);
+        (!self.keep_alive.is_zero()).then(|| from + self.keep_alive)
+    }
+
+    /// Sends a ping that is due while the events of one piece are told of.
+    fn ping_between(&mut self) -> Result<(), ConnectionError> {
+        let is_due = self.is_acked && self.due().is_some_and(|due| due <= Instant::now());
+        if is_due && !self.inbox.has_ended() {
+            return self.ping();
+        }
+        Ok(())
+    }
+
+    /// Sends a ping, or says why the connection is given up. While what came isn't all taken, an answer may be in it, and
+    /// while something comes, it may be behind that. A ping that the session refuses then is sent all the same.
+    fn ping(&mut self) -> Result<(), ConnectionError> {
+        let has_more = !self.came.is_empty() || self.inbox.has_read();
+        let is_coming = has_more || self.heard.elapsed() < self.keep_alive;
+        match self.session.as_mut().expect("a connection has a session").ping(0) {
+            Err(AWAITS_PING) if is_coming => self.ping_all_the_same()?,
+            Err(AWAITS_ACK) if has_more => self.ping_all_the_same()?,
+            asked => {
+                asked?;
+                self.flush()?;
+            }
+        }
+        self.pinged = Instant::now();
+        Ok(())
+    }
+
+    /// The ping is that of another session, which awaits none.
+    fn ping_all_the_same(&mut self) -> Result<(), ConnectionError> {
+        let mut session = Session::new(1, true)?;
+        session.ping(0)?;
+        self.write(&session.output()?)?;
+        self.came.push_front(Ok(Event::Outgoing(Outgoing::PingReq)));
+        Ok(())
     }
 
     fn connect(&mut self) -> Result<(), ConnectionError> {
@@ -377,6 +460,8 @@ impl Connection {
             .map_err(|fault| refusal_of(fault, will_len))?;
         let (reader, writer) = (self.open)()?;
         self.writer = Some(writer);
+        self.heard = Instant::now();
+        self.pinged = self.heard;
         let stream = self.inbox.begin_stream();
         let inbox = self.inbox.clone();
         thread::spawn(move || read_on(&inbox, stream, reader));
@@ -385,12 +470,20 @@ impl Connection {
 
     fn flush(&mut self) -> Result<(), ConnectionError> {
         let output = self.session.as_mut().expect("a connection has a session").output()?;
-        let writer = self.writer.as_mut().expect("a connection has a writer");
-        if !output.is_empty() {
-            writer.write_all(&output)?;
-            writer.flush()?;
-            self.written = Instant::now();
+        if output.is_empty() {
+            return Ok(());
         }
+        self.write(&output)
+    }
+
+    fn write(&mut self, bytes: &[u8]) -> Result<(), ConnectionError> {
+        let writer = self.writer.as_mut().expect("a connection has a writer");
+        writer.write_all(bytes).and_then(|()| writer.flush()).map_err(|error| match error.kind() {
+            // (so a stream says that its limit on waiting is over)
+            ErrorKind::WouldBlock | ErrorKind::TimedOut => ConnectionError::NetworkTimeout,
+            _other => error.into(),
+        })?;
+        self.written = Instant::now();
         Ok(())
     }
 
@@ -398,6 +491,7 @@ impl Connection {
         if bytes.is_empty() {
             return Err(io::Error::from(ErrorKind::UnexpectedEof).into());
         }
+        self.heard = Instant::now();
         let session = self.session.as_mut().expect("a connection has a session");
         session.receive(bytes, 0)?;
         self.tell()
@@ -411,17 +505,10 @@ impl Connection {
             if let Event::Incoming(Packet::Auth { reason_code: CONTINUE, properties }) = &event {
                 answered = answer_auth(session, &self.options, properties);
             }
+            self.is_lost |= is_new_session(&event);
             if let Event::Incoming(Packet::ConnAck { session_present, properties, .. }) = &event {
                 present = Some(*session_present);
-                self.keep_alive = properties
-                    .server_keep_alive
-                    .map_or(self.options.keep_alive, |seconds| Duration::from_secs(u64::from(seconds)));
-                // The session is gone on with under the client identifier that the broker assigned (3.2.2.3.7).
-                if let (true, Some(assigned)) =
-                    (self.options.client_id.is_empty(), &properties.assigned_client_identifier)
-                {
-                    self.options.client_id = assigned.clone();
-                }
+                self.keep_alive = settle(&mut self.options, properties);
             }
             self.came.push_back(Ok(event));
         }
@@ -430,8 +517,10 @@ impl Connection {
             return answered;
         }
         let Some(present) = present else { return Ok(()) };
+        let present = present && !self.is_lost;
         let session = self.session.as_mut().expect("a connection has a session");
         let dropped = session.take_up(present, 0)?;
+        self.is_lost = false;
         self.is_acked = true;
         self.was_acked = true;
         if !dropped.is_empty() {
@@ -465,6 +554,20 @@ impl Connection {
         }
         self.tell()
     }
+}
+
+/// The keep alive that a ConnAck with these properties settles. The session is gone on with under the client identifier that
+/// the broker assigned (3.2.2.3.7).
+fn settle(options: &mut MqttOptions, properties: &Properties) -> Duration {
+    if let (true, Some(assigned)) = (options.client_id.is_empty(), &properties.assigned_client_identifier) {
+        options.client_id = assigned.clone();
+    }
+    properties.server_keep_alive.map_or(options.keep_alive, |seconds| Duration::from_secs(u64::from(seconds)))
+}
+
+/// Whether this is the ConnAck of a broker that has no session of ours but a new one.
+fn is_new_session(event: &Event) -> bool {
+    matches!(event, Event::Incoming(Packet::ConnAck { session_present: false, code: 0, .. }))
 }
 
 /// The properties of an Auth with this data, of the method that the options name.
@@ -501,14 +604,14 @@ fn read_on(inbox: &Inbox<Request>, stream: u64, mut reader: Box<dyn Read + Send>
             Err(error) if error.kind() == ErrorKind::Interrupted => continue,
             read => read.map(|count| piece[..count].to_vec()),
         };
-        let is_last = read.as_ref().map_or(true, Vec::is_empty);
+        let is_last = is_end(&read);
         if !inbox.hand_on(stream, read) || is_last {
             return;
         }
     }
 }
 
-/// The events of a connection.
+/// The events of a connection, until no client is left.
 pub struct Iter<'a> {
     connection: &'a mut Connection,
 }

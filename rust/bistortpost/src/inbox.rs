@@ -3,7 +3,7 @@
 use std::collections::VecDeque;
 use std::io;
 use std::sync::{Condvar, Mutex, MutexGuard, PoisonError};
-use std::time::Instant;
+use std::time::{Duration, Instant};
 
 /// Requests of clients, at most `cap` at a time, and what the reader of a stream read.
 pub(crate) struct Inbox<R> {
@@ -19,9 +19,11 @@ struct State<R> {
     /// Of the stream with this number.
     stream: u64,
     read: VecDeque<io::Result<Vec<u8>>>,
+    /// How many requests go before what was read.
+    turns: usize,
 }
 
-/// What came first.
+/// What came.
 pub(crate) enum Came<R> {
     /// Nothing of these bytes is the end of the stream.
     Read(io::Result<Vec<u8>>),
@@ -35,9 +37,45 @@ pub(crate) enum Came<R> {
 /// How many pieces a reader reads ahead.
 const AHEAD: usize = 16;
 
+/// Whether nothing is read behind this.
+pub(crate) fn is_end(read: &io::Result<Vec<u8>>) -> bool {
+    read.as_ref().map_or(true, Vec::is_empty)
+}
+
+impl<R> State<R> {
+    fn has_ended(&self) -> bool {
+        self.read.back().is_some_and(is_end)
+    }
+
+    /// What was read. The requests that wait by then are the next.
+    fn next_read(&mut self) -> Option<Came<R>> {
+        let read = self.read.pop_front()?;
+        self.turns = self.requests.len().max(1);
+        Some(Came::Read(read))
+    }
+
+    fn next_request(&mut self) -> Option<Came<R>> {
+        self.turns = self.turns.saturating_sub(1);
+        let none = (self.clients == 0).then_some(Came::NoClient);
+        self.requests.pop_front().map(Came::Request).or(none)
+    }
+
+    /// What was read and requests, by turns.
+    fn next(&mut self, takes_requests: bool) -> Option<Came<R>> {
+        if !takes_requests {
+            self.next_read()
+        } else if self.turns > 0 {
+            self.next_request().or_else(|| self.next_read())
+        } else {
+            self.next_read().or_else(|| self.next_request())
+        }
+    }
+}
+
 impl<R> Inbox<R> {
     pub(crate) fn new(cap: usize) -> Inbox<R> {
-        let state = State { requests: VecDeque::new(), clients: 1, is_closed: false, stream: 0, read: VecDeque::new() };
+        let (requests, read) = (VecDeque::new(), VecDeque::new());
+        let state = State { requests, clients: 1, is_closed: false, stream: 0, read, turns: 0 };
         Inbox { state: Mutex::new(state), changed: Condvar::new(), cap: cap.max(1) }
     }
 
@@ -103,31 +141,40 @@ impl<R> Inbox<R> {
         true
     }
 
-    /// Waits until the moment at most, for a request too where one may be taken.
+    /// Whether something was read that isn't taken yet.
+    pub(crate) fn has_read(&self) -> bool {
+        !self.lock().read.is_empty()
+    }
+
+    /// Whether the stream ended, be it behind what isn't taken yet.
+    pub(crate) fn has_ended(&self) -> bool {
+        self.lock().has_ended()
+    }
+
+    /// Whether no client is left, and no request of one.
+    pub(crate) fn is_done(&self) -> bool {
+        let state = self.lock();
+        state.clients == 0 && state.requests.is_empty()
+    }
+
+    /// Waits until the moment at most, for a request too where one may be taken. The moment goes first. For a stream that
+    /// ended there is neither.
     pub(crate) fn receive(&self, takes_requests: bool, due: Option<Instant>) -> Came<R> {
         let mut state = self.lock();
         loop {
-            if let Some(read) = state.read.pop_front() {
-                self.changed.notify_all();
-                return Came::Read(read);
-            }
-            if takes_requests {
-                if let Some(request) = state.requests.pop_front() {
-                    self.changed.notify_all();
-                    return Came::Request(request);
-                }
-                if state.clients == 0 {
-                    return Came::NoClient;
-                }
-            }
-            let Some(due) = due else {
-                state = self.wait(state);
-                continue;
-            };
-            let Some(left) = due.checked_duration_since(Instant::now()).filter(|left| !left.is_zero()) else {
+            let is_open = !state.has_ended();
+            let left = due.filter(|_| is_open).map(|due| due.saturating_duration_since(Instant::now()));
+            if left == Some(Duration::ZERO) {
                 return Came::Due;
+            }
+            if let Some(came) = state.next(takes_requests && is_open) {
+                self.changed.notify_all();
+                return came;
+            }
+            state = match left {
+                None => self.wait(state),
+                Some(left) => self.changed.wait_timeout(state, left).unwrap_or_else(PoisonError::into_inner).0,
             };
-            state = self.changed.wait_timeout(state, left).unwrap_or_else(PoisonError::into_inner).0;
         }
     }
 }

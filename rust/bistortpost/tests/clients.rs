@@ -5,8 +5,8 @@ use bistortpost::mqttbytes::QoS;
 use bistortpost::{
     Client, ConnectionError, Dropped, Event, Filter, LastWill, MqttOptions, Outgoing, Packet, Properties, Publish,
 };
-use std::io::{ErrorKind, Read, Write};
-use std::net::{TcpListener, TcpStream};
+use std::io::{self, ErrorKind, Read, Write};
+use std::net::{Shutdown, TcpListener, TcpStream};
 use std::sync::mpsc::{self, RecvTimeoutError, Sender};
 use std::thread::{self, JoinHandle};
 use std::time::{Duration, Instant};
@@ -17,8 +17,14 @@ const CONNACK: &str = "20 03 00 00 00";
 // Without clean start, and the ConnAck of a session that is there.
 const CONNECT_AGAIN: &str = "10 13 0004 4D515454 05 00 003C 05 11 00000000 0001 63";
 const CONNACK_AGAIN: &str = "20 03 01 00 00";
-// A normal Disconnect (3.14).
+// The ConnAck of a broker that wants a packet each second: server keep alive 1 (3.2.2.3.14).
+const CONNACK_OF_A_SECOND: &str = "20 06 00 00 03 13 0001";
+const PINGREQ: &str = "C0 00"; // (3.12)
+const PINGRESP: &str = "D0 00"; // (3.13)
+                                // A normal Disconnect (3.14).
 const DISCONNECT: &str = "E0 00";
+// A message of QoS 0 (3.3): "x" to "a".
+const MESSAGE: &str = "30 05 0001 61 00 78";
 
 /// How long each wait of the broker may take, and how long a test.
 const PATIENCE: Duration = Duration::from_secs(20);
@@ -40,9 +46,15 @@ fn limit(test: &'static str) -> Limit {
 
 enum Step {
     Gets(&'static str),
+    /// Gets the second frame over and over, and then the first.
+    GetsAfter(&'static str, &'static str),
+    /// Gets the frame over and over, until the client ends the connection.
+    GetsToTheEnd(&'static str),
     Says(&'static str),
+    /// From now on says messages with so many bytes over and over, between all else that it says.
+    Floods(usize),
 }
-use Step::{Gets, Says};
+use Step::{Floods, Gets, GetsAfter, GetsToTheEnd, Says};
 
 fn bytes_of(digits: &str) -> Vec<u8> {
     let digits: Vec<u8> = digits.bytes().filter(|digit| *digit != b' ').collect();
@@ -50,18 +62,77 @@ fn bytes_of(digits: &str) -> Vec<u8> {
     digits.chunks(2).map(byte).collect()
 }
 
+/// A message of QoS 0 to "a" with so many bytes (3.3), of which the length goes by 1.5.5.
+fn message_of(count: usize) -> Vec<u8> {
+    let (mut message, mut length) = (vec![0x30], count + 4);
+    while length >= 128 {
+        message.push((length % 128) as u8 | 128);
+        length /= 128;
+    }
+    message.extend([length as u8, 0, 1, b'a', 0]);
+    message.resize(message.len() + count, b'x');
+    message
+}
+
+/// Says messages with so many bytes to the end, and between them what is handed on.
+fn flood(mut stream: TcpStream, count: usize) -> Sender<Vec<u8>> {
+    let (sender, handed_on) = mpsc::channel::<Vec<u8>>();
+    let messages = message_of(count).repeat(1 + 10_000 / count);
+    thread::spawn(move || {
+        while stream.write_all(&messages).is_ok() {
+            for bytes in handed_on.try_iter() {
+                let _ = stream.write_all(&bytes);
+            }
+        }
+    });
+    sender
+}
+
+fn read(stream: &mut TcpStream, count: usize, what: &str) -> Vec<u8> {
+    let mut got = vec![0; count];
+    stream.read_exact(&mut got).unwrap_or_else(|error| panic!("waiting for {what}: {error}"));
+    got
+}
+
+/// Whether the other frame comes, and not the wanted one.
+fn gets_other(stream: &mut TcpStream, wanted: &str, other: &str) -> bool {
+    let (wanted_bytes, other_bytes) = (bytes_of(wanted), bytes_of(other));
+    let mut got = read(stream, 2, wanted);
+    let is_other = got == other_bytes[..2];
+    let rest = if is_other { other_bytes.len() } else { wanted_bytes.len() } - 2;
+    got.extend(read(stream, rest, wanted));
+    assert_eq!(got, if is_other { other_bytes } else { wanted_bytes });
+    is_other
+}
+
 fn follow(mut stream: TcpStream, script: Vec<Step>) {
+    let mut flooding = None;
     for step in script {
-        match step {
-            Says(digits) => stream.write_all(&bytes_of(digits)).unwrap(),
-            Gets(digits) => {
+        match (step, &flooding) {
+            (Says(digits), None) => stream.write_all(&bytes_of(digits)).unwrap(),
+            (Says(digits), Some(sender)) => Sender::send(sender, bytes_of(digits)).unwrap(),
+            (Floods(count), _) => flooding = Some(flood(stream.try_clone().unwrap(), count)),
+            (Gets(digits), _) => {
                 let wanted = bytes_of(digits);
-                let mut got = vec![0; wanted.len()];
-                stream.read_exact(&mut got).unwrap_or_else(|error| panic!("waiting for {digits}: {error}"));
-                assert_eq!(got, wanted, "{digits}");
+                assert_eq!(read(&mut stream, wanted.len(), digits), wanted, "{digits}");
+            }
+            (GetsAfter(wanted, other), _) => {
+                let began = Instant::now();
+                while gets_other(&mut stream, wanted, other) {
+                    assert!(began.elapsed() < PATIENCE, "waiting for {wanted}");
+                }
+            }
+            (GetsToTheEnd(digits), _) => {
+                let mut got = Vec::new();
+                // (a client that leaves what is said unread resets the connection)
+                let _ = stream.read_to_end(&mut got);
+                let wanted = bytes_of(digits);
+                assert!(got.chunks(wanted.len()).all(|frame| frame == wanted), "{got:?}");
             }
         }
     }
+    // (a flood may hold the stream)
+    let _ = stream.shutdown(Shutdown::Both);
 }
 
 /// The next connection.
@@ -524,4 +595,196 @@ fn an_auth_that_nobody_asked_for() {
     let fault = connection.iter().find_map(Result::err).expect("a fault");
     assert_eq!(fault.to_string(), "S4");
     following.join().unwrap();
+}
+
+/// Ten milliseconds for each message.
+fn take_slowly(event: &Event) {
+    if let Event::Incoming(Packet::Publish(_)) = event {
+        thread::sleep(Duration::from_millis(10));
+    }
+}
+
+/// A ping goes out each second (3.1.2.10), though messages come without end, and the answers to the pings are behind them.
+fn pings_under(flood: Step) {
+    let (options, following) = broker(vec![vec![
+        Gets(CONNECT),
+        Says(CONNACK_OF_A_SECOND),
+        flood,
+        Gets(PINGREQ),
+        Says(PINGRESP),
+        Gets(PINGREQ),
+        Says(PINGRESP),
+        Gets(PINGREQ),
+    ]]);
+    let (_client, mut connection) = Client::new(options, 10);
+    let began = Instant::now();
+    while !following.is_finished() {
+        take_slowly(&connection.recv().unwrap());
+    }
+    let took = began.elapsed();
+    following.join().unwrap();
+    assert!(took >= Duration::from_secs(3) && took < Duration::from_secs(8), "three pings within {took:?}");
+}
+
+#[test]
+fn pings_under_a_flood() {
+    let _limit = limit("pings_under_a_flood");
+    // Each read has thousands of messages.
+    pings_under(Floods(1));
+}
+
+#[test]
+fn pings_under_a_flood_of_long_messages() {
+    let _limit = limit("pings_under_a_flood_of_long_messages");
+    // Each read has one message at most.
+    pings_under(Floods(100_000));
+}
+
+#[test]
+fn requests_under_a_flood() {
+    let _limit = limit("requests_under_a_flood");
+    // Messages come faster than they are taken.
+    let (options, following) =
+        broker(vec![vec![Gets(CONNECT), Says(CONNACK), Floods(1000), Gets(MESSAGE), Gets(MESSAGE), Gets(DISCONNECT)]]);
+    let (client, mut connection) = Client::new(options, 10);
+    let mut came = 0;
+    loop {
+        let event = connection.recv().unwrap();
+        if event == Event::Outgoing(Outgoing::Disconnect) {
+            break;
+        }
+        came += usize::from(matches!(event, Event::Incoming(Packet::Publish(_))));
+        if came == 100 {
+            client.publish("a", QoS::AtMostOnce, false, "x").unwrap();
+            client.publish("a", QoS::AtMostOnce, false, "x").unwrap();
+            client.disconnect().unwrap();
+        }
+        take_slowly(&event);
+    }
+    // (the output goes out at the next turn)
+    let _ = connection.recv();
+    following.join().unwrap();
+}
+
+#[test]
+fn a_flood_for_nobody() {
+    let _limit = limit("a_flood_for_nobody");
+    // The events end with the clients, though messages come without end.
+    let (options, following) = broker(vec![vec![Gets(CONNECT), Says(CONNACK), Floods(1000), GetsToTheEnd(MESSAGE)]]);
+    let (client, mut connection) = Client::new(options, 10);
+    client.publish("a", QoS::AtMostOnce, false, "x").unwrap();
+    let mut client = Some(client);
+    for event in connection.iter() {
+        let event = event.unwrap();
+        if let Event::Incoming(Packet::Publish(_)) = event {
+            client = None;
+        }
+        take_slowly(&event);
+    }
+    assert!(client.is_none());
+    drop(connection);
+    following.join().unwrap();
+}
+
+#[test]
+fn a_request_at_the_end_of_a_stream() {
+    let _limit = limit("a_request_at_the_end_of_a_stream");
+    // The broker has closed the connection when a message is asked for, and there is an event of it yet: the message goes over
+    // the next one.
+    let (options, following) = broker(vec![
+        vec![Gets(CONNECT), Says(CONNACK), Says("30 05 0001 61 00 77 30 05 0001 61 00 77")],
+        vec![Gets(CONNECT_AGAIN), Says(CONNACK_AGAIN), Gets(MESSAGE), Gets(DISCONNECT)],
+    ]);
+    let (client, mut connection) = Client::new(options, 10);
+    let mut came = 0;
+    for event in connection.iter() {
+        match event {
+            Ok(Event::Incoming(Packet::Publish(_))) => came += 1,
+            Ok(Event::Outgoing(Outgoing::Publish(_))) => break,
+            _other => continue,
+        }
+        if came == 1 {
+            thread::sleep(Duration::from_millis(500));
+            client.publish("a", QoS::AtMostOnce, false, "x").unwrap();
+        }
+    }
+    assert_eq!(came, 2);
+    client.disconnect().unwrap();
+    while connection.recv().is_ok() {}
+    following.join().unwrap();
+}
+
+#[test]
+fn a_ping_that_isnt_answered() {
+    let _limit = limit("a_ping_that_isnt_answered");
+    // The broker takes what comes and is silent. The client sends messages all the time, and a ping since nothing comes.
+    let script = vec![Gets(CONNECT), Says(CONNACK_OF_A_SECOND), GetsAfter(PINGREQ, MESSAGE), GetsToTheEnd(MESSAGE)];
+    let (options, following) = broker(vec![script]);
+    let (client, mut connection) = Client::new(options, 10);
+    let publishing = thread::spawn(move || {
+        while client.publish("a", QoS::AtMostOnce, false, "x").is_ok() {
+            thread::sleep(Duration::from_millis(20));
+        }
+    });
+    let fault = connection.iter().find_map(Result::err).expect("a fault");
+    assert_eq!(fault.to_string(), "S3");
+    drop(connection);
+    publishing.join().unwrap();
+    following.join().unwrap();
+}
+
+#[test]
+fn a_loss_with_a_fault_behind_it() {
+    let _limit = limit("a_loss_with_a_fault_behind_it");
+    // The broker lost the session (3.2.2.1.1). It says so in one piece with a Disconnect of "server shutting down" (3.14.2.1), or
+    // with a packet of type 0, which is forbidden (2.1.2). The session that it has from then on is the new one.
+    for faulty in ["20 03 00 00 00 E0 01 8B", "20 03 00 00 00 00 00"] {
+        let (options, following) = broker(vec![
+            vec![Gets(CONNECT), Says(CONNACK), Gets("32 07 0001 61 0001 00 78")],
+            vec![Gets(CONNECT_AGAIN), Says(faulty)],
+            vec![Gets(CONNECT_AGAIN), Says(CONNACK_AGAIN), Gets("32 07 0001 62 0001 00 79")],
+            vec![Gets(CONNECT_AGAIN), Says(CONNACK_AGAIN), Gets("3A 07 0001 62 0001 00 79"), Says("40 02 0001")],
+        ]);
+        let (client, mut connection) = Client::new(options, 10);
+        client.publish("a", QoS::AtLeastOnce, false, "x").unwrap();
+        let (mut present, mut lost) = (Vec::new(), Vec::new());
+        for event in connection.iter() {
+            match event {
+                Ok(Event::Incoming(Packet::ConnAck { session_present, .. })) => present.push(session_present),
+                Ok(Event::Incoming(Packet::PubAck { .. })) => break,
+                Err(ConnectionError::SessionLost(dropped)) => {
+                    lost.push(dropped.len());
+                    client.publish("b", QoS::AtLeastOnce, false, "y").unwrap();
+                }
+                _other => {}
+            }
+        }
+        following.join().unwrap();
+        assert_eq!((present, lost), (vec![false, false, true, true], vec![1]), "{faulty}");
+    }
+}
+
+#[test]
+fn an_end_that_stays() {
+    let _limit = limit("an_end_that_stays");
+    let (options, following) = broker(vec![vec![Gets(CONNECT), Says(CONNACK), GetsToTheEnd(MESSAGE)]]);
+    let (client, mut connection) = Client::new(options, 10);
+    client.publish("a", QoS::AtMostOnce, false, "x").unwrap();
+    drop(client);
+    assert!(connection.iter().all(|event| event.is_ok()));
+    assert!(connection.iter().next().is_none());
+    assert!(matches!(connection.recv(), Err(ConnectionError::RequestsDone)));
+    following.join().unwrap();
+}
+
+#[test]
+fn an_end_without_a_broker() {
+    let _limit = limit("an_end_without_a_broker");
+    let open = || -> io::Result<(TcpStream, TcpStream)> { Err(ErrorKind::ConnectionRefused.into()) };
+    let (client, mut connection) = Client::over(MqttOptions::new("c", "", 0), 10, open);
+    for _ in 0..3 {
+        assert!(matches!(connection.recv(), Err(ConnectionError::Io(_))));
+    }
+    drop(client);
+    assert!(connection.iter().next().is_none());
 }
