@@ -206,7 +206,10 @@ def in_rust(listed):
 
 
 def in_python(kind):
-    return f"{TYPES[kind._type_]}*" if hasattr(kind, "contents") else TYPES[kind]
+    if hasattr(kind, "contents"):
+        return f"{TYPES[kind._type_]}*"
+    # (a number that judges what it is given is made of one of C)
+    return TYPES[kind if kind in TYPES else kind.__base__]
 
 
 def calls_in(pattern, path, types_of):

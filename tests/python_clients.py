@@ -6,6 +6,7 @@ import faulthandler
 import socket
 import sys
 import threading
+import time
 import unittest
 from unittest import mock
 
@@ -32,14 +33,15 @@ CONNECT_AGAIN = "10 13 0004 4D515454 05 00 003C 05 11 00000000 0001 63"
 CONNACK_AGAIN = "20 03 01 00 00"
 # A normal Disconnect (3.14).
 DISCONNECT = "E0 00"
-GETS, SAYS, NOTHING = "gets", "says", "nothing"
+GETS, SAYS, NOTHING, ENDS = "gets", "says", "nothing", "ends"
 # How many seconds each wait may take, in all and of one step; and how long nothing is to come where nothing may.
 LIMIT, PATIENCE, SILENCE = 40, 20, 0.3
 
 
 class Broker:
-    """One conversation for each connection: (GETS, bytes) and (SAYS, bytes), each in hexadecimal, and (NOTHING, why), where
-    nothing may come, in order; then it ends the connection."""
+    """One conversation for each connection, in order: (GETS, bytes) and (SAYS, bytes), each in hexadecimal; (NOTHING, why),
+    where nothing may come; and (ENDS, why), where the client ends the connection, as it does after a Disconnect. Then it
+    ends the connection."""
 
     def __init__(self, *conversations):
         self.wrong = []
@@ -56,6 +58,8 @@ class Broker:
                 with connection:
                     for step in conversation:
                         self.take(connection, *step)
+                    if conversation and conversation[-1][0] == GETS and conversation[-1][1].startswith("E0"):
+                        self.take(connection, ENDS, "a Disconnect came")
             except (AssertionError, OSError) as error:
                 self.wrong.append(f"connection {conversations.index(conversation) + 1}, at {step}: {error}")
                 # (the client may wait for what doesn't come now)
@@ -69,6 +73,9 @@ class Broker:
         elif way == GETS:
             got = self.read(connection, len(bytes.fromhex(wanted)))
             assert got == bytes.fromhex(wanted), f"got {got.hex()}"
+        elif way == ENDS:
+            got = connection.recv(1000)
+            assert got == b"", f"got {got.hex()}"
         else:
             try:
                 got = connection.recv(1000)
@@ -162,7 +169,10 @@ class Clients(unittest.TestCase):
             (GETS, "34 07 0001 61 0002 00 78"), (SAYS, "50 02 0002"), (GETS, "62 02 0002"), (SAYS, "70 02 0002"),
             # Refused by a PubAck with a reason string, and by a PubRec (3.4.2, 3.5.2).
             (GETS, "32 07 0001 61 0003 00 78"), (SAYS, "40 0A 0003 97 06 1F 0003 666F6F"),
-            (GETS, "34 07 0001 61 0004 00 78"), (SAYS, "50 03 0004 87"), (GETS, DISCONNECT),
+            (GETS, "34 07 0001 61 0004 00 78"), (SAYS, "50 03 0004 87"),
+            # A PubRec that says that nobody subscribes (3.5.2.1).
+            (GETS, "34 07 0001 61 0005 00 78"), (SAYS, "50 03 0005 10"), (GETS, "62 02 0005"), (SAYS, "70 02 0005"),
+            (GETS, DISCONNECT),
         ]  # fmt: skip
         with Broker(script) as broker, Client("127.0.0.1", broker.port, identifier="c") as client:
             self.assertEqual(client.publish("a", b"x"), 0)
@@ -174,6 +184,7 @@ class Clients(unittest.TestCase):
             with self.assertRaises(Refused) as refused:
                 client.publish("a", b"x", 2)
             self.assertEqual(refused.exception.name, "Not authorized")
+            self.assertEqual(client.publish("a", b"x", 2), 16)
             with self.assertRaises(Fault) as fault:
                 client.publish("a/#", b"x", 1)
             self.assertEqual(fault.exception.name, "BadArgument")
@@ -206,13 +217,13 @@ class Clients(unittest.TestCase):
             self.assertEqual(client.publish("a", b"x", 2), 0)
 
     def test_lost_session(self):
-        # The broker comes back without the session: the subscription and a message of QoS 1 are asked for again.
+        # The broker comes back without the session: the subscription and then a message of QoS 1 are asked for again.
         subscribe, suback = "82 07 0001 00 0001 62 01", "90 04 0001 00 01"
         scripts = [
             [(GETS, CONNECT), (SAYS, CONNACK), (GETS, subscribe), (SAYS, suback), (GETS, "32 07 0001 61 0002 00 78")],
             [
-                (GETS, CONNECT_AGAIN), (SAYS, CONNACK), (GETS, "32 07 0001 61 0001 00 78"),
-                (GETS, "82 07 0002 00 0001 62 01"), (SAYS, "40 02 0001"), (SAYS, "90 04 0002 00 01"), (GETS, DISCONNECT),
+                (GETS, CONNECT_AGAIN), (SAYS, CONNACK), (GETS, subscribe), (GETS, "32 07 0001 61 0002 00 78"),
+                (SAYS, suback), (SAYS, "40 02 0002"), (GETS, DISCONNECT),
             ],
         ]  # fmt: skip
         with Broker(*scripts) as broker, Client("127.0.0.1", broker.port, identifier="c") as client:
@@ -394,8 +405,8 @@ class Clients(unittest.TestCase):
                 (GETS, "82 07 0002 00 0001 62 01"), (SAYS, "90 04 0002 00 01"), (GETS, "A2 06 0003 00 0001 62"),
             ],
             [
-                (GETS, CONNECT_AGAIN), (SAYS, CONNACK), (GETS, "A2 06 0001 00 0001 62"), (GETS, "82 07 0002 00 0001 61 01"),
-                (NOTHING, "may be asked for"), (SAYS, "B0 04 0001 00 11"), (SAYS, "90 04 0002 00 01"), (GETS, DISCONNECT),
+                (GETS, CONNECT_AGAIN), (SAYS, CONNACK), (GETS, "82 07 0001 00 0001 61 01"), (GETS, "A2 06 0002 00 0001 62"),
+                (NOTHING, "may be asked for"), (SAYS, "90 04 0001 00 01"), (SAYS, "B0 04 0002 00 11"), (GETS, DISCONNECT),
             ],
         ]  # fmt: skip
         with Broker(*scripts) as broker, Client("127.0.0.1", broker.port, identifier="c") as client:
@@ -590,6 +601,239 @@ class Clients(unittest.TestCase):
                 break
 
         runs(use, script, keep_alive=5)
+
+    def test_ping_under_a_stream(self):
+        # Messages that come all the time don't keep a ping from going out where nothing was sent (3.1.2.10, 3.12).
+        opened, readers, reads = asyncio.open_connection, [], []
+
+        async def open_connection(*words, **settings):
+            reader, writer = await opened(*words, **settings)
+            readers.append(reader)
+            return reader, writer
+
+        async def use(client):
+            read = readers[0].read
+
+            async def read_at_once(count):
+                if ping.called or len(reads) == 1000:
+                    return await read(count)
+                reads.append(count)
+                return bytes.fromhex("30 05 0001 61 00 78")
+
+            with mock.patch.object(client._session, "ping", wraps=client._session.ping) as ping:
+                readers[0].read = read_at_once
+                client._written -= 100
+                readers[0].feed_data(bytes.fromhex("30 05 0001 61 00 78"))
+                while not ping.called:
+                    await asyncio.sleep(0.01)
+            self.assertLess(len(reads), 1000)
+
+        with mock.patch.object(asyncio, "open_connection", open_connection):
+            runs(use, [(GETS, CONNECT), (SAYS, CONNACK), (GETS, "C0 00"), (SAYS, "D0 00"), (GETS, DISCONNECT)])
+
+    def test_ping_beside_publishes(self):
+        # A ping goes out where nothing comes, whatever is sent; where that isn't answered the connection is another one.
+        connect = "10 13 0004 4D515454 05 02 0005 05 11 00000000 0001 63"
+        again = "10 13 0004 4D515454 05 00 0005 05 11 00000000 0001 63"
+        pings = []
+
+        class Counting(Broker):
+            def talk(self, _):
+                for steps in [(GETS, connect), (SAYS, CONNACK)], [(GETS, again), (SAYS, CONNACK_AGAIN)]:
+                    connection, _ = self.listening.accept()
+                    with connection:
+                        for step in steps:
+                            self.take(connection, *step)
+                        got = b""
+                        while piece := connection.recv(1000):
+                            got += piece
+                        pings.append(got.count(bytes.fromhex("C000")))
+
+        async def use(port):
+            async with aio.Client("127.0.0.1", port, identifier="c", keep_alive=5) as client:
+                lost = client._session, client._writer
+                while client._writer is lost[1]:
+                    await client.publish("a", b"x")
+                    await asyncio.sleep(0.1)
+                while not client._writer:
+                    await asyncio.sleep(0.1)
+
+        with Counting() as broker:
+            asyncio.run(asyncio.wait_for(use(broker.port), PATIENCE))
+        self.assertEqual(pings, [1, 0])
+
+    def test_lost_session_beside_a_fault(self):
+        # The ConnAck says that there is no session, and in one piece with it the broker is busy (3.14.2.1). The next one has the
+        # new session, in which the subscription doesn't stand.
+        subscribe = "82 07 0001 00 0001 62 01"
+        scripts = [
+            [(GETS, CONNECT), (SAYS, CONNACK), (GETS, subscribe), (SAYS, "90 04 0001 00 01")],
+            [(GETS, CONNECT_AGAIN), (SAYS, CONNACK + "E0 01 89")],
+            [
+                (GETS, CONNECT_AGAIN), (SAYS, CONNACK_AGAIN), (GETS, subscribe), (SAYS, "90 04 0001 00 01"),
+                (SAYS, "30 05 0001 62 00 78"), (GETS, DISCONNECT),
+            ],
+        ]  # fmt: skip
+        with Broker(*scripts) as broker, Client("127.0.0.1", broker.port, identifier="c") as client:
+            client.subscribe("b", 1)
+            self.assertEqual(next(client.messages(PATIENCE)).payload, b"x")
+
+    def test_refused_again(self):
+        # A subscription that stood is refused when it is asked for again: not authorized (3.9.3).
+        subscribe = "82 07 0001 00 0001 62 01"
+        scripts = [
+            [(GETS, CONNECT), (SAYS, CONNACK), (GETS, subscribe), (SAYS, "90 04 0001 00 01")],
+            [(GETS, CONNECT_AGAIN), (SAYS, CONNACK), (GETS, subscribe), (SAYS, "90 04 0001 00 87"), (ENDS, "it is refused")],
+        ]
+        with Broker(*scripts) as broker, Client("127.0.0.1", broker.port, identifier="c") as client:
+            client.subscribe("b", 1)
+            with self.assertRaises(Refused) as refused:
+                next(client.messages(PATIENCE))
+            self.assertEqual(refused.exception.name, "Not authorized")
+
+    def test_given_up_without_a_connection(self):
+        # Whoever gives up while there is no connection isn't sent for later.
+        scripts = [
+            [(GETS, CONNECT), (SAYS, CONNACK)],
+            [(GETS, CONNECT_AGAIN), (SAYS, CONNACK_AGAIN), (GETS, "32 07 0001 61 0001 00 79"), (SAYS, "40 02 0001"), (GETS, DISCONNECT)],
+        ]
+
+        async def use(client):
+            while client._writer:
+                await asyncio.sleep(0.01)
+            with self.assertRaises(asyncio.TimeoutError):
+                await asyncio.wait_for(client.publish("a", b"x", 1), 0.1)
+            self.assertEqual(len(client._waiting), 0)
+            self.assertEqual(await client.publish("a", b"y", 1), 0)
+
+        runs(use, *scripts)
+
+    def test_numbers_out_of_range(self):
+        # More than the field of a packet can say (3.1.2.10, 3.1.2.11.2), and what is neither text nor bytes.
+        for settings in {"keep_alive": 65536}, {"session_expiry_interval": 1 << 32}, {"keep_alive": -1}:
+            with Broker([]) as broker, self.assertRaises(Fault) as fault:
+                Client("127.0.0.1", broker.port, identifier="c", **settings).__enter__()
+            self.assertEqual(fault.exception.name, "BadArgument")
+        for limit in 65537, -1:
+            with self.assertRaises(Fault):
+                aio.Client("127.0.0.1", limit=limit)
+        script = [(GETS, CONNECT), (SAYS, CONNACK), (GETS, DISCONNECT)]
+        with Broker(script) as broker, Client("127.0.0.1", broker.port, identifier="c") as client:
+            for qos in 257, -1:
+                with self.assertRaises(Fault):
+                    client.publish("a", b"x", qos)
+            for payload in 5, None:
+                with self.assertRaises(TypeError):
+                    client.publish("a", payload)
+
+    def test_auth_beside_a_fault(self):
+        # An Auth in one piece with a malformed packet isn't answered; the client connects again (4.12, 4.13).
+        connect = "10 17 0004 4D515454 05 02 003C 09 11 00000000 15 0001 6D 0001 63"
+        script = [(GETS, connect), (SAYS, "F0 0A 18 08 15 0001 6D 16 0001 02" + "00 00")]
+        settings = {"properties": Properties(authentication_method="m"), "authenticate": lambda _: b""}
+        with Broker(script) as broker, self.assertRaises(Fault):
+            Client("127.0.0.1", broker.port, identifier="c", **settings).__enter__()
+
+    def test_cancelled_while_it_enters(self):
+        # Who gives up before the ConnAck leaves no connection behind.
+        async def use(port):
+            client = aio.Client("127.0.0.1", port, identifier="c")
+            with self.assertRaises(TimeoutError):
+                async with asyncio.timeout(0.3), client:
+                    self.fail("it is connected")
+            self.assertTrue(client._running.done())
+
+        with Broker([(GETS, CONNECT), (ENDS, "nobody waits for it")]) as broker:
+            asyncio.run(use(broker.port))
+
+    def test_entered_twice(self):
+        async def use(client):
+            with self.assertRaises(RuntimeError):
+                await client.__aenter__()
+            other = aio.Client("127.0.0.1")
+            for asked in other.publish("a"), other.publish("a", b"", 1), other.subscribe("a"), other.next_message():
+                with self.assertRaises(RuntimeError):
+                    await asked
+
+        runs(use, [(GETS, CONNECT), (SAYS, CONNACK), (GETS, DISCONNECT)])
+
+    def test_slow_reader(self):
+        # All that was written is sent before the client ends, the Disconnect too.
+        count, size = 50, 65536
+        frame = bytes.fromhex("30 84 80 04 0001 61 00") + size * b"x"
+        came = []
+
+        class Slow(Broker):
+            def talk(self, _):
+                connection, _ = self.listening.accept()
+                with connection:
+                    connection.setsockopt(socket.SOL_SOCKET, socket.SO_RCVBUF, 65536)
+                    self.take(connection, GETS, CONNECT)
+                    self.take(connection, SAYS, CONNACK)
+                    while piece := connection.recv(65536):
+                        came.append(piece)
+                        time.sleep(0.01)
+
+        async def use(client):
+            for _ in range(count):
+                await client.publish("a", size * b"x")
+
+        opened = asyncio.open_connection
+
+        async def open_connection(*words, **settings):
+            reader, writer = await opened(*words, **settings)
+            writer.get_extra_info("socket").setsockopt(socket.SOL_SOCKET, socket.SO_SNDBUF, 16384)
+            return reader, writer
+
+        patches = mock.patch.object(sys.modules[__name__], "Broker", Slow), mock.patch.object(asyncio, "open_connection", open_connection)
+        with patches[0], patches[1]:
+            runs(use)
+        self.assertEqual(len(b"".join(came)), count * len(frame) + 2)
+        self.assertEqual(b"".join(came), count * frame + bytes.fromhex(DISCONNECT))
+
+    def test_nothing_is_read(self):
+        # A client ends within its time also where the broker takes nothing of what was written.
+        left = threading.Event()
+
+        class Deaf(Broker):
+            def talk(self, _):
+                connection, _ = self.listening.accept()
+                with connection:
+                    self.take(connection, GETS, CONNECT)
+                    self.take(connection, SAYS, CONNACK)
+                    left.wait(LIMIT)
+
+        async def use(client):
+            asked = asyncio.gather(*[client.publish("a", 65536 * b"x") for _ in range(400)])
+            await asyncio.sleep(0.1)
+            begun = time.monotonic()
+            await client.disconnect()
+            left.set()
+            self.assertLess(time.monotonic() - begun, 5)
+            await asked
+
+        with mock.patch.object(sys.modules[__name__], "Broker", Deaf), mock.patch.object(aio, "PATIENCE", 1):
+            runs(use)
+
+    def test_threads_at_the_end(self):
+        # All who wait for a message, or ask for something, come back when the client ends, on any thread.
+        script = [(GETS, CONNECT), (SAYS, CONNACK), (GETS, DISCONNECT)]
+        ended = []
+
+        def wait(client):
+            ended.append(list(client.messages()))
+
+        with Broker(script) as broker:
+            with Client("127.0.0.1", broker.port, identifier="c") as client:
+                threads = [threading.Thread(target=wait, args=(client,), daemon=True) for _ in range(64)]
+                for thread in threads:
+                    thread.start()
+                time.sleep(0.3)
+            for thread in threads:
+                thread.join(5)
+        self.assertEqual(ended, 64 * [[]])
+        with self.assertRaises(ConnectionLost):
+            client.publish("a", b"x")
 
 
 if __name__ == "__main__":

@@ -37,41 +37,55 @@ class EventInfo(c.Structure):
     )
 
 
+def _number(kind):
+    """A type of C that takes no number which is too large for it, of which ctypes would take the lower bits."""
+
+    class Number(kind):
+        @classmethod
+        def from_param(cls, value):
+            if not 0 <= value < 1 << 8 * c.sizeof(kind):
+                raise ValueError(f"{value} is no number of {8 * c.sizeof(kind)} bits")
+            return kind(value)
+
+    return Number
+
+
+U8, U16, U32, U64 = (_number(kind) for kind in (c.c_uint8, c.c_uint16, c.c_uint32, c.c_uint64))
 BYTES = [c.c_char_p, c.c_size_t]
 COUNT = [c.POINTER(c.c_size_t)]
-MOMENT = [c.c_uint64]
+MOMENT = [U64]
 CALLS = {
-    "new": [c.c_uint16, c.c_bool],
+    "new": [U16, c.c_bool],
     "free": [],
     "forget": [],
-    "add_number": [c.c_uint32, c.c_uint32],
-    "add_bytes": [c.c_uint32] + BYTES,
+    "add_number": [U32, U32],
+    "add_bytes": [U32] + BYTES,
     "add_pair": BYTES + BYTES,
-    "add_filter": BYTES + [c.c_uint8, c.c_bool, c.c_bool, c.c_uint8],
+    "add_filter": BYTES + [U8, c.c_bool, c.c_bool, U8],
     "set_login": BYTES + BYTES,
-    "set_will": BYTES + BYTES + [c.c_uint8, c.c_bool],
-    "connect": BYTES + [c.c_uint16, c.c_bool, c.c_uint32],
+    "set_will": BYTES + BYTES + [U8, c.c_bool],
+    "connect": BYTES + [U16, c.c_bool, U32],
     "receive": BYTES + MOMENT,
     "output": BYTES + COUNT,
     "sent": [c.c_size_t],
-    "publish": BYTES + BYTES + [c.c_uint8, c.c_bool] + MOMENT,
+    "publish": BYTES + BYTES + [U8, c.c_bool] + MOMENT,
     "subscribe_all": MOMENT,
     "unsubscribe": BYTES + MOMENT,
     "next_id": [c.POINTER(c.c_uint16)],
     "may_publish": [c.POINTER(c.c_bool)],
     "ping": MOMENT,
-    "disconnect_with": [c.c_uint8] + MOMENT,
-    "auth": [c.c_uint8] + MOMENT,
+    "disconnect_with": [U8] + MOMENT,
+    "auth": [U8] + MOMENT,
     "next_event": [c.POINTER(EventInfo)] + BYTES + BYTES,
-    "event_number": [c.c_uint32, c.POINTER(c.c_uint32)],
-    "event_bytes": [c.c_uint32] + BYTES + COUNT,
+    "event_number": [U32, c.POINTER(c.c_uint32)],
+    "event_bytes": [U32] + BYTES + COUNT,
     "event_pair": [c.c_size_t] + BYTES + COUNT + BYTES + COUNT,
     "event_subscription": [c.c_size_t] + COUNT,
     "event_reason": [c.c_size_t, c.POINTER(c.c_uint8)],
     "take_up": [c.c_bool] + MOMENT + COUNT,
     "next_dropped": [c.POINTER(EventInfo)] + BYTES + BYTES,
-    "dropped_number": [c.c_uint32, c.POINTER(c.c_uint32)],
-    "dropped_bytes": [c.c_uint32] + BYTES + COUNT,
+    "dropped_number": [U32, c.POINTER(c.c_uint32)],
+    "dropped_bytes": [U32] + BYTES + COUNT,
     "dropped_pair": [c.c_size_t] + BYTES + COUNT + BYTES + COUNT,
     "save": BYTES + COUNT,
     "load": BYTES,

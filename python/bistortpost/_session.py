@@ -56,10 +56,14 @@ class Session:
         self._handle = Handle = library.Handle()
         self._calls = library.calls()
         self._done("new", limit, False)
-        weakref.finalize(self, self._calls["free"], c.byref(Handle))
+        # (not at the interpreter's end, when a thread may still be within a call)
+        weakref.finalize(self, self._calls["free"], c.byref(Handle)).atexit = False
 
     def _ask(self, name, *arguments):
-        return self._calls[name](c.byref(self._handle), *arguments)
+        try:
+            return self._calls[name](c.byref(self._handle), *arguments)
+        except c.ArgumentError as error:
+            raise Fault(library.BAD_ARGUMENT, str(error)) from None
 
     def _done(self, name, *arguments, texts=()):
         """Fault where the call is refused, which says so of the first of these texts that no packet can say."""
@@ -271,7 +275,12 @@ def _message(info, topic: bytes, payload: bytes, properties) -> Message:
 
 def _bytes(value) -> tuple[bytes, int]:
     """A text or bytes, with the length in bytes."""
-    data = value.encode(errors="surrogateescape") if isinstance(value, str) else bytes(value)
+    if isinstance(value, str):
+        data = value.encode(errors="surrogateescape")
+    elif isinstance(value, (bytes, bytearray, memoryview)):
+        data = bytes(value)
+    else:
+        raise TypeError(f"neither text nor bytes: {value!r}")
     return data, len(data)
 
 

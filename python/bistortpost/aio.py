@@ -3,6 +3,7 @@
 from __future__ import annotations
 
 import asyncio
+import contextlib
 import ssl
 import time
 from collections import deque
@@ -18,8 +19,10 @@ from .values import Message, Properties, Subscription, Will
 PIECE = 65536
 # The pauses before a connection is opened again grow from the first to the last, in seconds.
 FIRST_PAUSE, LAST_PAUSE = 1, 60
-# How long a broker may take to answer a Connect, in seconds.
+# How long a broker may take to be reached, to answer a Connect, and to take what is sent, in seconds.
 PATIENCE = 20
+# After so many seconds the next address of a name is tried beside the one before.
+NEXT_ADDRESS = 0.25
 # The reason codes of what passes by itself, after which a connection is opened again (MQTT 5.0 sections 2.4, 4.13): a normal
 # end, unspecified error (ejabberd's to a client that comes back while it still hands the session on), server unavailable,
 # server busy, server shutting down, keep alive timeout, message rate too high, connection rate exceeded, maximum connect time.
@@ -33,8 +36,8 @@ class _Request:
 
     def __init__(self, what, packet, ask, qos=0, keep=lambda reasons: None):
         self.what, self.packet, self.ask, self.qos, self.keep = what, packet, ask, qos, keep
-        # Of a message of QoS 2, whether its PubRec came.
-        self.is_received = False
+        # Of a message of QoS 2, the reason of its PubRec, once that came.
+        self.received: int | None = None
         self.answer = asyncio.get_running_loop().create_future()
         # (nobody may wait for it)
         self.answer.add_done_callback(lambda answer: answer.cancelled() or answer.exception())
@@ -42,7 +45,7 @@ class _Request:
     def fail(self, why):
         # (whoever waited may have given up)
         if not self.answer.done():
-            self.answer.set_exception(why)
+            self.answer.set_exception(_anew(why))
 
 
 class Client:
@@ -97,7 +100,10 @@ class Client:
         self._subscribed: dict[str, tuple[Subscription, Properties | None]] = {}
         self._messages: asyncio.Queue[Message | None] = asyncio.Queue()
         self._ended: MqttError | None = None
-        self._written = 0.0
+        # When something was sent last, and when something came last, or was asked for by a ping.
+        self._written = self._heard = 0.0
+        # Whether the broker said that it has no session, and the session wasn't taken up since.
+        self._is_lost = False
         self._pause = FIRST_PAUSE
         self._keep_alive = keep_alive
         self._running: asyncio.Task[None] | None = None
@@ -109,26 +115,39 @@ class Client:
     # ---- The life of a client.
 
     async def __aenter__(self) -> Client:
+        if self._running:
+            raise RuntimeError("a client is entered once: make another one")
         self._connected = asyncio.get_running_loop().create_future()
         self._running = asyncio.create_task(self._run())
-        await asyncio.shield(self._connected)
+        try:
+            await asyncio.shield(self._connected)
+        except BaseException:
+            await self._leave()
+            raise
         return self
 
     async def __aexit__(self, *_):
         await self.disconnect()
 
-    async def disconnect(self, reason: int = 0, properties: Properties | None = None):
-        """Ends the connection by a Disconnect with this reason code, as 4 after which the broker publishes the will. A client
-        that ended does nothing. Fault of a reason that only a broker gives, and of a property that a Disconnect can't have:
-        the connection then goes on."""
-        if self._writer:
-            self._session.disconnect(reason, properties, _now())
-            self._flush()
-            await self._drain()
+    async def _leave(self):
+        """Ends the client. What was written is sent, as far as the broker takes it within its time."""
+        writer = self._writer
         self._end(DISCONNECTED)
         if self._running:
             self._running.cancel()
             await asyncio.gather(self._running, return_exceptions=True)
+        if writer:
+            with contextlib.suppress(OSError):
+                await writer.wait_closed()
+
+    async def disconnect(self, reason: int = 0, properties: Properties | None = None):
+        """Ends the connection by a Disconnect with this reason code, as 4 after which the broker publishes the will. A client
+        that ended does nothing. Fault of a reason that only a broker gives, and of a property that a Disconnect can't have:
+        the connection then goes on."""
+        if self._writer and not self._ended:
+            self._session.disconnect(reason, properties, _now())
+            self._flush()
+        await self._leave()
 
     # ---- Requests.
 
@@ -197,13 +216,14 @@ class Client:
     async def next_message(self, timeout: float | None = None) -> Message | None:
         """The next message that comes; None once the client ended by `disconnect`, ConnectionLost where it is lost.
         TimeoutError where none comes for so many seconds."""
+        self._must_be_entered()
         async with asyncio.timeout(timeout):
             message = await self._messages.get()
         if message is None:
             # (for whoever asks next)
             self._messages.put_nowait(None)
             if self._ended is not DISCONNECTED:
-                raise self._ended
+                raise _anew(self._ended)
         return message
 
     @property
@@ -225,11 +245,24 @@ class Client:
 
     async def _answer_of(self, request) -> Event:
         """Asks for it in its turn, and waits for the answer."""
-        if self._ended:
-            raise self._ended
+        self._must_run()
         self._waiting.append(request)
         self._ask_waiting()
-        return await request.answer
+        try:
+            return await request.answer
+        except asyncio.CancelledError:
+            with contextlib.suppress(ValueError):
+                self._waiting.remove(request)
+            raise
+
+    def _must_run(self):
+        self._must_be_entered()
+        if self._ended:
+            raise _anew(self._ended)
+
+    def _must_be_entered(self):
+        if not self._running:
+            raise RuntimeError("the client isn't entered yet, by `async with`")
 
     def _ask_waiting(self):
         """Asks for what waits, in order, as far as it may be asked for."""
@@ -254,10 +287,10 @@ class Client:
         return sum(1 for awaited in self._awaited.values() if awaited.qos) < self._most
 
     async def _until_connected(self):
-        while self._ended or not self._writer:
-            if self._ended:
-                raise self._ended
+        self._must_run()
+        while not self._writer:
             await self._changed.wait()
+            self._must_run()
 
     def _has_changed(self):
         self._changed.set()
@@ -297,18 +330,21 @@ class Client:
         host, port = self._address
         # (not by wait_for, which in Python 3.11 forgets that it is cancelled where what it waits for comes just then)
         async with asyncio.timeout(PATIENCE):
-            reader, writer = await asyncio.open_connection(host, port, ssl=self._tls)
+            reader, writer = await asyncio.open_connection(host, port, ssl=self._tls, happy_eyeballs_delay=NEXT_ADDRESS)
         try:
             self._session.connect(self._settings)
             writer.write(self._session.output())
-            self._written = time.monotonic()
+            self._written = self._heard = time.monotonic()
             await self._open(reader, writer)
             while data := await self._read(reader):
                 self._handle(self._take(data))
-                await self._drain()
+                async with asyncio.timeout(PATIENCE):
+                    await self._drain()
         finally:
             self._writer = None
+            # (what is written goes out, as long as the broker takes it)
             writer.close()
+            asyncio.get_running_loop().call_later(PATIENCE, writer.transport.abort)
 
     async def _open(self, reader, writer):
         """Reads until the ConnAck came, and takes the session up."""
@@ -331,13 +367,15 @@ class Client:
         if connack.properties.server_keep_alive is not None:
             self._keep_alive = connack.properties.server_keep_alive
         self._most = min(self._limit, connack.properties.receive_maximum or 65535)
-        dropped = self._session.take_up(connack.session_present, _now())
+        present = connack.session_present and not self._is_lost
+        dropped = self._session.take_up(present, _now())
+        self._is_lost = False
         # From now on the session is gone on with, as long as the broker keeps it: under the client identifier that it
         # assigned, where it did (3.2.2.3.7).
         client_id = self._settings.client_id or connack.properties.assigned_client_identifier or ""
         self._settings = replace(self._settings, client_id=client_id, clean_start=False)
         self._writer = writer
-        self._ask_again(connack.session_present, {one.pkid: one.message for one in dropped})
+        self._ask_again(present, {one.pkid: one.message for one in dropped})
         self._handle(events[1:])
         if not self._connected.done():
             self._connected.set_result(connack.properties)
@@ -359,20 +397,42 @@ class Client:
                 # (what it was to end, ended with the session)
                 request.keep([])
         if not session_present:
-            again += [self._subscription([s], properties) for s, properties in self._subscribed.values()]
+            # (before what awaits an ack, which may be one for the same filter, or a message that it is to bring)
+            again = [self._subscription([s], properties) for s, properties in self._subscribed.values()] + again
+            for request in again[: len(self._subscribed)]:
+                request.answer.add_done_callback(self._hear_subscribed)
         self._waiting.extendleft(reversed(again))
         self._ask_waiting()
 
+    def _hear_subscribed(self, answer):
+        """A subscription that stood is refused when it is asked for again: the client ends, rather than hear nothing of it."""
+        error = None if answer.cancelled() else answer.exception()
+        if isinstance(error, (Refused, Fault)) and not self._ended:
+            self._end(error)
+            self._running.cancel()
+
     async def _read(self, reader):
-        """The next bytes, with a ping where nothing was sent for the keep alive; b"" at the end."""
+        """The next bytes, with a ping where nothing was sent for the keep alive, or nothing came; b"" at the end."""
         while True:
-            left = self._written + self._keep_alive - time.monotonic() if self._keep_alive else None
+            left = None
+            if self._keep_alive:
+                left = min(self._written, self._heard) + self._keep_alive - time.monotonic()
+                if left <= 0:
+                    self._session.ping(_now())
+                    self._flush()
+                    self._heard = time.monotonic()
+                    continue
+            limit = asyncio.timeout(left)
             try:
-                async with asyncio.timeout(left if left is None else max(left, 0.01)):
-                    return await reader.read(PIECE)
+                async with limit:
+                    data = await reader.read(PIECE)
             except TimeoutError:
-                self._session.ping(_now())
-                self._flush()
+                # (else it is the connection's)
+                if limit.expired():
+                    continue
+                raise
+            self._heard = time.monotonic()
+            return data
 
     def _flush(self):
         data = self._session.output() if self._writer else b""
@@ -381,8 +441,10 @@ class Client:
             self._written = time.monotonic()
 
     async def _drain(self):
+        """Waits until most of what was written is sent, or the connection has ended, which is told elsewhere."""
         if self._writer:
-            await self._writer.drain()
+            with contextlib.suppress(OSError):
+                await self._writer.drain()
 
     # ---- Extended authentication.
 
@@ -407,7 +469,7 @@ class Client:
         if not proven or proven.done():
             return
         if isinstance(answer, MqttError):
-            proven.set_exception(answer)
+            proven.set_exception(_anew(answer))
         else:
             proven.set_result(answer)
 
@@ -419,14 +481,22 @@ class Client:
         try:
             self._session.receive(data, _now())
         except Fault as fault:
-            events = list(self._session.events())
-            self._hand_on(events)
+            events = self._events()
+            # (an Auth isn't answered any more)
+            self._hand_on([event for event in events if event.packet != library.AUTH])
             for event in events:
                 is_refusal = event.packet == library.CONNACK and event.reasons[0] >= 128
                 if is_refusal or event.packet == library.DISCONNECT:
                     raise Refused("the connection", event.reasons[0], event.properties.reason_string) from fault
             raise
-        return list(self._session.events())
+        return self._events()
+
+    def _events(self) -> list[Event]:
+        events = list(self._session.events())
+        for event in events:
+            if event.packet == library.CONNACK and event.reasons[0] < 128 and not event.session_present:
+                self._is_lost = True
+        return events
 
     def _handle(self, events):
         self._hand_on(events)
@@ -455,12 +525,13 @@ class Client:
         if not request or request.packet != packet:
             return
         if event.packet == library.PUBREC and event.reasons[0] < 128:
-            request.is_received = True
+            request.received = event.reasons[0]
             return
         del self._awaited[event.pkid]
-        # A release that goes out again after a cut may be of a message that was done: that is no error (3.7.2.1).
-        if packet == library.PUBCOMP and request.is_received:
-            event.reasons = [0]
+        # The PubRec says what became of the message. (A release that goes out again after a cut may be of one that was done,
+        # of which the PubComp says so: that is no error, 3.7.2.1.)
+        if packet == library.PUBCOMP and request.received is not None:
+            event.reasons = [request.received]
         request.keep(event.reasons)
         refusal = next((reason for reason in event.reasons if reason >= 128), None)
         if refusal is not None:
@@ -478,8 +549,16 @@ class Client:
             request.fail(why)
         self._is_proven(why)
         if self._connected and not self._connected.done():
-            self._connected.set_exception(why)
+            self._connected.set_exception(_anew(why))
 
 
 def _now() -> int:
     return int(time.monotonic())
+
+
+def _anew(why: MqttError) -> MqttError:
+    """Another one that says the same. (One that is raised again keeps what stood on the stack each time.)"""
+    other = why.__class__.__new__(why.__class__, *why.args)
+    other.__dict__.update(why.__dict__)
+    other.__cause__ = why.__cause__
+    return other

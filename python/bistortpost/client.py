@@ -7,7 +7,11 @@ import threading
 from collections.abc import Iterator
 
 from . import aio
+from .errors import ConnectionLost
 from .values import Message, Properties, Subscription
+
+# How long the calls of other threads may take once the client has ended, in seconds.
+PATIENCE = 1
 
 
 class Client:
@@ -26,9 +30,21 @@ class Client:
         self._thread = threading.Thread(target=self._loop.run_forever, daemon=True)
         self._hostname, self._port, self._settings = hostname, port, settings
         self._client: aio.Client | None = None
+        # (no call comes once the thread is to stop)
+        self._lock, self._is_stopped = threading.Lock(), False
 
-    def _do(self, call, timeout=None):
-        return asyncio.run_coroutine_threadsafe(call, self._loop).result(timeout)
+    def _do(self, call):
+        with self._lock:
+            if self._is_stopped:
+                call.close()
+                raise ConnectionLost("disconnected")
+            asked = asyncio.run_coroutine_threadsafe(call, self._loop)
+        try:
+            return asked.result()
+        except BaseException:
+            # (an interrupt ends the wait alone)
+            asked.cancel()
+            raise
 
     def __enter__(self) -> Client:
         self._thread.start()
@@ -44,13 +60,28 @@ class Client:
         return await aio.Client(self._hostname, self._port, **self._settings).__aenter__()
 
     def __exit__(self, *_):
-        self._do(self._client.disconnect())
-        self._stop()
+        try:
+            self._do(self._client.disconnect())
+        finally:
+            self._stop()
 
     def _stop(self):
+        with self._lock:
+            self._is_stopped = True
+            ended = asyncio.run_coroutine_threadsafe(self._end_calls(), self._loop)
+        ended.result()
         self._loop.call_soon_threadsafe(self._loop.stop)
         self._thread.join()
         self._loop.close()
+
+    async def _end_calls(self):
+        """Waits for the calls that are under way, each of which ends with the client."""
+        calls = asyncio.all_tasks() - {asyncio.current_task()}
+        if calls:
+            _, left = await asyncio.wait(calls, timeout=PATIENCE)
+            for call in left:
+                call.cancel()
+            await asyncio.gather(*left, return_exceptions=True)
 
     @property
     def connack(self) -> Properties:
@@ -70,6 +101,9 @@ class Client:
         """Ends the connection for a reason. At the end of `with` that is done by itself, for the normal one."""
         self._do(self._client.disconnect(reason, properties))
 
+    def next_message(self, timeout: float | None = None) -> Message | None:
+        return self._do(self._client.next_message(timeout))
+
     def reauthenticate(self, data: bytes | None = None) -> Properties:
         return self._do(self._client.reauthenticate(data))
 
@@ -80,6 +114,10 @@ class Client:
                 message = self._do(self._client.next_message(timeout))
             except asyncio.TimeoutError:
                 return
+            except ConnectionLost:
+                if self._is_stopped:
+                    return
+                raise
             if message is None:
                 return
             yield message
