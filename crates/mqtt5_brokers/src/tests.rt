@@ -1,7 +1,8 @@
 //! Tests of a broker's crates: of what it makes of bytes (`broker`), of its sessions over packets (`sessions`), both as rows of text,
-//! each walked by one function; of subscriptions and queues; and of the index of topic filters.
+//! each walked by one function; of subscriptions and queues; of the network in code; and of the index of topic filters.
 
 mod broker;
+mod network;
 mod sessions;
 mod subscriptions;
 mod topic_index;

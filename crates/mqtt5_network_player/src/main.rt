@@ -6,8 +6,6 @@ mod contents;
 mod routed;
 pub mod run;
 mod script;
-#[cfg(test)]
-mod tests;
 
 use mqtt5_scripts::{refuse_words, words, written_out};
 use std::io;

@@ -12,8 +12,8 @@ use std::num::NonZeroU16;
 /// How many clients a script may have.
 const MOST_CLIENTS: usize = 100;
 
-/// The clients, what happens, whether a client's subscriptions change, one is away or its session ends, and whether all then
-/// comes to rest.
+/// The clients, what happens, whether a client's subscriptions or turns change, one is away, its session ends or a publish expires, and
+/// whether all then comes to rest.
 #[derive(Debug, Drop)]
 pub struct NetworkScript {
     pub profiles: Vec<Profile>,
@@ -166,8 +166,17 @@ fn parse_change(alloc: Global, word: &str, rest: Option<&str>) -> Result<ClientE
         ("left", None) => Ok(ClientEvent::Left),
         ("back", fields) => parse_back(alloc, fields),
         ("ends", None) => Ok(ClientEvent::Ends),
+        ("expire", None) => Ok(ClientEvent::Expire),
+        ("turn", Some(filter)) => parse_turn(alloc, filter, true),
+        ("no-turn", Some(filter)) => parse_turn(alloc, filter, false),
         _ => Err(LineError::Bad),
     }
+}
+
+/// The topic filter of the shared subscription in which the client has the turn then, or hasn't.
+fn parse_turn(alloc: Global, filter: &str, turn: bool) -> Result<ClientEvent, LineError> {
+    let topic_filter = Text::from(<String as Field>::parse(alloc, filter)?);
+    Ok(ClientEvent::Turn(topic_filter, turn))
 }
 
 /// The receive maximum that the broker says, and the one that the client says.
