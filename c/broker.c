@@ -2,6 +2,7 @@
    isn't, it is only tested (tests/broker). One thread, poll and sockets that never block. docs/BROKER.md says how it is used. */
 #define _POSIX_C_SOURCE 200809L
 #include "broker_frames.h"
+#include "broker_log.h"
 #include "broker_options.h"
 #include "broker_rights.h"
 #include "broker_users.h"
@@ -10,16 +11,13 @@
 #include <errno.h>
 #include <fcntl.h>
 #include <limits.h>
-#include <netdb.h>
 #include <netinet/in.h>
 #include <netinet/tcp.h>
 #include <poll.h>
 #include <signal.h>
-#include <stdarg.h>
 #include <stdio.h>
 #include <stdlib.h>
 #include <string.h>
-#include <sys/resource.h>
 #include <sys/socket.h>
 #include <time.h>
 #include <unistd.h>
@@ -27,11 +25,14 @@
 /* ---- Limits of its own. ---- */
 
 enum {
-    PIECE = 65536,         /* bytes that are read, and sent, at a time */
+    PIECE = 65536,         /* bytes that are read, and sent, at a time, at most */
+    FIRST = 4096,          /* bytes that are read at first */
+    LEAST = 512,           /* bytes that are read at a time where what came before took long */
     TURNS = 8,             /* pieces of one connection before the next one has its turn */
     PASSES = 16,           /* publishes passed before the waiting output is looked at, at most */
     FEW = 64,              /* connections that are looked at by themselves, at most */
     MANY = 512,            /* where there are numbers of connections beyond this */
+    SECOND = 1000,         /* milliseconds */
     UNREAD = 4194304,      /* bytes that are read of a client while its own socket takes nothing */
     REST = 1000,           /* milliseconds for the last bytes of a connection that has ended, and between measures of queues */
     AGAIN = 100            /* milliseconds after which a call that had no memory is tried again */
@@ -49,7 +50,8 @@ struct connection {
     enum state state;
     int socket;
     uint64_t number;   /* counts all connections, for the log */
-    uint64_t deadline; /* of ENDING and DRAINED */
+    uint64_t deadline; /* of ENDING and DRAINED, and of OPEN without a client */
+    size_t piece;      /* bytes that are read at a time */
     bool is_client;    /* whether a client has connected on it */
     bool waits;        /* its socket takes no more bytes for now */
     size_t unread;     /* bytes that were read since then, but for those that were sent */
@@ -63,7 +65,7 @@ static size_t *connection_of; /* the last one of each client, by the number that
 static size_t numbers;        /* how many of these there is room for */
 static size_t used;           /* all connections from this number on are unused */
 static uint64_t now, count;
-static uint64_t due_at;                        /* when the broker has something to do */
+static uint64_t due_at, sought_at;             /* when the broker has something to do, and when it was asked for that */
 static uint64_t tries_at, listens_at, ends_by; /* when it does that and takes connections again, and waits no longer */
 static uint64_t passes_at;                     /* when what came is passed on again, where that had no memory; else 0 */
 static uint64_t measures_at;                   /* when it measures what is kept again */
@@ -71,22 +73,12 @@ static int listener, signals[2];
 static bool ends, grows;  /* whether it ends, and something may have come into any queue since these were measured */
 static bool came, others; /* in this round: what may be in any queue, and what may have ended any connection */
 static bool judged;       /* and whether a user was judged */
-static bool stuck;        /* and whether a socket takes no more of what is passed on */
+static size_t busy[FEW], few; /* the connections that had something to do, or wait for their sockets, and how many these are */
+static bool acted;        /* whether anything happened since the broker was asked when it has something to do */
 static size_t first;      /* the connection that is looked at first in it */
+static size_t free_from;  /* all connections before this number are in use */
+static size_t drained;    /* how many are DRAINED */
 static uint8_t in[PIECE], out[PIECE];
-
-static void say(const char *format, ...) {
-    va_list words;
-    if (options.quiet) return;
-    va_start(words, format);
-    vfprintf(stderr, format, words);
-    va_end(words);
-}
-
-static void fail(const char *what) {
-    fprintf(stderr, "broker: %s: %s\n", what, strerror(errno));
-    exit(1);
-}
 
 static uint64_t moment(void) {
     struct timespec t;
@@ -107,11 +99,13 @@ static uint64_t first_name(void) {
 static void leave(size_t c) {
     struct connection *k = &connections[c];
     if (k->socket >= 0) close(k->socket);
+    if (k->state == DRAINED) drained--;
     k->socket = -1;
     k->state = LEAVING;
     came = grows = true; /* (its will) */
     if (mqtt5_broker_close(&broker, c, now) != MQTT5_BROKER_DONE) return;
     k->state = UNUSED;
+    if (c < free_from) free_from = c;
     while (used > 0 && connections[used - 1].state == UNUSED) used--;
 }
 
@@ -119,11 +113,6 @@ static void leave(size_t c) {
 static void drop(size_t c) {
     say("%llu: ended: out of memory\n", (unsigned long long)connections[c].number);
     leave(c);
-}
-
-static void say_lost(const struct connection *k, int fault) {
-    bool is_peer = fault == 0 || fault == ECONNRESET || fault == EPIPE;
-    say("%llu: ended: %s\n", (unsigned long long)k->number, is_peer ? "closed by peer" : strerror(fault));
 }
 
 static void say_ended(const struct connection *k) {
@@ -151,8 +140,10 @@ static void finish(size_t c) {
     struct connection *k = &connections[c];
     say_ended(k);
     k->state = DRAINED;
+    k->deadline = now + REST;
     k->waits = false;
     k->unread = 0;
+    drained++;
     shutdown(k->socket, SHUT_WR);
 }
 
@@ -190,7 +181,7 @@ static void serve(size_t c) {
         if (turn == TURNS) return;
         ssize_t sent = send(k->socket, out, waiting, MSG_NOSIGNAL);
         if (sent < 0 && errno != EAGAIN && errno != EWOULDBLOCK && errno != EINTR) {
-            say_lost(k, errno);
+            say_lost(k->number, errno);
             leave(c);
             return;
         }
@@ -227,16 +218,12 @@ static bool note_client(size_t c) {
 
 static void say_client(size_t c) {
     uint8_t name[65];
-    char shown[4 * sizeof name + 1], *end = shown;
+    char shown[4 * sizeof name + 1];
     size_t len = 0;
     mqtt5_broker_client(&broker, c, name, sizeof name, &len);
     if (len == 0) return;
     connections[c].is_client = true;
-    for (size_t i = 0; i < len && i < 64; i++) {
-        if (name[i] >= ' ' && name[i] <= '~' && name[i] != '"' && name[i] != '\\') *end++ = (char)name[i];
-        else end += sprintf(end, "\\x%02x", name[i]);
-    }
-    *end = 0;
+    show_name(name, len < 64 ? len : 64, shown);
     say("%llu: client \"%s\"%s\n", (unsigned long long)connections[c].number, shown, len == sizeof name ? " .." : "");
 }
 
@@ -267,25 +254,35 @@ static uint32_t hand_in(size_t c, size_t len) {
     return mqtt5_broker_receive(&broker, c, in, 0, now);
 }
 
-/* Reads a piece, and hands it in. */
+/* Until when a connection may be without a client that nothing comes on from now on. */
+static uint64_t connects_by(void) { return options.wait_for ? now + 1000 * options.wait_for : UINT64_MAX; }
+
+/* Reads a piece, and hands it in. The next one is shorter where that took long, so that nobody else waits for it long. */
 static void hear(size_t c) {
     struct connection *k = &connections[c];
-    if (judged && !k->is_client && k->state == OPEN) return; /* (its bytes wait for the next round) */
-    ssize_t len = recv(k->socket, in, sizeof in, 0);
+    if (k->state == OPEN && !k->is_client) {
+        k->deadline = connects_by();
+        if (judged) return; /* (its bytes wait for the next round) */
+    }
+    ssize_t len = recv(k->socket, in, k->piece, 0);
     if (len < 0 && (errno == EAGAIN || errno == EWOULDBLOCK || errno == EINTR)) return;
     if (k->state != OPEN && len > 0) return;
     if (len <= 0) {
-        if (k->state != DRAINED) say_lost(k, len == 0 ? 0 : errno);
+        if (k->state != DRAINED) say_lost(k->number, len == 0 ? 0 : errno);
         leave(c);
         return;
     }
     came = true;
     if (k->waits) k->unread += (size_t)len;
+    uint64_t from = moment();
     if (hand_in(c, (size_t)len) != MQTT5_BROKER_DONE || (!k->is_client && !note_client(c))) {
         others = true;
         drop(c);
         return;
     }
+    uint64_t took = moment() - from;
+    if (took > 50 && k->piece > LEAST) k->piece /= 2;
+    if (took < 20 && k->piece < PIECE) k->piece *= 2;
     bool was_client = k->is_client;
     if (!was_client) say_client(c);
     if ((has_ended(c) || k->is_client) && !was_client) others = true;
@@ -296,20 +293,12 @@ static void hear(size_t c) {
 
 /* The first number that is free, or that of a connection that waits for nothing but its client's end. */
 static bool free_number(size_t *c) {
-    size_t drained = options.most;
-    for (*c = 0; *c < options.most; (*c)++) {
-        if (connections[*c].state == UNUSED) return true;
-        if (connections[*c].state == DRAINED && drained == options.most) drained = *c;
-    }
-    *c = drained;
-    if (drained < options.most) leave(drained);
-    return drained < options.most && connections[drained].state == UNUSED;
-}
-
-static void say_address(const struct sockaddr_storage *a, socklen_t len, const char *what) {
-    char host[64] = "?", at[16] = "?";
-    getnameinfo((const struct sockaddr *)a, len, host, sizeof host, at, sizeof at, NI_NUMERICHOST | NI_NUMERICSERV);
-    say(strchr(host, ':') ? "%llu: %s [%s]:%s\n" : "%llu: %s %s:%s\n", (unsigned long long)count, what, host, at);
+    while (free_from < options.most && connections[free_from].state != UNUSED) free_from++;
+    *c = free_from;
+    if (*c < options.most || drained == 0) return *c < options.most;
+    for (*c = 0; connections[*c].state != DRAINED; (*c)++) {}
+    leave(*c);
+    return connections[*c].state == UNUSED;
 }
 
 static void set_flags(int s) {
@@ -335,12 +324,13 @@ static bool take(void) {
     setsockopt(s, IPPROTO_TCP, TCP_NODELAY, &one, sizeof one);
     if (free_number(&c)) mqtt5_broker_open(&broker, c, now, &begun);
     if (!begun) {
-        say_address(&address, len, "refused, since all connections are taken:");
+        say_address(count, &address, len, "refused, since all connections are taken:");
         close(s);
         return true;
     }
-    say_address(&address, len, "connection from");
-    connections[c] = (struct connection){.state = OPEN, .socket = s, .number = count, .frames.reason = -1};
+    say_address(count, &address, len, "connection from");
+    connections[c] = (struct connection){
+        .state = OPEN, .socket = s, .number = count, .deadline = connects_by(), .piece = FIRST, .frames.reason = -1};
     if (c >= used) used = c + 1;
     return true;
 }
@@ -367,15 +357,30 @@ static struct pollfd awaited(const struct connection *k) {
     return (struct pollfd){.fd = is_closed ? -1 : k->socket, .events = events};
 }
 
+/* When the broker has something to do is sought among all connections and sessions. What isn't set yet is due a second after it is
+   set, or later, since all that is set are whole seconds: so it is asked again when something is due, and a second after it was
+   asked, if anything happened since. */
+static void seek_due(void) {
+    bool some = false;
+    if (now < due_at && (now < sought_at + SECOND || !acted)) return;
+    mqtt5_broker_next_moment(&broker, &due_at, &some);
+    if (!some) due_at = UINT64_MAX;
+    sought_at = now;
+    acted = false;
+}
+
+/* Whether it ends at its deadline. */
+static bool has_deadline(const struct connection *k) {
+    return k->state == ENDING || k->state == DRAINED || (k->state == OPEN && !k->is_client);
+}
+
 /* What all wait for; until when there is nothing to do but by them. */
 static int plan(void) {
     int timeout = -1;
-    uint64_t at;
-    bool some = false;
     now = moment();
-    mqtt5_broker_next_moment(&broker, &at, &some);
-    due_at = some ? at : UINT64_MAX;
-    if (some) timeout = sooner(timeout, at < tries_at ? tries_at : at);
+    seek_due();
+    if (due_at < UINT64_MAX) timeout = sooner(timeout, due_at < tries_at ? tries_at : due_at);
+    if (acted) timeout = sooner(timeout, sought_at + SECOND);
     if (grows) timeout = sooner(timeout, measures_at);
     if (passes_at) timeout = sooner(timeout, passes_at);
     polled[0] = (struct pollfd){.fd = ends || now < listens_at ? -1 : listener, .events = POLLIN};
@@ -384,7 +389,7 @@ static int plan(void) {
     for (size_t c = 0; c < used; c++) {
         struct connection *k = &connections[c];
         polled[c + 2] = awaited(k);
-        if (k->state == ENDING || k->state == DRAINED) timeout = sooner(timeout, k->deadline);
+        if (has_deadline(k)) timeout = sooner(timeout, k->deadline);
         if (k->state == LEAVING) timeout = sooner(timeout, now + AGAIN);
     }
     return timeout;
@@ -392,8 +397,10 @@ static int plan(void) {
 
 /* All that is due: at the broker, and of connections whose last bytes nobody takes. */
 static void do_due(void) {
+    if (due_at <= now) seek_due(); /* (who was to be silent may have been heard since) */
     if (due_at <= now && tries_at <= now) {
         came = others = true;
+        due_at = 0; /* (it is asked again) */
         if (mqtt5_broker_tick(&broker, now) != MQTT5_BROKER_DONE) {
             say("no memory for what is due\n");
             tries_at = now + AGAIN;
@@ -401,7 +408,13 @@ static void do_due(void) {
     }
     for (size_t c = used; c-- > 0;) {
         struct connection *k = &connections[c];
-        bool is_over = (k->state == ENDING || k->state == DRAINED) && k->deadline <= now;
+        bool is_over = has_deadline(k) && k->deadline <= now;
+        if (is_over && k->state == OPEN) {
+            k->state = ENDING;
+            k->deadline = now + REST;
+            serve(c);
+            continue;
+        }
         if (is_over && k->state == ENDING) say("%llu: ended: its last bytes were not taken\n", (unsigned long long)k->number);
         if (is_over || k->state == LEAVING) leave(c);
     }
@@ -424,6 +437,12 @@ static void begin_end(void) {
     }
 }
 
+static void note_busy(size_t c) {
+    size_t i = 0;
+    while (i < few && i < FEW && busy[i] != c) i++;
+    if (i == few && few++ < FEW) busy[i] = c;
+}
+
 /* A publish or a will that came may be in any client's queue: those are looked at, once for all that came in a round, in whose queues
    something is. Those whose sockets take nothing are looked at when they do. Whether a connection has ended beside the one that
    something came on is asked of all where that can be: a client that connects may displace another. */
@@ -444,7 +463,7 @@ static void pass_all(void) {
         if (c >= used || connections[c].state != OPEN || connections[c].waits || !connections[c].is_client) continue;
         if (mqtt5_broker_pass(&broker, c, now, &some) != MQTT5_BROKER_DONE) drop(c);
         else if (some) serve(c);
-        stuck = stuck || connections[c].waits;
+        if (connections[c].waits) note_busy(c);
     }
 }
 
@@ -462,9 +481,11 @@ static void tell_dropped(void) {
    did that. */
 static bool measure(void) {
     if (!grows || now < measures_at) return false;
+    uint64_t from = moment(), to;
     grows = mqtt5_broker_trim(&broker, now) != MQTT5_BROKER_DONE;
     tell_dropped();
-    measures_at = moment() + REST + 9 * (moment() - now);
+    to = moment();
+    measures_at = to + REST + 9 * (to - from);
     return came = others = true;
 }
 
@@ -479,18 +500,18 @@ static void hand_out(void) {
     for (; came; pass_all()) came = false;
 }
 
-/* Where there are many connections a look at all takes long, so the few that had something to do are then looked at by themselves, as
-   long as they have, for up to a time that grows with the number of all. It ends where a socket takes no more, which may be that of
-   another one, and where a user was judged. */
-static void turn_few(size_t few, const size_t *these, uint64_t until) {
+/* Where there are many connections a look at all takes long, so the few that are busy are then looked at by themselves, as long as
+   they have something to do, for up to a time that grows with the number of all. It ends where there are more of them, as others
+   whose sockets take no more, and where a user was judged. */
+static void turn_few(uint64_t until) {
     struct pollfd near[FEW];
-    stuck = false;
-    while (few > 0 && now < until && !ends && !stuck && !judged) {
-        for (size_t i = 0; i < few; i++) near[i] = awaited(&connections[these[i]]);
-        if (poll(near, few, 0) <= 0) return;
+    while (few > 0 && few <= FEW && now < until && !ends && !judged) {
+        size_t looked = few;
+        for (size_t i = 0; i < looked; i++) near[i] = awaited(&connections[busy[i]]);
+        if (poll(near, looked, 0) <= 0) return;
         now = moment();
         came = others = false;
-        for (size_t i = 0; i < few; i++) answer(these[i], &near[i]);
+        for (size_t i = 0; i < looked; i++) answer(busy[i], &near[i]);
         grows = grows || came;
         hand_out();
     }
@@ -498,24 +519,27 @@ static void turn_few(size_t few, const size_t *these, uint64_t until) {
 
 /* One round: what came is handed in, and what there is to send goes out. */
 static void turn(void) {
-    size_t all = used, few = 0, these[FEW];
+    size_t all = used;
     int timeout = plan(), ready = poll(polled, all + 2, timeout);
     now = moment();
     came = passes_at && passes_at <= now;
     others = judged = false;
-    if (ready < 0 && errno != EINTR) fail("poll");
+    few = 0;
+    if (ready < 0 && errno != EINTR && errno != EAGAIN && errno != ENOMEM) fail("poll");
+    if (ready < 0 && errno != EINTR) poll(NULL, 0, AGAIN); /* (no memory for it) */
     for (size_t i = 0, from = first; ready > 0 && i < all; i++) {
         size_t c = (from + i) % all;
-        if (polled[c + 2].revents && few++ < FEW) these[few - 1] = c;
+        if ((polled[c + 2].revents || connections[c].waits) && few++ < FEW) busy[few - 1] = c;
         answer(c, &polled[c + 2]);
     }
     for (int i = 0; ready > 0 && polled[0].revents && i < 64 && take(); i++) {}
     if (ready > 0 && polled[1].revents) begin_end();
     do_due();
     grows = grows || came;
+    acted = acted || came || ready != 0;
     do hand_out();
     while (measure());
-    if (all > MANY && few <= FEW) turn_few(few, these, now + 1 + all / 500);
+    if (all > MANY) turn_few(now + 1 + (all < 25000 ? all : 25000) / 500);
 }
 
 /* ---- It begins. ---- */
@@ -534,17 +558,6 @@ static void listen_there(void) {
     options.port = ntohs(is_six ? ((struct sockaddr_in6 *)&a)->sin6_port : ((struct sockaddr_in *)&a)->sin_port);
     const char *bound = strcmp(options.bound, "localhost") ? options.bound : "127.0.0.1";
     say(is_six ? "listening on [%s]:%lu\n" : "listening on %s:%lu\n", bound, options.port);
-}
-
-/* There must be as many files as connections. */
-static void raise_files(void) {
-    struct rlimit files;
-    rlim_t wanted = options.most + 16;
-    if (getrlimit(RLIMIT_NOFILE, &files) < 0) fail("getrlimit");
-    if (files.rlim_cur >= wanted) return;
-    if (files.rlim_max < wanted) refuse("--max-connections", "more than the files that a process may have open (ulimit -Hn)");
-    files.rlim_cur = wanted;
-    if (setrlimit(RLIMIT_NOFILE, &files) < 0) fail("setrlimit");
 }
 
 static void catch_signals(void) {
@@ -566,8 +579,8 @@ int main(int argc, char **argv) {
     raise_files();
     connections = calloc(options.most, sizeof *connections);
     polled = calloc(options.most + 2, sizeof *polled);
-    uint32_t wait = (uint32_t)options.wait_for * 1000;
-    uint32_t made = mqtt5_broker_new(&broker, options.most, (uint32_t)options.longest, (uint16_t)options.ids, wait,
+    /* (how long a connection may be without a client is judged here: who waits to be judged has said who it is) */
+    uint32_t made = mqtt5_broker_new(&broker, options.most, (uint32_t)options.longest, (uint16_t)options.ids, 0,
         (uint16_t)options.alias_max, (uint16_t)options.keep_alive_max, first_name());
     if (!connections || !polled || made != MQTT5_BROKER_DONE) {
         fprintf(stderr, "broker: no memory for %lu connections\n", options.most);

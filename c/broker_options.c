@@ -9,6 +9,7 @@
 #include <stdio.h>
 #include <stdlib.h>
 #include <string.h>
+#include <sys/resource.h>
 
 struct options options = {
     .port = 1883, .most = 1024, .longest = 1048576, .ids = 1024, .wait_for = 10, .alias_max = 10,
@@ -36,9 +37,9 @@ static const char help[] =
     "  --discard-oldest         where more wait the oldest are dropped, of any QoS; else those of QoS 0 alone\n"
     "  --max-topic-alias N      the greatest topic alias of a client, else 10; 0 for none\n"
     "  --max-keepalive SECONDS  the longest keep alive of a client; else, or with 0, it is any\n"
-    "  --wait SECONDS           how long a connection may be open without a Connect, else 10; 0 for any time\n"
+    "  --wait SECONDS           how long one that hasn't connected may say nothing, else 10; 0 for any time\n"
     "  -q, --quiet              no log\n"
-    "  --help                   this text\n"
+    "  -h, --help               this text\n"
     "\n"
     "docs/BROKER.md says more of each.\n";
 
@@ -96,6 +97,16 @@ void read_options(char **words) {
         words++;
     }
     if (options.rights && !options.users) refuse("--acl-file", "is for users, and there is no --users");
+}
+
+void raise_files(void) {
+    struct rlimit files;
+    rlim_t wanted = options.most + 16;
+    bool has = getrlimit(RLIMIT_NOFILE, &files) == 0;
+    if (has && files.rlim_cur >= wanted) return;
+    files.rlim_cur = wanted;
+    if (!has || files.rlim_max < wanted || setrlimit(RLIMIT_NOFILE, &files) < 0)
+        refuse("--max-connections", "more than the files that a process may have open (ulimit -Hn)");
 }
 
 socklen_t find_address(struct sockaddr_storage *a) {

@@ -17,6 +17,9 @@ extern struct options options;
 /* Takes the words in, and ends the program where one is wrong, or asks for help. */
 void read_options(char **words);
 
+/* Has as many files as connections, or ends the program. */
+void raise_files(void);
+
 /* The address to listen at, which is one that only this machine reaches unless there are users. */
 socklen_t find_address(struct sockaddr_storage *a);
 

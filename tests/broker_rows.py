@@ -20,6 +20,7 @@ from broker_client import (
 
 FOLDER, BROKER = sys.argv[1], sys.argv[2]
 WANTED = sys.argv[3:]
+NAMES = set()
 IS_OURS = BROKER != "mosquitto"
 # How many seconds a row may take.
 LIMIT = 60
@@ -34,6 +35,7 @@ ROWS = []
 
 def row(ours=True, mosquitto=True):
     def note(function):
+        NAMES.add(function.__name__)
         if ours if IS_OURS else mosquitto:
             ROWS.append(function)
         return function
@@ -1552,6 +1554,27 @@ async def answers_unread(b):
     one.cut()
 
 
+@row(mosquitto=False)  # (mosquitto seeks among retained messages by levels)
+async def costly_subscribes(_):
+    """Subscribes that come in one piece, each of which is compared with thousands of retained messages, hold nobody up for as long as
+    all of them take."""
+    async with started() as b, b.connected("costly-pub") as pub:
+        for i in range(0, 8000, 100):
+            pub.send(b"".join(publish_frame(f"costly/{n}", b"x", retain=1) for n in range(i, i + 100)))
+            await pub.writer.drain()
+        await pub.ping()
+        done = asyncio.Event()
+        other = asyncio.create_task(stays_quick(b, "costly-other", done))
+        async with b.connected("costly") as one:
+            # (more bytes than are read at a time)
+            one.send(b"".join(subscribe_frame(id, 60 * [("none", 0)]) for id in range(1, 181)))
+            for id in range(1, 181):
+                body = await one.answer(SUBACK, 40)
+                assert int.from_bytes(body[:2], "big") == id
+        done.set()
+        await other
+
+
 def hostile_frames(chance):
     """Frames by the standard, some bent: bytes that are changed, left out, doubled or added, and lengths that lie."""
     name = f"hostile-{chance.randrange(20)}"
@@ -2036,7 +2059,7 @@ async def bounds(_):
         await lossy.subscribe(("bounds/lossy", 0))
         for i in range(1600):
             await pub.publish("bounds/lossy", i.to_bytes(2, "big") + bytes(9998), 1)
-        await asyncio.sleep(1.5)
+        await b.says("messages dropped", 10)
         got = []
         while got[-1:] != [1599]:
             got.append(int.from_bytes((await lossy.take()).payload[:2], "big"))
@@ -2060,26 +2083,29 @@ async def discard_oldest(_):
     the session stays, with the last ones."""
     words = "--max-queued-messages 50 --max-queued-bytes 20000 --discard-oldest"
     async with started(*words.split()) as b, b.connected("oldest-pub") as pub:
-        for qos, payload, kept in ((1, 4, 50), (2, 996, 19)):
+        for qos, payload, kept, dropped in ((1, 4, 50, 70), (2, 996, 19, 171)):
             away = b.client(f"oldest-{qos}")
             await away.connect(**KEPT)
             await away.subscribe((f"oldest/{qos}", qos))
             await away.disconnect()
             for i in range(120):
                 await pub.publish(f"oldest/{qos}", i.to_bytes(4, "big") + bytes(payload - 4), qos)
-            await asyncio.sleep(2.5)
+            await b.says(f", {dropped} in all", 15)
             assert await away.connect(**KEPT) == 1
             got = [int.from_bytes((await away.take()).payload[:4], "big") for _ in range(kept)]
             assert got == list(range(120 - kept, 120)), got
             await away.ping()
             assert not away.inbox, away.inbox
             await away.disconnect()
-        await b.says(", 171 in all")
 
 
 async def says(*words):
     process = await asyncio.create_subprocess_exec(BROKER, *words, stdout=asyncio.subprocess.PIPE, stderr=asyncio.subprocess.PIPE)
-    out, err = await asyncio.wait_for(process.communicate(), 10)
+    try:
+        out, err = await asyncio.wait_for(process.communicate(), 10)
+    finally:
+        if process.returncode is None:
+            process.kill()
     return process.returncode, out.decode(), err.decode()
 
 
@@ -2088,12 +2114,14 @@ async def refused_memory(_):
     """Where memory is refused a connection ends, and the server goes on (tests/broker_short.c): once there is memory all is well,
     and each number has come free."""
     async with started("--max-connections", "10", program=os.environ["SHORT_BROKER"], users={"short": "x"}) as b:
-        in_a_row = tries = 0
+        # (who isn't held is closed by Python)
+        in_a_row, tries, held = 0, 0, []
         while in_a_row < 40:
             tries += 1
             assert tries < 2000, "clients are still refused"
             try:
                 one = b.client(f"short-{tries % 7}")
+                held.append(one)
                 await one.connect(
                     keep=1, properties=expiry(1), will=Will("short/will", b"gone", 1, delay=tries % 3), login=("short", "x"))
                 await one.subscribe("short/+")
@@ -2107,8 +2135,11 @@ async def refused_memory(_):
                 one.cut()
         await b.says("ended: out of memory")
         await asyncio.sleep(3)
-        for i in range(10):
-            await b.client(f"short-{i}").connect(login=("short", "x"))
+        last = [b.client(f"short-{i}") for i in range(10)]
+        for one in last:
+            await one.connect(login=("short", "x"))
+        for one in last:
+            await one.ping()
 
 
 LONG = "x" * 511
@@ -2403,7 +2434,8 @@ async def users_wait(_):
     path = f"{FOLDER}/users-wait"
     with open(path, "w") as file:
         file.write(f"slow:{slow}\nquick:{hash_of('y')}\n")
-    async with started("--users", path) as b:
+    # (all of them take longer than a connection may say nothing: who waits to be judged has said something)
+    async with started("--users", path, "--wait", "1") as b:
         one = b.client("users-wait")
         await one.connect(login=("quick", "y"))
 
@@ -2437,8 +2469,15 @@ async def options(b):
         async with started("--bind", address) as other:
             async with Client(other.port, "options", host) as one:
                 await one.ping()
-    quiet = await asyncio.create_subprocess_exec(BROKER, "-q", "-p", "0", stderr=asyncio.subprocess.PIPE)
-    await asyncio.sleep(0.3)
+    port = free_port()
+    quiet = await asyncio.create_subprocess_exec(BROKER, "-q", "-p", str(port), stderr=asyncio.subprocess.PIPE)
+    for tries in range(100):
+        try:
+            async with Client(port, "options-quiet") as one:
+                await one.ping()
+            break
+        except OSError:
+            await asyncio.sleep(0.1)
     quiet.terminate()
     assert (await quiet.communicate())[1] == b"" and quiet.returncode == 0
 
@@ -2485,6 +2524,10 @@ async def run_row(b, function):
 
 
 async def main():
+    unknown = [name for name in WANTED if name not in NAMES]
+    if unknown:
+        print(f"no such rows: {' '.join(unknown)}")
+        return False
     rows = [function for function in ROWS if not WANTED or function.__name__ in WANTED]
     if not rows:
         return True
