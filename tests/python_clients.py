@@ -725,6 +725,9 @@ class Clients(unittest.TestCase):
             for payload in 5, None:
                 with self.assertRaises(TypeError):
                     client.publish("a", payload)
+            # (a code point that UTF-8 hasn't: 1.5.4)
+            with self.assertRaisesRegex(UnicodeEncodeError, "surrogates not allowed"):
+                client.publish("\ud800", b"x", 1)
 
     def test_auth_beside_a_fault(self):
         # An Auth in one piece with a malformed packet isn't answered; the client connects again (4.12, 4.13).

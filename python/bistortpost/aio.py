@@ -556,8 +556,10 @@ def _now() -> int:
     return int(time.monotonic())
 
 
-def _anew(why: MqttError) -> MqttError:
-    """Another one that says the same. (One that is raised again keeps what stood on the stack each time.)"""
+def _anew(why: Exception) -> Exception:
+    """Another refusal that says the same. (One that is raised again keeps what stood on the stack each time.)"""
+    if not isinstance(why, MqttError):
+        return why
     other = why.__class__.__new__(why.__class__, *why.args)
     other.__dict__.update(why.__dict__)
     other.__cause__ = why.__cause__
