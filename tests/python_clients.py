@@ -706,7 +706,8 @@ class Clients(unittest.TestCase):
             self.assertEqual(len(client._waiting), 0)
             self.assertEqual(await client.publish("a", b"y", 1), 0)
 
-        runs(use, *scripts)
+        with mock.patch.object(aio, "FIRST_PAUSE", 3):
+            runs(use, *scripts)
 
     def test_numbers_out_of_range(self):
         # More than the field of a packet can say (3.1.2.10, 3.1.2.11.2), and what is neither text nor bytes.
