@@ -463,7 +463,7 @@ static void pass_all(void) {
         if (c >= used || connections[c].state != OPEN || connections[c].waits || !connections[c].is_client) continue;
         if (mqtt5_broker_pass(&broker, c, now, &some) != MQTT5_BROKER_DONE) drop(c);
         else if (some) serve(c);
-        if (connections[c].waits) note_busy(c);
+        if (connections[c].waits || (some && few < FEW)) note_busy(c); /* (it may answer soon) */
     }
 }
 
@@ -500,9 +500,9 @@ static void hand_out(void) {
     for (; came; pass_all()) came = false;
 }
 
-/* Where there are many connections a look at all takes long, so the few that are busy are then looked at by themselves, as long as
-   they have something to do, for up to a time that grows with the number of all. It ends where there are more of them, as others
-   whose sockets take no more, and where a user was judged. */
+/* Where there are many connections a look at all takes long, so the few that are busy are then looked at by themselves, with those
+   that something is sent to, as long as they have something to do, for up to a time that grows with the number of all. It ends where
+   the sockets of more of them take no more, and where a user was judged. */
 static void turn_few(uint64_t until) {
     struct pollfd near[FEW];
     while (few > 0 && few <= FEW && now < until && !ends && !judged) {
