@@ -502,7 +502,7 @@ static void hand_out(void) {
 
 /* Where there are many connections a look at all takes long, so the few that are busy are then looked at by themselves, with those
    that something is sent to, as long as they have something to do, for up to a time that grows with the number of all. It ends where
-   the sockets of more of them take no more, and where a user was judged. */
+   the socket of another one takes no more, and where a user was judged. */
 static void turn_few(uint64_t until) {
     struct pollfd near[FEW];
     while (few > 0 && few <= FEW && now < until && !ends && !judged) {

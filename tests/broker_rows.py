@@ -1558,7 +1558,7 @@ async def answers_unread(b):
 
 @row(mosquitto=False)  # (mosquitto seeks among retained messages by levels)
 async def costly_subscribes(_):
-    """Subscribes that come in one piece, each of which is compared with thousands of retained messages, hold nobody up for as long as
+    """Subscribes that come together, each of which is compared with thousands of retained messages, hold nobody up for as long as
     all of them take."""
     async with started() as b, b.connected("costly-pub") as pub:
         for i in range(0, 8000, 100):
